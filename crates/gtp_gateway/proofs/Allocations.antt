@@ -8,27 +8,26 @@ use Rattle.gtp_values.specs.declared.counter.Counter.{Counter}
 use Rattle.gtp_values.specs.declared.counter.Age.{Age}
 use Rattle.gtp_values.specs.declared.counter.Age.TheVariants as ages
 use Rattle.gtp_machine.specs.declared.role.Role.{Role}
-use Rattle.gtp_machine.specs.declared.role.Role.TheVariants.{Serving, Packet}
 use Rattle.gtp_machine.specs.declared.outcome.Outcome.TheVariants.{Opened}
-use Rattle.gtp_machine.specs.Answer.{IsNew, Faulted, TakesReading, answered}
+use Rattle.gtp_machine.specs.Answer.{IsNew, Faulted, TakesReading, answered, echoed}
 use Rattle.gtp_machine.specs.Choice.{HasHeldRoom, HasSession, HasPending}
 use Rattle.gtp_machine.specs.Config.{Template, template_for}
 use Rattle.gtp_machine.specs.Element.{IsAccepting, teid_in}
 use Rattle.gtp_machine.specs.Input.{Came_to, Effect, FaultyRequest, ControlReading, Control_message, Faulty}
-use Rattle.gtp_machine.specs.Message.{Message, CreateSessionRequest, CreateSessionResponse, CreatedBearer, DeleteSessionRequest, CreateBearerRequest, CreateBearerResponse, GivenBearer, DeleteBearerRequest, Echo, Echo_request, Create_session_request, Create_session_response, Delete_session_request, Create_bearer_request, Create_bearer_response, Delete_bearer_request, recovery_of}
+use Rattle.gtp_machine.specs.Message.{Message, CreateSessionRequest, CreateSessionResponse, CreatedBearer, DeleteSessionRequest, CreateBearerRequest, CreateBearerResponse, GivenBearer, DeleteBearerRequest, Echo, recovery_of}
 use Rattle.gtp_machine.specs.Node.{Active, Pending, Session, PendingRequest, Arrival, Held, Node}
 use Rattle.gtp_machine.specs.Packet.{AnswersWith, session_cause, session_response, made_session, session_made, SessionJudged, CreateSessionAsked, DeleteSessionJudged, DeleteSessionAsked, CreateBearerAnswered, FitsCreateBearer, DescribesBearer, CanOpen}
 use Rattle.gtp_machine.specs.Recovery.{Judges, Weighs, Hears}
 use Rattle.gtp_machine.specs.Serving.{BearerJudged, CreateBearerAsked, DeleteBearerTaken, DeleteBearerJudged, DeleteBearerAsked, CreateSessionAnswered, FitsCreateSession, DescribesSession}
 use Rattle.gtp_machine.proofs.Basics.Facts.{one_value}
-use Rattle.gtp_machine.specs.declared.message_type.MessageType.TheVariants as types
 use Rattle.gtp_gateway.specs.receive.Answer.{answering}
 use Rattle.gtp_gateway.specs.receive.RestartCounter.{aged, weighed, weighed_by, node_heard, IsEarlier}
 use Rattle.gtp_gateway.specs.receive.Allocations.{SendsOrOpens, AlwaysSendsOrOpens, StepSendsOrOpens}
-use Rattle.gtp_machine.specs.MessageType.{takes_type, takes_message, answers_type}
+use Rattle.gtp_machine.specs.declared.message_type.MessageType.{MessageType}
+use Rattle.gtp_machine.specs.MessageType.{type_row, takes_type, takes_message, answers_type}
 use Rattle.gtp_machine.specs.Step.{TakesBy}
 use Rattle.gtp_gateway.specs.GatewayState.{GatewayState}
-use Rattle.gtp_gateway.proofs.Procedures.{at_both, at_taker}
+use Rattle.gtp_gateway.proofs.Procedures.{AtTakers, at_taker}
 
 -- what follows where there is an error
 pub on_err : {A E P : Type 0} (r : Result A E) → P → OnErr r P
@@ -209,26 +208,12 @@ module _ (role : Role) (request : Arrival) (m : Message) (n : Node) where
   abbrev Always : Role → Message → Type 0
   Always r k = AlwaysSendsOrOpens (TakesBy r request k) n
 
-  pub needs_echo : (q : Echo) → m ≡ Echo_request q → Always role m
-  needs_echo q is = at_both Always role m (Echo_request q) is (λ e same. sends (λ none. cc) same) (λ e same. sends (λ none. cc) same)
+  pub needs_echo : (q : Echo) → AlwaysSendsOrOpens (λ old e. e ≡ echoed request q old) n
+  needs_echo q e same = sends (λ none. cc) same
 
-  pub needs_session : (q : CreateSessionRequest) → takes_type role types.CreateSessionRequest ≡ true → m ≡ Create_session_request q → AlwaysSendsOrOpens (CreateSessionAsked request q) n → Always role m
-  needs_session q has_it is needs = at_taker Always Packet role m (Create_session_request q) has_it is needs
-
-  pub needs_delete_session : (d : DeleteSessionRequest) → takes_type role types.DeleteSessionRequest ≡ true → m ≡ Delete_session_request d → AlwaysSendsOrOpens (DeleteSessionAsked request d) n → Always role m
-  needs_delete_session d has_it is needs = at_taker Always Packet role m (Delete_session_request d) has_it is needs
-
-  pub needs_bearer : (q : CreateBearerRequest) → takes_type role types.CreateBearerRequest ≡ true → m ≡ Create_bearer_request q → AlwaysSendsOrOpens (CreateBearerAsked request q) n → Always role m
-  needs_bearer q has_it is needs = at_taker Always Serving role m (Create_bearer_request q) has_it is needs
-
-  pub needs_delete_bearer : (d : DeleteBearerRequest) → takes_type role types.DeleteBearerRequest ≡ true → m ≡ Delete_bearer_request d → AlwaysSendsOrOpens (DeleteBearerAsked request d) n → Always role m
-  needs_delete_bearer d has_it is needs = at_taker Always Serving role m (Delete_bearer_request d) has_it is needs
-
-  pub needs_session_response : (a : CreateSessionResponse) → takes_type role types.CreateSessionResponse ≡ true → m ≡ Create_session_response a → AlwaysSendsOrOpens (CreateSessionAnswered a) n → Always role m
-  needs_session_response a has_it is needs = at_taker Always Serving role m (Create_session_response a) has_it is needs
-
-  pub needs_bearer_response : (x : CreateBearerResponse) → takes_type role types.CreateBearerResponse ≡ true → m ≡ Create_bearer_response x → AlwaysSendsOrOpens (CreateBearerAnswered x) n → Always role m
-  needs_bearer_response x has_it is needs = at_taker Always Packet role m (Create_bearer_response x) has_it is needs
+  -- what takes memory by the rule of a type does so where the gateway takes that type
+  pub needs_by : (t u : MessageType) (k : Message) → takes_type role t ≡ true → t ≡ u → m ≡ k → AtTakers (λ r. Always r k) (type_row u).taker → Always role m
+  needs_by t u k takes same is needs = at_taker Always role t u m k takes same is needs
 
 -- ---- before the message is taken
 

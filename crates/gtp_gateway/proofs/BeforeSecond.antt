@@ -27,7 +27,7 @@ use Rattle.gtp_gateway.specs.declared.receive.create_bearer_request.judge.Bearer
 use Rattle.gtp_gateway.specs.receive.CreateBearerRequest.{IsGrant, StandsWith}
 use Rattle.gtp_gateway.specs.receive.RestartCounter.{node_heard}
 use Rattle.gtp_gateway.specs.receive.Piggybacked.{session_left, node_after_first, IsSpared, IsBeside, MayStand}
-use Rattle.gtp_gateway.specs.Parts.{session_of, bearer_of}
+use Rattle.gtp_gateway.specs.command.Purpose.{session_of, bearer_of}
 use Rattle.gtp_gateway.specs.receive.CreateSessionResponse.{IsOfSession}
 use Rattle.gtp_gateway.specs.tables.Opening.{node_by, IsOpenedAt, CanApply}
 use Rattle.gtp_gateway.proofs.Opened.{kept_insert, bearer_stood}

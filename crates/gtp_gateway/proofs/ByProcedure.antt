@@ -6,34 +6,30 @@ use Rattle.gtp_v2.specs.Table.{Field}
 use Rattle.gtp_v2.specs.Message.{Fields, MessageValue}
 use Rattle.gtp_v2.specs.DeleteSessionRequest.{delete_session_request}
 use Rattle.gtp_v2.specs.DeleteSessionResponse.{delete_session_response}
-use Rattle.gtp_v2.specs.DeleteBearerRequest.{delete_bearer_request}
 use Rattle.gtp_v2.specs.DeleteBearerResponse.{delete_bearer_response}
 use Rattle.gtp_v2.specs.Tables.{table_of}
 use Rattle.gtp_v2.specs.Datagram.{IsMessage}
 use Rattle.gtp_v2.specs.Viewed.{in_row, values_by, has_row, front_value}
 use Rattle.gtp_machine.specs.declared.role.Role.{Role}
-use Rattle.gtp_machine.specs.Message.{Message, recovery_of, Echo, CreateSessionRequest, Create_session_request, DeleteSessionRequest, Delete_session_request, DeleteSessionResponse, DeleteBearerResponse, Echo_request, Echo_response, Delete_session_response, Delete_bearer_response}
+use Rattle.gtp_machine.specs.Message.{Message, recovery_of, Echo, Delete_session_request, Echo_request, Echo_response, Delete_session_response, Delete_bearer_response}
 use Rattle.gtp_machine.specs.Node.{Arrival, Node, written}
-use Rattle.gtp_machine.specs.Answer.{echoed}
 use Rattle.gtp_machine.specs.Decoded.{contexts_in, row_in, number_of, first_in, cause_at, content_message, message_of}
 use Rattle.gtp_machine.specs.Input.{Effect}
-use Rattle.gtp_machine.specs.Packet.{CreateSessionAsked as CreateSessionAskedRow, DeleteSessionAsked as DeleteSessionAskedRow, DeleteBearerAnswered as DeleteBearerRow}
-use Rattle.gtp_machine.specs.Response.{EchoAnswered as EchoRow}
-use Rattle.gtp_machine.specs.Serving.{DeleteSessionAnswered as DeleteSessionRow}
 use Rattle.gtp_machine.specs.declared.message_type.MessageType.{MessageType}
 use Rattle.gtp_machine.specs.declared.message_type.MessageType.TheVariants as types
 use Rattle.gtp_machine.proofs.Basics.Types.{type_kind}
-use Rattle.gtp_machine.specs.declared.role.Role.TheVariants.{Serving, Packet}
 use Rattle.gtp_gateway.specs.declared.receive.delete_session_request.DeleteRequest.{DeleteRequest}
 use Rattle.gtp_gateway.specs.declared.receive.restart_counter.Heard.{Heard}
+use Rattle.gtp_gateway.specs.declared.step.ControlStep.{ControlStep}
 use Rattle.gtp_gateway.specs.receive.DeleteSessionRequest.{ReadsDeleteSession, delete_session_by}
 use Rattle.gtp_gateway.specs.receive.RestartCounter.{node_heard}
-use Rattle.gtp_gateway.specs.receive.Row.{IsWeighed}
+use Rattle.gtp_gateway.specs.receive.Row.{IsRow, IsWeighed}
 use Rattle.gtp_gateway.specs.GatewayState.{GatewayState}
-use Rattle.gtp_machine.specs.MessageType.{type_at, takes_type, takes_message, type_row}
+use Rattle.gtp_machine.specs.MessageType.{type_at, type_of, takes_type, takes_some, takes_message, type_row}
 use Rattle.gtp_machine.specs.Step.{TakesBy}
-use Rattle.gtp_gateway.proofs.InPlace.{says_by, Says, reads_so, row_so, its_row, echo_asked, echo_answered, create_session_asked, create_session_answered, create_bearer_asked, create_bearer_answered}
-use Rattle.gtp_gateway.proofs.Procedures.{at_both, at_taker}
+use Rattle.gtp_gateway.proofs.InPlace.{says_by, says_of, Says, reads_so, row_so, its_row, echo_asked, echo_answered, create_session_asked, create_bearer_asked}
+use Rattle.gtp_gateway.proofs.Procedures.{AtTakers, at_taker}
+use Rattle.gtp_gateway.proofs.Rows.{as_row}
 
 -- ---- Echo Request and Echo Response
 
@@ -45,14 +41,8 @@ pub record IsEcho (message : Echo → Message) (m : MessageValue) : Type 0 where
 pub echo_request_is : (octets : List ℕ) (m : MessageValue) → IsMessage octets m → type_at m.kind ≡ Some types.EchoRequest → IsEcho Echo_request m
 echo_request_is octets m is at = let a = echo_asked octets m (type_kind m.kind types.EchoRequest at) is in record { echo = _; is = reads_so 1 _ m a.says; number = refl }
 
-pub takes_echo_request : (role : Role) (request : Arrival) (q : Echo) (m : Message) → m ≡ Echo_request q → (n : Node) (e : Effect) → e ≡ echoed request q n → TakesBy role request m n e
-takes_echo_request role request q m is n e takes = at_both (λ r k. TakesBy r request k n e) role m (Echo_request q) is takes takes
-
 pub echo_response_is : (octets : List ℕ) (m : MessageValue) → IsMessage octets m → type_at m.kind ≡ Some types.EchoResponse → IsEcho Echo_response m
 echo_response_is octets m is at = let a = echo_answered octets m (type_kind m.kind types.EchoResponse at) is in record { echo = _; is = reads_so 2 _ m a.says; number = refl }
-
-pub takes_echo_response : (role : Role) (request : Arrival) (a : Echo) (m : Message) → m ≡ Echo_response a → (n : Node) (e : Effect) → EchoRow a n e → TakesBy role request m n e
-takes_echo_response role request a m is n e takes = at_both (λ r k. TakesBy r request k n e) role m (Echo_response a) is takes takes
 
 -- ---- Delete Session Request
 
@@ -69,14 +59,6 @@ deletion_request_is octets m r is at reads =
     let a = says_by 36 delete_session_request octets m refl of is in
     let linked = linked_is (unwrap_or (values_by 73 0 (table_of 36) (Fields a.0)) []) r.linked (reads.linked (ap (λ k. has_row k 73 0) of) ∙ ap front_value (its_row 36 73 0 a.0 m a.1)) in
     reads_so 36 a.0 m a.1 ∙ (λ i. Delete_session_request (record { header = sym reads.header i; number = sym reads.number i; linked = linked i }))
-
-pub takes_deletion_request : (role : Role) (request : Arrival) (d : DeleteSessionRequest) (m : Message) → takes_type role types.DeleteSessionRequest ≡ true → m ≡ Delete_session_request d → (n : Node) (e : Effect) → DeleteSessionAskedRow request d n e → TakesBy role request m n e
-takes_deletion_request role request d m has_it is n e takes = at_taker (λ r k. TakesBy r request k n e) Packet role m (Delete_session_request d) has_it is takes
-
--- ---- Create Session Request
-
-pub takes_session_request : (role : Role) (request : Arrival) (q : CreateSessionRequest) (m : Message) → takes_type role types.CreateSessionRequest ≡ true → m ≡ Create_session_request q → (n : Node) (e : Effect) → CreateSessionAskedRow request q n e → TakesBy role request m n e
-takes_session_request role request q m has_it is n e takes = at_taker (λ r k. TakesBy r request k n e) Packet role m (Create_session_request q) has_it is takes
 
 -- the message tells no counter, and so nothing was heard
 pub unheard : (heard : Heard) (m : Message) (s : GatewayState) → IsWeighed heard m s → recovery_of m ≡ None → s.node ≡ node_heard heard s.node
@@ -103,35 +85,32 @@ deletion_response_is octets m c is at read =
     let a = says_by 37 delete_session_response octets m refl (type_kind m.kind types.DeleteSessionResponse at) is in
     record { response = _; is = reads_so 37 a.0 m a.1; header = refl; number = refl; cause = cause_is (values_by 2 0 (table_of 37) (Fields a.0)) c (sym (row_so 37 2 0 a.0 m a.1) ∙ read) }
 
-pub takes_deletion_response : (role : Role) (request : Arrival) (d : DeleteSessionResponse) (m : Message) → takes_type role types.DeleteSessionResponse ≡ true → m ≡ Delete_session_response d → (n : Node) (e : Effect) → DeleteSessionRow d n e → TakesBy role request m n e
-takes_deletion_response role request d m has_it is n e takes = at_taker (λ r k. TakesBy r request k n e) Serving role m (Delete_session_response d) has_it is takes
-
 pub removal_response_is : (octets : List ℕ) (m : MessageValue) (c : Cause) → IsMessage octets m → type_at m.kind ≡ Some types.DeleteBearerResponse → in_row 2 0 m ≡ Some (OfCause c ∷ []) → IsResponse Delete_bearer_response (λ d. d.header) (λ d. d.number) (λ d. d.cause) m c
 unfolding row_in
 removal_response_is octets m c is at read =
     let a = says_by 100 delete_bearer_response octets m refl (type_kind m.kind types.DeleteBearerResponse at) is in
     record { response = _; is = reads_so 100 a.0 m a.1; header = refl; number = refl; cause = cause_is (values_by 2 0 (table_of 100) (Fields a.0)) c (sym (row_so 100 2 0 a.0 m a.1) ∙ read) }
 
-pub takes_removal_response : (role : Role) (request : Arrival) (d : DeleteBearerResponse) (m : Message) → takes_type role types.DeleteBearerResponse ≡ true → m ≡ Delete_bearer_response d → (n : Node) (e : Effect) → DeleteBearerRow d n e → TakesBy role request m n e
-takes_removal_response role request d m has_it is n e takes = at_taker (λ r k. TakesBy r request k n e) Packet role m (Delete_bearer_response d) has_it is takes
+-- ---- a gateway takes the messages of the types that it takes
 
--- ---- a gateway takes the messages for which types it takes
-
-pub is_taken : (role : Role) (octets : List ℕ) (m : MessageValue) (p : MessageType) → IsMessage octets m → type_at m.kind ≡ Some p → takes_type role p ≡ true → takes_message role (message_of m) ≡ true
+-- a message in a datagram has the type that its number names
+pub type_read : (octets : List ℕ) (m : MessageValue) (t : MessageType) → IsMessage octets m → type_at m.kind ≡ Some t → type_of (message_of m) ≡ Some t
 unfolding contexts_in
-is_taken role octets m p is at has_it = by p (type_kind m.kind p at) has_it
+type_read octets m t is at = by t (type_kind m.kind t at)
   where
-    so : (kind : ℕ) (fields : List Field) → Says kind fields m → takes_message role (content_message kind (written m.teid) m.seq (Fields fields)) ≡ true → takes_message role (message_of m) ≡ true
-    so kind fields says takes = ap (takes_message role) (reads_so kind fields m says) ∙ takes
+    so : (kind : ℕ) (fields : List Field) → Says kind fields m → type_of (message_of m) ≡ type_of (content_message kind (written m.teid) m.seq (Fields fields))
+    so kind fields says = ap type_of (reads_so kind fields m says)
 
-    by : (p : MessageType) → m.kind ≡ (type_row p).kind → takes_type role p ≡ true → takes_message role (message_of m) ≡ true
-    by types.EchoRequest of has_it = so 1 _ (echo_asked octets m of is).says has_it
-    by types.EchoResponse of has_it = so 2 _ (echo_answered octets m of is).says has_it
-    by types.CreateSessionRequest of has_it = so 32 _ (create_session_asked octets m of is).says has_it
-    by types.CreateSessionResponse of has_it = so 33 _ (create_session_answered octets m of is).says has_it
-    by types.DeleteSessionRequest of has_it = let a = says_by 36 delete_session_request octets m refl of is in so 36 a.0 a.1 has_it
-    by types.DeleteSessionResponse of has_it = let a = says_by 37 delete_session_response octets m refl of is in so 37 a.0 a.1 has_it
-    by types.CreateBearerRequest of has_it = so 95 _ (create_bearer_asked octets m of is).says has_it
-    by types.CreateBearerResponse of has_it = so 96 _ (create_bearer_answered octets m of is).says has_it
-    by types.DeleteBearerRequest of has_it = let a = says_by 99 delete_bearer_request octets m refl of is in so 99 a.0 a.1 has_it
-    by types.DeleteBearerResponse of has_it = let a = says_by 100 delete_bearer_response octets m refl of is in so 100 a.0 a.1 has_it
+    by : (t : MessageType) → m.kind ≡ (type_row t).kind → type_of (message_of m) ≡ Some t
+    by types.CreateSessionRequest of = so 32 _ (create_session_asked octets m of is).says
+    by types.CreateBearerRequest of = so 95 _ (create_bearer_asked octets m of is).says
+    by t of = let a = says_of t octets m of is in so (type_row t).kind a.0 a.1
+
+pub is_taken : (role : Role) (octets : List ℕ) (m : MessageValue) (t : MessageType) → IsMessage octets m → type_at m.kind ≡ Some t → takes_type role t ≡ true → takes_message role (message_of m) ≡ true
+is_taken role octets m t is at takes = ap (takes_some role) (type_read octets m t is at) ∙ takes
+
+-- a row of a message that the gateway takes, once its counter was heard, by the rule of its type
+pub row_by : (T : Node → Effect → Type 0) (request : Arrival) (t u : MessageType) (m k : Message) (role there : Role) (old heard : Node) (step : ControlStep) (new : GatewayState) → takes_type role t ≡ true → t ≡ u → m ≡ k → there ≡ role → heard ≡ old
+    → ((n : Node) (e : Effect) → T n e → AtTakers (λ r. TakesBy r request k n e) (type_row u).taker) → IsRow T request there heard step new → IsRow (TakesBy role request m) request role old step new
+row_by T request t u m k role there old heard step new takes same is same_role same_node each =
+    as_row T (TakesBy role request m) request role there old heard step new same_role same_node (λ n e row. at_taker (λ r x. TakesBy r request x n e) role t u m k takes same is (each n e row))

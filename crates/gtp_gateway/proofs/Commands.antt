@@ -8,7 +8,8 @@ use Rattle.gtp_machine.specs.Sound.{IsSound, IsWellFormed}
 use Rattle.gtp_machine.proofs.Sound.Rows.{stays_sound}
 use Rattle.gtp_gateway.specs.declared.fault.CommandFault.{CommandFault}
 use Rattle.gtp_gateway.specs.declared.sent.Begun.{Begun}
-use Rattle.gtp_gateway.specs.command.Command.{outcome_by, IsCarriedOut, IsAsked}
+use Rattle.gtp_gateway.specs.command.Command.{outcome_by, IsCarriedOut}
+use Rattle.gtp_gateway.specs.command.Request.{Request, AsksFor, IsAskedFor}
 use Rattle.gtp_machine.specs.declared.outcome.Outcome.TheVariants as outcomes
 use Rattle.gtp_machine.specs.Choice.{HasPendingRoom}
 use Rattle.gtp_machine.specs.Step.{Step}
@@ -21,9 +22,10 @@ command_sound command (Ok begun) old new formed done same whole =
 command_sound command (Err fault) old new formed done same whole = subst IsSoundState (sym same) whole
 
 -- a request that was sent by the last rule of its command was sent by the command
-pub done_by : (command : Command) (Asks : Effect → Type 0) (r : Result Begun CommandFault) (old new : GatewayState) → ((teid : Option ℕ) → outcomes.Begun teid ≡ outcome_by command teid) → ((e : Effect) → HasPendingRoom old.node → Asks e → Step old.role old.node (Commanded command) e)
-    → IfOk r (λ begun. IsAsked Asks old begun new) → IfOk r (λ begun. IsCarriedOut command old begun new)
-done_by command Asks (Ok begun) old new comes step asked =
+pub done_by : (command : Command) (number : ℕ) (p q : Request) (r : Result Begun CommandFault) (old new : GatewayState) → p ≡ q → ((teid : Option ℕ) → outcomes.Begun teid ≡ outcome_by command teid)
+    → ((e : Effect) → HasPendingRoom old.node → AsksFor number q old.node e → Step old.role old.node (Commanded command) e) → IfOk r (λ begun. IsAskedFor number p old begun new) → IfOk r (λ begun. IsCarriedOut command old begun new)
+done_by command number p q (Ok begun) old new is comes step done =
+    let asked = subst (λ x. IsAskedFor number x old begun new) is done in
     record {
       effect = asked.effect;
       step = step asked.effect asked.room asked.asks;
@@ -32,4 +34,4 @@ done_by command Asks (Ok begun) old new comes step asked =
       becomes = asked.becomes;
       role = asked.role;
     }
-done_by command Asks (Err fault) old new comes step asked = tt
+done_by command number p q (Err fault) old new is comes step done = tt

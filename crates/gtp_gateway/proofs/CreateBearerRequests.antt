@@ -9,22 +9,16 @@ use Rattle.gtp_v2.specs.CreateBearerRequest.{bearer_request_context_rows}
 use Rattle.gtp_v2.specs.Viewed.{optional_at, values_in, in_row, always_has}
 use Rattle.gtp_v2.specs.Datagram.{IsMessage}
 use Rattle.gtp_v2.specs.Message.{MessageValue}
-use Rattle.gtp_machine.specs.declared.role.Role.{Role}
 use Rattle.gtp_machine.specs.Choice.{HasFreeIdentity}
 use Rattle.gtp_machine.specs.Decoded.{row_in, contexts_in, row, number_at, end_at, wanted, message_of}
-use Rattle.gtp_machine.specs.Input.{Effect}
-use Rattle.gtp_machine.specs.Message.{Message, CreateBearerRequest, Create_bearer_request}
-use Rattle.gtp_machine.specs.Node.{Arrival, Node}
-use Rattle.gtp_machine.specs.Serving.{CreateBearerAsked as BearerAskedRow}
+use Rattle.gtp_machine.specs.Message.{CreateBearerRequest, Create_bearer_request}
+use Rattle.gtp_machine.specs.Node.{Node}
 use Rattle.gtp_machine.proofs.Basics.Types.{type_kind}
-use Rattle.gtp_machine.specs.declared.role.Role.TheVariants.{Serving}
 use Rattle.gtp_gateway.specs.declared.receive.create_bearer_request.BearerRequest.{BearerRequest}
 use Rattle.gtp_machine.specs.declared.message_type.MessageType.TheVariants as types
 use Rattle.gtp_gateway.specs.receive.CreateBearerRequest.{HasBearerContext, ReadsCreateBearer, SaysCreateBearer}
-use Rattle.gtp_machine.specs.MessageType.{type_at, takes_type}
-use Rattle.gtp_machine.specs.Step.{TakesBy}
+use Rattle.gtp_machine.specs.MessageType.{type_at}
 use Rattle.gtp_gateway.proofs.InPlace.{reads_so, row_so, groups_so, create_bearer_asked}
-use Rattle.gtp_gateway.proofs.Procedures.{at_taker}
 
 -- no further item came
 pub none_further : {X : Type 0} (o : Option X) (left after : List X) (none : Bool) → is_some o ≡ not none → MatchOption o ((left ≡ []) × (after ≡ [])) (λ x. left ≡ x ∷ after) → IsTrue none ↔ (left ≡ [])
@@ -88,6 +82,3 @@ create_bearer_is octets m r is at reads =
         alone = alone_so r.is_alone a.further contexts.alone;
       };
     }
-
-pub takes_bearer_request : (role : Role) (request : Arrival) (q : CreateBearerRequest) (m : Message) → takes_type role types.CreateBearerRequest ≡ true → m ≡ Create_bearer_request q → (n : Node) (e : Effect) → BearerAskedRow request q n e → TakesBy role request m n e
-takes_bearer_request role request q m has_it is n e takes = at_taker (λ r k. TakesBy r request k n e) Serving role m (Create_bearer_request q) has_it is takes

@@ -1,6 +1,6 @@
 -- Create Bearer Responses: what they say where they lie, and what the packet gateway does with them.
-use Rattle.std.proofs.Common.{◌≡◌, ◌⊎◌, ◌≢◌, inl, inr, ℕ, Bool, true, List, [], ◌∷◌, map, Option, Some, None, refl, sym, ◌∙◌, ap, subst}
-use Rattle.std.specs.Prelude.{◌==◌, not, option_to_list, IsSomeAnd}
+use Rattle.std.proofs.Common.{◌≡◌, ◌≢◌, inl, inr, ℕ, true, List, [], ◌∷◌, map, Option, Some, None, option_map, refl, sym, ◌∙◌, ap, subst}
+use Rattle.std.specs.Prelude.{◌==◌, not, option_to_list, IsSome, IsSomeAnd}
 use Rattle.std.specs.Bool.{beq}
 use Rattle.std.specs.FinMap.{get, insert, remove}
 use Rattle.std.proofs.lemmas.Bool.{eqb-true}
@@ -18,39 +18,39 @@ use Rattle.gtp_machine.specs.declared.outcome.Outcome.TheVariants.{Opened, Clash
 use Rattle.gtp_machine.specs.Choice.{HasPending}
 use Rattle.gtp_machine.specs.Decoded.{number_at, cause_at, given}
 use Rattle.gtp_machine.specs.Element.{IsAccepting, teid_in}
-use Rattle.gtp_machine.specs.Input.{Came_to, Effect, nothing}
-use Rattle.gtp_machine.specs.Message.{Message, CreateBearerRequest, CreateBearerResponse, GivenBearer, Create_bearer_request, Create_bearer_response, header_of, first_given, first_identity}
-use Rattle.gtp_machine.specs.Node.{Active, Closing, Session, Bearer, Arrival, Node}
+use Rattle.gtp_machine.specs.Input.{Came_to, nothing}
+use Rattle.gtp_machine.specs.Message.{Message, CreateBearerRequest, CreateBearerResponse, GivenBearer, Create_bearer_request, first_given, first_identity}
+use Rattle.gtp_machine.specs.Node.{Active, Closing, Session, Bearer, Node}
 use Rattle.gtp_machine.specs.Packet.{FitsCreateBearer, DescribesBearer, CanOpen, opened_dedicated, CreateBearerAnswered as BearerRow}
+use Rattle.gtp_machine.specs.Removal.{on}
 use Rattle.gtp_machine.specs.Response.{Named}
 use Rattle.gtp_machine.specs.Sound.{IsSound, IsWanted}
 use Rattle.gtp_machine.proofs.Sound.Changes.{is_bearer}
 use Rattle.gtp_machine.proofs.Basics.Facts.{one_value}
 use Rattle.gtp_machine.proofs.Basics.Types.{type_kind}
-use Rattle.gtp_machine.specs.declared.role.Role.TheVariants.{Packet}
 use Rattle.gtp_gateway.specs.declared.receive.create_bearer_response.AskedBearer.{AskedBearer}
 use Rattle.gtp_gateway.specs.declared.receive.create_bearer_response.BearerResponse.{BearerResponse}
 use Rattle.gtp_gateway.specs.declared.receive.response_context.ResponseContext.{ResponseContext}
 use Rattle.gtp_gateway.specs.declared.receive.restart_counter.Heard.{Heard}
 use Rattle.gtp_machine.specs.declared.message_type.MessageType.TheVariants as types
 use Rattle.gtp_gateway.specs.declared.command.purpose.Purpose.{Purpose}
-use Rattle.gtp_gateway.specs.declared.command.purpose.Purpose.TheVariants.{CreateBearer}
+use Rattle.gtp_gateway.specs.declared.command.purpose.Asked.{Asked}
+use Rattle.gtp_gateway.specs.declared.command.purpose.Asked.TheVariants.{CreateBearer}
 use Rattle.gtp_gateway.specs.declared.receive.response.Response.{Response}
 use Rattle.gtp_gateway.specs.declared.tables.opening.ResponseVerdict.TheVariants.{Drops, Finishes, OpensBearer}
 use Rattle.gtp_gateway.specs.command.SendRequest.{about}
 use Rattle.gtp_gateway.specs.receive.CreateBearerResponse.{SaysGiven, SaysOnlyGiven, SaysCreateBearerResponse, FitsCreateBearerOf, IsAskedBearer, CanOpenIn}
 use Rattle.gtp_gateway.specs.receive.ResponseContext.{context_values, AreContexts, ReadsOnly}
 use Rattle.gtp_gateway.specs.receive.RestartCounter.{node_heard}
-use Rattle.gtp_gateway.specs.Parts.{session_of, bearer_of}
-use Rattle.gtp_machine.specs.MessageType.{type_at, takes_type}
-use Rattle.gtp_machine.specs.Step.{TakesBy}
+use Rattle.gtp_gateway.specs.command.Purpose.{bearer_of}
+use Rattle.gtp_machine.specs.MessageType.{type_at}
 use Rattle.gtp_gateway.specs.tables.Opening.{IsWaiting, effect_by}
-use Rattle.gtp_gateway.specs.messages.Spelled.{is_for}
+use Rattle.gtp_gateway.specs.messages.Spelled.{is_asked, is_for}
+use Rattle.gtp_gateway.proofs.Rules.{meets}
 use Rattle.gtp_gateway.proofs.Unopened.{IsBlank, stands_there, blank_there}
 use Rattle.gtp_gateway.proofs.InPlace.{groups_so, create_bearer_answered}
-use Rattle.gtp_gateway.proofs.Pendings.{names_here, names_there}
+use Rattle.gtp_gateway.proofs.Pendings.{asked_here, asked_there, IsTold, told_of, names_here, names_there}
 use Rattle.gtp_gateway.proofs.Opened.{heard_sound}
-use Rattle.gtp_gateway.proofs.Procedures.{at_taker}
 
 -- ---- what the message says, where it lies
 
@@ -83,23 +83,39 @@ given_only (g ∷ h ∷ groups) None none = λ k is. absurd cc
 
 -- ---- the request that it answers
 
--- a Create Bearer Request for this bearer; a TEID stood in its header, or not
-record AsksFor (m : Message) (bearer : ℕ) (named : Bool) : Type 0 where
+-- a Create Bearer Request for this bearer, and whether a TEID stood in its header
+record AsksFor (purpose : Purpose) (m : Message) (bearer : ℕ) : Type 0 where
   pub request : CreateBearerRequest
   pub is : m ≡ Create_bearer_request request
   pub user : request.context.user.teid ≡ bearer
-  pub told : beq named (not (request.header == 0)) ≡ true
+  pub told : IsTold purpose m
 
-asks_bearer : (session bearer : Teid) (named : Bool) (m : Message) → is_for (CreateBearer session bearer named) m ≡ true → AsksFor m bearer.0 named
-asks_bearer session bearer named (Create_bearer_request q) meant =
-    let says = both (q.context.user.teid == bearer.0) (beq named (not (q.header == 0))) meant in
-    record { request = q; is = refl; user = eqb-true q.context.user.teid bearer.0 says.left; told = says.right }
-asks_bearer session bearer named m meant = absurd cc
+asks_bearer : (purpose : Purpose) (m : Message) (bearer : ℕ) → purpose.asked ≡ CreateBearer → bearer_of purpose ≡ Some bearer → is_for purpose m ≡ true → AsksFor purpose m bearer
+asks_bearer purpose m bearer asked of meant = by m (asked_there purpose CreateBearer m asked meant)
+  where
+    by : (m : Message) → is_asked CreateBearer purpose m ≡ true → AsksFor purpose m bearer
+    by (Create_bearer_request q) is =
+        let says = both (on (λ t. q.context.user.teid == t) (bearer_of purpose)) (beq purpose.is_named (not (q.header == 0))) is in
+        record { request = q; is = refl; user = eqb-true q.context.user.teid bearer (ap (on (λ t. q.context.user.teid == t)) (sym of) ∙ says.left); told = says.right }
+    by m is = absurd cc
+
+some_there : (o : Option Teid) (t : ℕ) → option_map (λ (x : Teid). x.0) o ≡ Some t → IsSome o
+some_there None t is = absurd cc
+some_there (Some x) t is = refl
 
 bearer_here : (purpose : Purpose) (m : Message) (r : Response) (x : CreateBearerResponse) → is_for purpose m ≡ true → x.header ≡ r.header.0 → x.cause ≡ r.cause → FitsCreateBearer (about purpose m) x → FitsCreateBearerOf purpose r
-bearer_here (CreateBearer session bearer named) (Create_bearer_request q) r x meant at of fits =
-    names_here session.0 x.header q.header x.cause named r (both (q.context.user.teid == bearer.0) (beq named (not (q.header == 0))) meant).right at of fits.named
-bearer_here purpose m r x meant at of fits = absurd (let asked = fits.asked in cc)
+bearer_here purpose m r x meant at of fits =
+    let is = by purpose.asked (asked_here purpose m (Create_bearer_request fits.request) fits.asked meant) in
+    record {
+      asked = is.0;
+      names = names_here purpose m r x.header x.cause (told_of purpose m (Create_bearer_request fits.request) fits.asked is.1) at of fits.named;
+      session = some_there purpose.session fits.session fits.about;
+      bearer = some_there purpose.bearer fits.bearer fits.about_bearer;
+    }
+  where
+    by : (a : Asked) → is_asked a purpose (Create_bearer_request fits.request) ≡ true → (a ≡ CreateBearer) × IsTold purpose (Create_bearer_request fits.request)
+    by CreateBearer is = (refl, (both (on (λ t. fits.request.context.user.teid == t) (bearer_of purpose)) (beq purpose.is_named (not (fits.request.header == 0))) is).right)
+    by a is = absurd cc
 
 abbrev one : ℕ → Option ℕ
 one n = Some n
@@ -118,18 +134,14 @@ module _ (n : Node) (r : BearerResponse) (x : CreateBearerResponse) (says : Says
     does_not_fit unfit = inr (at, inl (λ fits. unfit (bearer_here purpose w.message r.response x w.meant says.header says.cause fits), refl))
 
     module _ (k : AskedBearer) (asked : IsAskedBearer purpose r.response k) where
-      request : AsksFor w.message k.bearer.0 asked.named
-      request = asks_bearer k.session k.bearer asked.named w.message (ap (λ (p : Purpose). is_for p w.message) (sym asked.is) ∙ w.meant)
+      request : AsksFor purpose w.message k.bearer.0
+      request = asks_bearer purpose w.message k.bearer.0 asked.asked asked.bearer w.meant
 
       is_named : Named (about purpose w.message) x.header x.cause
-      is_named = by (names_there k.session.0 x.header request.request.header x.cause asked.named r.response request.told says.header says.cause asked.names)
-        where
-          by : (one k.session.0 ≡ one x.header) ⊎ ((x.header ≡ 0) × (x.cause.value ≡ 64) × (request.request.header ≢ 0)) → Named (about purpose w.message) x.header x.cause
-          by (inl same) = inl (ap session_of asked.is ∙ same)
-          by (inr (zero, unknown, some)) = inr (zero, unknown, λ is. some (sym (ap header_of request.is) ∙ is))
+      is_named = names_there purpose w.message r.response x.header x.cause request.told says.header says.cause asked.names
 
       abbrev fits : FitsCreateBearer at.pending x
-      fits = record { request = request.request; asked = request.is; session = k.session.0; about = ap session_of asked.is; bearer = k.bearer.0; about_bearer = ap bearer_of asked.is; named = is_named }
+      fits = record { request = request.request; asked = request.is; session = k.session.0; about = asked.session; bearer = k.bearer.0; about_bearer = asked.bearer; named = is_named }
 
       pub is_refused : (IsAccepting r.response.cause → ⊥) → BearerRow x n (effect_by (Finishes purpose (Rejected r.response.cause.value)) x.number n)
       is_refused refused = inr (at, inr (fits, inl (λ accepts. refused (subst IsAccepting says.cause accepts), λ i. effect_by (Finishes purpose (Rejected (sym says.cause i).value)) x.number n)))
@@ -183,31 +195,17 @@ module _ (n : Node) (r : BearerResponse) (x : CreateBearerResponse) (says : Says
               opens can b stands identity is_identity bearer bearer_is =
                   let then : bearer ≡ opened_dedicated b x =
                   bearer_is ∙ (λ i. record b { remote = (sym only.2.user ∙ sym (ap first_given only.1)) i; identity = (ap one (is_identity ∙ sym only.2.identity) ∙ sym (ap first_identity only.1)) i; state = Active }) in
-                  inr (
-                    at,
-                    inr (
-                      fits,
-                      inr (
-                        accepting,
-                        inr (
-                          new,
-                          inr (
-                            both_accept,
-                            inr (
-                              is_returned,
-                              inr (
-                                openable can,
-                                record {
-                                  at = record { bearer = b; stands = stands };
-                                  gives = λ i. record { out = nothing; outcome = Came_to Opened; node = record n { bearers = insert n.bearers k.bearer.0 (then i); pending = remove n.pending x.number } };
-                                },
-                              ),
-                            ),
-                          ),
-                        ),
-                      ),
-                    ),
-                  )
+                  meets at
+                  (meets fits
+                  (meets accepting
+                  (meets new
+                  (meets both_accept
+                  (meets is_returned
+                  (meets (openable can)
+                  (record {
+                    at = record { bearer = b; stands = stands };
+                    gives = λ i. record { out = nothing; outcome = Came_to Opened; node = record n { bearers = insert n.bearers k.bearer.0 (then i); pending = remove n.pending x.number } };
+                  })))))))
 
 -- ---- what stands, at a sound gateway
 
@@ -219,10 +217,10 @@ record IsBearerAsked (n : Node) (session bearer : ℕ) : Type 0 where
 
 create_bearer_asked : (role : Role) (n : Node) → IsSound role n → (number : ℕ) (purpose : Purpose) (w : IsWaiting n number purpose) (r : Response) (k : AskedBearer) → IsAskedBearer purpose r k → IsBearerAsked n k.session.0 k.bearer.0
 create_bearer_asked role n sound number purpose w r k asked =
-    let q = asks_bearer k.session k.bearer asked.named w.message (ap (λ (p : Purpose). is_for p w.message) (sym asked.is) ∙ w.meant) in
+    let q = asks_bearer purpose w.message k.bearer.0 asked.asked asked.bearer w.meant in
     let is = is_bearer role n sound number (about purpose w.message) q.request w.waits q.is in
     let user : is.0.request.context.user.teid ≡ k.bearer.0 = ap (λ (y : CreateBearerRequest). y.context.user.teid) is.1 ∙ q.user in
-    let of : one is.0.about ≡ one k.session.0 = sym is.0.session ∙ ap session_of asked.is in
+    let of : one is.0.about ≡ one k.session.0 = sym is.0.session ∙ asked.session in
     let session : is.0.about ≡ k.session.0 = cc in
     by is.0.about is.0.request.context.user.teid session user is.0.wanted
   where
@@ -248,8 +246,3 @@ module _ (role : Role) (heard : Heard) (old : Node) (whole : ∥ IsSound role ol
     where
       by : IsSound role old → IsBlank (node_heard heard old) k.bearer.0
       by sound = let d = create_bearer_asked role (node_heard heard old) (heard_sound role heard old sound) number purpose w r k asked in record { at = d.at; stands = d.stands; blank = d.blank s here opened }
-
--- ---- wired to the kinds of message
-
-pub takes_bearer_response : (role : Role) (request : Arrival) (x : CreateBearerResponse) (m : Message) → takes_type role types.CreateBearerResponse ≡ true → m ≡ Create_bearer_response x → (n : Node) (e : Effect) → BearerRow x n e → TakesBy role request m n e
-takes_bearer_response role request x m has_it is n e takes = at_taker (λ r k. TakesBy r request k n e) Packet role m (Create_bearer_response x) has_it is takes

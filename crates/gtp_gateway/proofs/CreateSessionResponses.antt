@@ -1,6 +1,6 @@
 -- Create Session Responses: what they say where they lie, and what the serving gateway does with them.
-use Rattle.std.proofs.Common.{◌≡◌, inl, inr, ℕ, true, List, [], ◌∷◌, map, Option, Some, None, option_map, refl, sym, ◌∙◌, ap, subst}
-use Rattle.std.specs.Prelude.{◌==◌, ◌&&◌, option_to_list, IsSomeAnd}
+use Rattle.std.proofs.Common.{◌≡◌, inl, inr, ℕ, true, false, List, [], ◌∷◌, map, Option, Some, None, option_map, refl, sym, ◌∙◌, ap, subst}
+use Rattle.std.specs.Prelude.{◌==◌, ◌&&◌, not, is_some, option_to_list, IsSomeAnd}
 use Rattle.std.specs.FinMap.{get, insert, remove}
 use Rattle.std.proofs.lemmas.Bool.{eqb-true}
 use Rattle.gtp_values.proofs.Tests.{both}
@@ -19,23 +19,25 @@ use Rattle.gtp_machine.specs.declared.outcome.Outcome.TheVariants.{Opened, Rejec
 use Rattle.gtp_machine.specs.Choice.{HasPending}
 use Rattle.gtp_machine.specs.Decoded.{number_at, cause_at, first_in, end_in, paa_in, created}
 use Rattle.gtp_machine.specs.Element.{IsAccepting}
-use Rattle.gtp_machine.specs.Input.{Came_to, Effect, nothing}
-use Rattle.gtp_machine.specs.Message.{Message, CreateSessionRequest, CreateSessionResponse, CreatedBearer, Create_session_request, Create_session_response, header_of, first_created}
-use Rattle.gtp_machine.specs.Node.{Active, Session, Bearer, Arrival, Node}
+use Rattle.gtp_machine.specs.Input.{Came_to, nothing}
+use Rattle.gtp_machine.specs.Message.{Message, CreateSessionRequest, CreateSessionResponse, CreatedBearer, Create_session_request, header_of, first_created}
+use Rattle.gtp_machine.specs.Node.{Active, Session, Bearer, Node}
+use Rattle.gtp_machine.specs.Removal.{on}
 use Rattle.gtp_machine.specs.Response.{Named}
 use Rattle.gtp_machine.specs.Serving.{FitsCreateSession, DescribesSession, opened_session, opened_bearer, CreateSessionAnswered as SessionRow}
 use Rattle.gtp_machine.specs.Sound.{IsSound}
 use Rattle.gtp_machine.proofs.Sound.Changes.{is_session}
 use Rattle.gtp_machine.proofs.Basics.Types.{type_kind}
-use Rattle.gtp_machine.specs.declared.role.Role.TheVariants.{Serving}
 use Rattle.gtp_gateway.specs.declared.receive.restart_counter.Heard.{Heard}
 use Rattle.gtp_gateway.specs.receive.RestartCounter.{node_heard}
+use Rattle.gtp_gateway.proofs.Rules.{meets}
 use Rattle.gtp_gateway.proofs.Unopened.{IsBlank, stands_there, blank_there}
 use Rattle.gtp_gateway.proofs.Opened.{heard_sound}
 use Rattle.gtp_gateway.specs.declared.receive.response_context.ResponseContext.{ResponseContext}
 use Rattle.gtp_machine.specs.declared.message_type.MessageType.TheVariants as types
 use Rattle.gtp_gateway.specs.declared.command.purpose.Purpose.{Purpose}
-use Rattle.gtp_gateway.specs.declared.command.purpose.Purpose.TheVariants.{CreateSession}
+use Rattle.gtp_gateway.specs.declared.command.purpose.Asked.{Asked}
+use Rattle.gtp_gateway.specs.declared.command.purpose.Asked.TheVariants.{CreateSession}
 use Rattle.gtp_gateway.specs.declared.receive.response.Response.{Response}
 use Rattle.gtp_gateway.specs.declared.receive.create_session_response.AskedSession.{AskedSession}
 use Rattle.gtp_gateway.specs.declared.receive.create_session_response.DescribedSession.{DescribedSession}
@@ -43,14 +45,13 @@ use Rattle.gtp_gateway.specs.declared.receive.create_session_response.SessionRes
 use Rattle.gtp_gateway.specs.declared.tables.opening.ResponseVerdict.TheVariants.{Drops, Finishes, OpensSession}
 use Rattle.gtp_gateway.specs.command.SendRequest.{about}
 use Rattle.gtp_gateway.specs.receive.ResponseContext.{context_values, AreContexts, ReadsOnly}
-use Rattle.gtp_gateway.specs.Parts.{session_of}
-use Rattle.gtp_machine.specs.MessageType.{type_at, takes_type}
-use Rattle.gtp_machine.specs.Step.{TakesBy}
+use Rattle.gtp_gateway.specs.command.Purpose.{session_of, bearer_of}
+use Rattle.gtp_machine.specs.MessageType.{type_at}
 use Rattle.gtp_gateway.specs.receive.CreateSessionResponse.{SaysCreated, SaysOnlyCreated, SaysCreateSessionResponse, FitsCreateSessionOf, IsAskedSession, IsDescribed}
 use Rattle.gtp_gateway.specs.tables.Opening.{IsWaiting, effect_by}
-use Rattle.gtp_gateway.specs.messages.Spelled.{is_for}
+use Rattle.gtp_gateway.specs.messages.Spelled.{is_asked, is_for}
 use Rattle.gtp_gateway.proofs.InPlace.{groups_so, create_session_answered}
-use Rattle.gtp_gateway.proofs.Procedures.{at_taker}
+use Rattle.gtp_gateway.proofs.Pendings.{asked_here, asked_there}
 
 -- ---- what the message says, where it lies
 
@@ -90,30 +91,47 @@ created_only (g ∷ h ∷ groups) None none = λ k is. absurd cc
 
 -- ---- the request that it answers
 
--- a Create Session Request for a session with this bearer, with no TEID in its header
-record AsksFor (m : Message) (bearer : ℕ) : Type 0 where
+-- a Create Session Request for a session with this bearer, with no TEID in its header, and about no bearer alone
+record AsksFor (purpose : Purpose) (m : Message) (bearer : ℕ) : Type 0 where
   pub request : CreateSessionRequest
   pub is : m ≡ Create_session_request request
   pub user : request.context.user.teid ≡ bearer
   pub unnamed : request.header ≡ 0
+  pub whole : bearer_of purpose ≡ None
 
-asks_session : (session bearer : Teid) (m : Message) → is_for (CreateSession session bearer) m ≡ true → AsksFor m bearer.0
-asks_session session bearer (Create_session_request q) meant =
-    let control = both (q.control.teid == session.0) ((q.context.user.teid == bearer.0) && (q.header == 0)) meant in
-    let user = both (q.context.user.teid == bearer.0) (q.header == 0) control.right in
-    record { request = q; is = refl; user = eqb-true q.context.user.teid bearer.0 user.left; unnamed = eqb-true q.header 0 user.right }
-asks_session session bearer m meant = absurd cc
+none_there : (o : Option Teid) → not (is_some o) ≡ true → option_map (λ (t : Teid). t.0) o ≡ None
+none_there None is = refl
+none_there (Some t) is = absurd (let no : false ≡ true = is in cc)
+
+asks_session : (purpose : Purpose) (m : Message) (default : Teid) → purpose.asked ≡ CreateSession default → is_for purpose m ≡ true → AsksFor purpose m default.0
+asks_session purpose m default asked meant = by m (asked_there purpose (CreateSession default) m asked meant)
+  where
+    by : (m : Message) → is_asked (CreateSession default) purpose m ≡ true → AsksFor purpose m default.0
+    by (Create_session_request q) is =
+        let unnamed = (q.header == 0) && not (is_some purpose.bearer) in
+        let control = both (on (λ t. q.control.teid == t) (session_of purpose)) ((q.context.user.teid == default.0) && unnamed) is in
+        let user = both (q.context.user.teid == default.0) unnamed control.right in
+        let rest = both (q.header == 0) (not (is_some purpose.bearer)) user.right in
+        record { request = q; is = refl; user = eqb-true q.context.user.teid default.0 user.left; unnamed = eqb-true q.header 0 rest.left; whole = none_there purpose.bearer rest.right }
+    by m is = absurd cc
+
+-- a request for a session is about no bearer alone
+pub of_session : (n : Node) (number : ℕ) (purpose : Purpose) (w : IsWaiting n number purpose) (r : Response) (k : AskedSession) → IsAskedSession purpose r k → bearer_of purpose ≡ None
+of_session n number purpose w r k asked = (asks_session purpose w.message k.bearer asked.asked w.meant).whole
 
 abbrev one : ℕ → Option ℕ
 one n = Some n
 
 session_here : (purpose : Purpose) (m : Message) (r : Response) (a : CreateSessionResponse) → is_for purpose m ≡ true → a.header ≡ r.header.0 → FitsCreateSession (about purpose m) a → FitsCreateSessionOf purpose r
-session_here (CreateSession session bearer) (Create_session_request q) r a meant at fits = by fits.named
+session_here purpose m r a meant at fits = by purpose.asked refl (asked_here purpose m (Create_session_request fits.request) fits.asked meant)
   where
-    by : Named (about (CreateSession session bearer) (Create_session_request q)) a.header a.cause → session.0 ≡ r.header.0
-    by (inl same) = let is : session.0 ≡ a.header = cc in is ∙ at
-    by (inr other) = let x = asks_session session bearer (Create_session_request q) meant in absurd (other.2 (ap header_of x.is ∙ x.unnamed))
-session_here purpose m r a meant at fits = absurd (let asked = fits.asked in cc)
+    named : (default : Teid) → purpose.asked ≡ CreateSession default → Named (about purpose m) a.header a.cause → session_of purpose ≡ Some r.header.0
+    named default is (inl same) = same ∙ ap one at
+    named default is (inr other) = let x = asks_session purpose m default is meant in absurd (other.2 (ap header_of x.is ∙ x.unnamed))
+
+    by : (x : Asked) → purpose.asked ≡ x → is_asked x purpose (Create_session_request fits.request) ≡ true → FitsCreateSessionOf purpose r
+    by (CreateSession default) is asked = record { default = default; asked = is; named = named default is fits.named }
+    by x is asked = absurd cc
 
 module _ (n : Node) (r : SessionResponse) (a : CreateSessionResponse) (says : SaysCreateSessionResponse r a) where
   -- the one bearer context
@@ -161,11 +179,11 @@ module _ (n : Node) (r : SessionResponse) (a : CreateSessionResponse) (says : Sa
     does_not_fit unfit = inr (at, inl (λ fits. unfit (session_here purpose w.message r.response a w.meant says.header fits), refl))
 
     module _ (k : AskedSession) (asked : IsAskedSession purpose r.response k) where
-      request : AsksFor w.message k.bearer.0
-      request = asks_session k.session k.bearer w.message (ap (λ (p : Purpose). is_for p w.message) (sym asked.is) ∙ w.meant)
+      request : AsksFor purpose w.message k.bearer.0
+      request = asks_session purpose w.message k.bearer asked.asked w.meant
 
       abbrev fits : FitsCreateSession at.pending a
-      fits = record { request = request.request; asked = request.is; session = k.session.0; about = ap session_of asked.is; named = inl (ap session_of asked.is ∙ ap one (asked.named ∙ sym says.header)) }
+      fits = record { request = request.request; asked = request.is; session = k.session.0; about = asked.session; named = inl (asked.session ∙ ap one (asked.named ∙ sym says.header)) }
 
       pub is_refused : (IsAccepting r.response.cause → ⊥) → SessionRow a n (effect_by (Finishes purpose (Rejected r.response.cause.value)) a.number n)
       is_refused refused = inr (at, inr (fits, inl (λ accepts. refused (subst IsAccepting says.cause accepts), λ i. effect_by (Finishes purpose (Rejected (sym says.cause i).value)) a.number n)))
@@ -192,36 +210,26 @@ module _ (n : Node) (r : SessionResponse) (a : CreateSessionResponse) (says : Sa
               let user : k.bearer.0 ≡ request.request.context.user.teid = sym request.user in
               let now : session ≡ opened_session d.session a d.address = session_is ∙ (λ i. record d.session { remote = sym says.control i; address = Some d.address; state = Active }) in
               let then : bearer ≡ opened_bearer b a = bearer_is ∙ (λ i. record b { remote = (sym only.user ∙ sym (ap first_created new.alone)) i; state = Active }) in
-              inr (
-                at,
-                inr (
-                  fits,
-                  inr (
-                    accepting,
-                    inr (
-                      new,
-                      inr (
-                        subst IsAccepting (sym only.cause) both,
-                        record {
-                          default = record { bearer = b; stands = ap (λ (t : ℕ). get n.bearers t) (sym user) ∙ stands };
-                          gives = λ i. record {
-                            out = nothing;
-                            outcome = Came_to Opened;
-                            node = record n { sessions = insert n.sessions k.session.0 (now i); bearers = insert n.bearers (user i) (then i); pending = remove n.pending a.number };
-                          };
-                        },
-                      ),
-                    ),
-                  ),
-                ),
-              )
+              meets at
+              (meets fits
+              (meets accepting
+              (meets new
+              (meets (subst IsAccepting (sym only.cause) both)
+              (record {
+                default = record { bearer = b; stands = ap (λ (t : ℕ). get n.bearers t) (sym user) ∙ stands };
+                gives = λ i. record {
+                  out = nothing;
+                  outcome = Came_to Opened;
+                  node = record n { sessions = insert n.sessions k.session.0 (now i); bearers = insert n.bearers (user i) (then i); pending = remove n.pending a.number };
+                };
+              })))))
 
 -- ---- what stands, at a sound gateway
 
 -- the default bearer of a session that was asked for has no remote yet
 default_asked : (role : Role) (n : Node) → IsSound role n → (number : ℕ) (purpose : Purpose) (w : IsWaiting n number purpose) (r : Response) (k : AskedSession) → IsAskedSession purpose r k → IsBlank n k.bearer.0
 default_asked role n sound number purpose w r k asked =
-    let x = asks_session k.session k.bearer w.message (ap (λ (p : Purpose). is_for p w.message) (sym asked.is) ∙ w.meant) in
+    let x = asks_session purpose w.message k.bearer asked.asked w.meant in
     let is = is_session role n sound number (about purpose w.message) x.request w.waits x.is in
     let user : is.0.request.context.user.teid ≡ k.bearer.0 = ap (λ (q : CreateSessionRequest). q.context.user.teid) is.1 ∙ x.user in
     let stands = ap (λ (t : ℕ). get n.bearers t) (sym user) ∙ is.0.default.1 in
@@ -236,8 +244,3 @@ module _ (role : Role) (heard : Heard) (old : Node) (whole : ∥ IsSound role ol
 
   pub default_blank : (b : Bearer) → get (node_heard heard old).bearers k.bearer.0 ≡ Some b → b.remote ≡ None
   default_blank = blank_there whole (node_heard heard old) k.bearer.0 (λ sound. default_asked role (node_heard heard old) (heard_sound role heard old sound) number purpose w r k asked)
-
--- ---- wired to the kinds of message
-
-pub takes_session_response : (role : Role) (request : Arrival) (a : CreateSessionResponse) (m : Message) → takes_type role types.CreateSessionResponse ≡ true → m ≡ Create_session_response a → (n : Node) (e : Effect) → SessionRow a n e → TakesBy role request m n e
-takes_session_response role request a m has_it is n e takes = at_taker (λ r k. TakesBy r request k n e) Serving role m (Create_session_response a) has_it is takes

@@ -27,16 +27,14 @@ use Rattle.gtp_machine.specs.Element.{cause_of}
 use Rattle.gtp_machine.specs.Input.{Effect}
 use Rattle.gtp_machine.specs.Answer.{answered}
 use Rattle.gtp_machine.specs.Decoded.{contexts_in, row_in, list_in, first_in, number_of, removed, message_of}
-use Rattle.gtp_machine.specs.Message.{Message, RemovedBearer, DeleteBearerRequest, Delete_bearer_request, Delete_bearer_response}
+use Rattle.gtp_machine.specs.Message.{RemovedBearer, DeleteBearerRequest, Delete_bearer_request, Delete_bearer_response}
 use Rattle.gtp_machine.specs.Node.{Arrival, Bearer, Node}
 use Rattle.gtp_machine.specs.declared.role.Role.{Role}
 use Rattle.gtp_machine.specs.Reading.{control_message, removed_bearer}
 use Rattle.gtp_machine.proofs.Octets.ByName.{removed_read}
 use Rattle.gtp_machine.specs.Serving.{RemovesEach, DeleteBearerTaken, DeleteBearerJudged, all_removed, any_removed, removal_cause}
-use Rattle.gtp_machine.specs.Serving.{DeleteBearerAsked as DeleteBearerAskedRow}
 use Rattle.gtp_machine.specs.Spelling.{removed_rows, typed, where_there}
 use Rattle.gtp_machine.proofs.Basics.Types.{type_kind}
-use Rattle.gtp_machine.specs.declared.role.Role.TheVariants.{Serving}
 use Rattle.gtp_gateway.specs.declared.tables.change.Change.TheVariants.{Stays}
 use Rattle.gtp_gateway.specs.declared.receive.delete_session_request.DeleteRequest.{DeleteRequest}
 use Rattle.gtp_gateway.specs.declared.receive.delete_bearer_request.identities.NamedBearer.{NamedBearer}
@@ -45,15 +43,14 @@ use Rattle.gtp_gateway.specs.declared.step.ControlStep.{ControlStep}
 use Rattle.gtp_gateway.specs.receive.DeleteBearerRequest.{is_at, goes_for, is_found, was_named, NamesOne, NamesEach, identity_named, cause_named, removed_by, context_by, without_named, without_each}
 use Rattle.gtp_gateway.specs.receive.DeleteBearerRequest.{ReadsIdentities, SaysDeleteBearer, SaysIdentities, IsForBearers, number_in, delete_bearer_effect}
 use Rattle.gtp_gateway.specs.receive.DeleteSessionRequest.{ReadsDeleteSession}
-use Rattle.gtp_machine.specs.MessageType.{type_at, takes_type}
-use Rattle.gtp_machine.specs.Step.{TakesBy}
+use Rattle.gtp_machine.specs.MessageType.{type_at}
 use Rattle.gtp_gateway.specs.messages.Own.{IsOwn}
 use Rattle.gtp_gateway.specs.receive.Row.{IsRow}
 use Rattle.gtp_gateway.specs.GatewayState.{GatewayState}
+use Rattle.gtp_gateway.proofs.Rules.{meets}
 use Rattle.gtp_gateway.proofs.ByProcedure.{linked_is}
 use Rattle.gtp_gateway.proofs.InPlace.{fields_of, Says, reads_so, its_row}
 use Rattle.gtp_v2.specs.Viewed.{has_row, front_value}
-use Rattle.gtp_gateway.proofs.Procedures.{at_taker}
 
 -- a row of one kind, as a row of another that holds of the same effects at this node
 pub row_as : (T U : Node → Effect → Type 0) (request : Arrival) (role : Role) (old : Node) (step : ControlStep) (new : GatewayState) → ((e : Effect) → T old e → U old e) → IsRow T request role old step new → IsRow U request role old step new
@@ -147,10 +144,8 @@ removes_one old node new session identity before (Some teid) ids others left nam
     let named : NamesBearer old session identity = names.0 in
     let stands : get old.bearers teid.0 ≡ Some named.at.bearer = ap (get old.bearers) (sym names.1) ∙ named.at.stands in (
       others,
-      inr (
-        record { key = teid.0; at = record { bearer = named.at.bearer; stands = left.here teid.0 named.at.bearer stands names.2 }; of = named.of; dedicated = named.dedicated; has = named.has },
-        (refl, rest),
-      ),
+      meets (record { key = teid.0; at = record { bearer = named.at.bearer; stands = left.here teid.0 named.at.bearer stands names.2 }; of = named.of; dedicated = named.dedicated; has = named.has })
+          ((refl, rest)),
     )
 
 each_goes : (old node : Node) (session : ℕ) (before ns : List NamedBearer) → IsLeft old before node → NamesEach old session before ns → RemovesEach session (map identity_named ns) node (map removed_by ns) (without_each ns node)
@@ -225,39 +220,31 @@ ends_judged request r d old header ids ns says listed asked few same names =
     let named : RemovesEach r.header.0 d.identities old contexts left = subst (λ (l : List ℕ). RemovesEach r.header.0 l old contexts left) (same ∙ sym listed) (removes_each old r.header.0 ns names) in
     let count : length d.identities ≡ length (map number_in ids) = ap length listed in
     let effect : Effect = answered request (Delete_bearer_response (record { header = header; number = d.number; cause = cause_of (removal_cause contexts); linked = None; contexts = contexts; recovery = Some old.counter })) (removal_cause contexts) left in
-    inr (
-      record { session = asked.session; stands = ap (get old.sessions) says.header ∙ asked.stands },
-      inr (
-        asked.opened,
-        subst (λ (o : Option ℕ). DeleteBearerTaken request d o old asked.session effect) (sym (says.linked ∙ asked.unlinked))
-            (inr (
-              omega (arith, few, count, length-map ids number_in),
-              record {
-                contexts = contexts;
-                left = left;
-                removes = subst (λ (h : ℕ). RemovesEach h d.identities old contexts left) (sym says.header) named;
-                gives = λ i. answered request (Delete_bearer_response (record { header = asked.named i; number = d.number; cause = cause_of (removal_cause contexts); linked = None; contexts = contexts; recovery = Some old.counter })) (removal_cause contexts) left;
-              },
-            )),
-      ),
-    )
+    meets (record { session = asked.session; stands = ap (get old.sessions) says.header ∙ asked.stands })
+    (meets asked.opened
+    (subst (λ (o : Option ℕ). DeleteBearerTaken request d o old asked.session effect) (sym (says.linked ∙ asked.unlinked))
+    (inr (
+      omega (arith, few, count, length-map ids number_in),
+      record {
+        contexts = contexts;
+        left = left;
+        removes = subst (λ (h : ℕ). RemovesEach h d.identities old contexts left) (sym says.header) named;
+        gives = λ i. answered request (Delete_bearer_response (record { header = asked.named i; number = d.number; cause = cause_of (removal_cause contexts); linked = None; contexts = contexts; recovery = Some old.counter })) (removal_cause contexts) left;
+      },
+    ))))
 
 -- too many are named
 pub many_judged : (request : Arrival) (r : DeleteRequest) (d : DeleteBearerRequest) (old : Node) (header : Teid) (ids : List EbiValue) → SaysDeleteBearer r d → SaysIdentities ids d → IsForBearers r header.0 old → 11 < length ids
     → DeleteBearerJudged request d old (delete_bearer_effect request d (record { header = header; cause = 94; linked = None; change = Stays }) old)
 many_judged request r d old header ids says listed asked many =
     let count : length d.identities ≡ length (map number_in ids) = ap length listed in
-    inr (
-      record { session = asked.session; stands = ap (get old.sessions) says.header ∙ asked.stands },
-      inr (
-        asked.opened,
-        subst (λ (o : Option ℕ). DeleteBearerTaken request d o old asked.session (delete_bearer_effect request d (record { header = header; cause = 94; linked = None; change = Stays }) old)) (sym (says.linked ∙ asked.unlinked))
-            (inl (
-              λ few. omega (arith, few, many, count, length-map ids number_in),
-              λ i. answered request (Delete_bearer_response (record { header = asked.named i; number = d.number; cause = cause_of 94; linked = None; contexts = []; recovery = Some old.counter })) 94 old,
-            )),
-      ),
-    )
+    meets (record { session = asked.session; stands = ap (get old.sessions) says.header ∙ asked.stands })
+    (meets asked.opened
+    (subst (λ (o : Option ℕ). DeleteBearerTaken request d o old asked.session (delete_bearer_effect request d (record { header = header; cause = 94; linked = None; change = Stays }) old)) (sym (says.linked ∙ asked.unlinked))
+    (inl (
+      λ few. omega (arith, few, many, count, length-map ids number_in),
+      λ i. answered request (Delete_bearer_response (record { header = asked.named i; number = d.number; cause = cause_of 94; linked = None; contexts = []; recovery = Some old.counter })) 94 old,
+    ))))
 
 -- ---- the message, by what was read of it
 
@@ -271,10 +258,8 @@ delete_bearer_asked : (octets : List ℕ) (m : MessageValue) → m.kind ≡ 99 �
 delete_bearer_asked octets m of is = let f = fields_of 99 delete_bearer_request octets m refl of is in by f.fields f.elements f.are f.content
   where
     by : (fs : List Field) (es : List Element) → LinesAre start delete_bearer_request.lines es fs → m.content ≡ Fields fs → IsDeleteBearerRequest m
-    by [] es are content = absurd are
-    by (a ∷ []) es are content = absurd are.1
     by (a ∷ b ∷ []) es are content = record { linked = are.0.0; identities = are.1.0.0; says = record { of = of; content = content ∙ (λ i. Fields (are.0.2 i ∷ are.1.0.2 i ∷ [])) } }
-    by (a ∷ b ∷ c ∷ fs) es are content = absurd cc
+    by fs es are content = absurd (grind arith)
 
 pub record IsDeleteBearer (m : MessageValue) (r : DeleteRequest) : Type 0 where
   pub request : DeleteBearerRequest
@@ -299,6 +284,3 @@ delete_bearer_is octets m r is at reads =
       says = record { number = sym reads.number; header = sym reads.header; linked = linked_is a.linked r.linked (reads.linked (ap (λ k. has_row k 73 0) a.says.of) ∙ ap front_value (its_row 99 73 0 _ m a.says)) };
       reads = λ ids listed. ap (map (λ (v : Value). unwrap_or (number_of v) 0)) (same_list a.linked a.identities listed.0 (map (λ (i : EbiValue). OfEbi i.0) ids) m.content a.says.content listed.1) ∙ numbers_read ids;
     }
-
-pub takes_removal_request : (role : Role) (request : Arrival) (d : DeleteBearerRequest) (m : Message) → takes_type role types.DeleteBearerRequest ≡ true → m ≡ Delete_bearer_request d → (n : Node) (e : Effect) → DeleteBearerAskedRow request d n e → TakesBy role request m n e
-takes_removal_request role request d m has_it is n e takes = at_taker (λ r k. TakesBy r request k n e) Serving role m (Delete_bearer_request d) has_it is takes

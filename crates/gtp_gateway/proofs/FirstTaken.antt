@@ -32,7 +32,7 @@ use Rattle.gtp_machine.specs.Step.{TakesBy}
 use Rattle.gtp_gateway.specs.receive.CreateSessionResponse.{SaysCreateSessionResponse, JudgesAnswer}
 use Rattle.gtp_gateway.specs.tables.Opening.{outcome_by, effect_by}
 use Rattle.gtp_gateway.specs.GatewayState.{GatewayState}
-use Rattle.gtp_gateway.proofs.Allocations.{needs_session_response, message_needs}
+use Rattle.gtp_gateway.proofs.Allocations.{needs_by, message_needs}
 use Rattle.gtp_gateway.proofs.Allocations as needing
 use Rattle.gtp_gateway.proofs.Rows.{told, hears, hears_early, message_taken, told_node}
 use Rattle.gtp_gateway.proofs.RestartCounters.{told_is, later_is}
@@ -162,4 +162,4 @@ module _ (source : Endpoint) (octets : List ℕ) (old : GatewayState) (serving :
   first_needs opened =
       let on = λ (early : IsEarlier heard). (let is : Dropped OldCounter ≡ Opened = sym (ap outcome_by (j.early early)) ∙ opened in let never : ⊥ = cc is in never) in
       message_needs request old message recovery peer takes_it counted on
-      (needs_session_response old.role request message left a has_it refl (needing.create_session_answered a left (effect_by v a.number left) (ap (λ o. Came_to o) opened) (j.judged on a says)))
+      (needs_by old.role request message left types.CreateSessionResponse types.CreateSessionResponse message has_it refl refl (needing.create_session_answered a left (effect_by v a.number left) (ap (λ o. Came_to o) opened) (j.judged on a says)))

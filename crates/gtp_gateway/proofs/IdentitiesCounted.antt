@@ -1,5 +1,5 @@
 -- How many identities the list of a Delete Bearer Request has, where it lies.
-use Rattle.std.proofs.Common.{◌≡◌, ℕ, suc, List, [], ◌∷◌, map, length, drop, Option, Some, refl, sym, ◌∙◌, ap, subst}
+use Rattle.std.proofs.Common.{arith, ◌≡◌, ℕ, suc, List, [], ◌∷◌, map, length, drop, Option, Some, refl, sym, ◌∙◌, ap, subst}
 use Rattle.std.proofs.lemmas.List.{length-map}
 use Rattle.gtp_ie.specs.declared.value.ebi.EbiValue.{EbiValue}
 use Rattle.gtp_ie.specs.Element.{Element, all_of}
@@ -32,14 +32,12 @@ each_length Is (e ∷ es) (x ∷ xs) each = ap suc (each_length Is es xs each.1)
 
 -- the second field has a value for each element of the list
 listed : (linked values : List Value) (fs : List Field) (es : List Element) (content : Content) → LinesAre start delete_bearer_request.lines es fs → content ≡ Fields fs → content ≡ Fields (Plain linked ∷ Plain values ∷ []) → length (all_of 73 1 es) ≡ length values
-listed linked values [] es content are is read = absurd are
-listed linked values (a ∷ []) es content are is read = absurd are.1
-listed linked values (a ∷ b ∷ c ∷ fs) es content are is read = absurd cc
 listed linked values (a ∷ b ∷ []) es content are is read =
     let line = are.1.0 in
     let both : Fields (a ∷ Plain line.0 ∷ []) ≡ Fields (Plain linked ∷ Plain values ∷ []) = (λ i. Fields (a ∷ sym line.2 i ∷ [])) ∙ (sym is ∙ read) in
     let same : line.0 ≡ values = cc in
     each_length (OneIs 73) (all_of 73 1 es) line.0 line.1.0 ∙ ap length same
+listed linked values fs es content are is read = absurd (grind arith)
 
 unfolded : (body : List ℕ) (v : Value) → SaysValue 73 body v → v ≡ OfEbi (ebi_in body)
 unfolding SaysValue
@@ -57,13 +55,11 @@ abbrev plain : List Value → Field
 plain values = Plain values
 
 read_from : (m : MessageValue) (fs : List Field) (es : List Element) → LinesAre start delete_bearer_request.lines es fs → m.content ≡ Fields fs → (ids : List EbiValue) × ReadsIdentities m ids
-read_from m [] es are is = absurd are
-read_from m (a ∷ []) es are is = absurd are.1
-read_from m (a ∷ b ∷ c ∷ fs) es are is = absurd cc
 read_from m (a ∷ b ∷ []) es are is =
     let line = are.1.0 in
     let ids = identities_of (all_of 73 1 es) line.0 line.1.0 in
     (ids.0, (are.0.0, is ∙ (λ i. Fields (are.0.2 i ∷ (line.2 ∙ ap plain ids.1) i ∷ []))))
+read_from m fs es are is = absurd (grind arith)
 
 -- a Delete Bearer Request has a list of identities
 pub has_identities : (octets : List ℕ) (m : MessageValue) → IsMessage octets m → m.kind ≡ 99 → (ids : List EbiValue) × ReadsIdentities m ids

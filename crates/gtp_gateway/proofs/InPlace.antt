@@ -14,10 +14,8 @@ use Rattle.gtp_v2.specs.EchoRequest.{echo_request}
 use Rattle.gtp_v2.specs.EchoResponse.{echo_response}
 use Rattle.gtp_v2.specs.CreateSessionRequest.{create_session_request, session_request_context_rows}
 use Rattle.gtp_v2.specs.CreateSessionResponse.{create_session_response}
-use Rattle.gtp_v2.specs.DeleteSessionResponse.{delete_session_response}
 use Rattle.gtp_v2.specs.CreateBearerRequest.{create_bearer_request, bearer_request_context_rows}
 use Rattle.gtp_v2.specs.CreateBearerResponse.{create_bearer_response}
-use Rattle.gtp_v2.specs.DeleteBearerResponse.{delete_bearer_response}
 use Rattle.gtp_machine.specs.Message.{recovery_of}
 use Rattle.gtp_machine.specs.Node.{written}
 use Rattle.gtp_machine.specs.Decoded.{row_in, contexts_in, first_in, number_of, number_at, row, bearer_request_in, message_by, content_message, message_of}
@@ -64,6 +62,14 @@ groups_so kind element instance fields m says = λ i. groups_by element instance
 pub says_by : (kind : ℕ) (table : Table) (octets : List ℕ) (m : MessageValue) → table_of kind ≡ Some table → m.kind ≡ kind → IsMessage octets m → (fields : List Field) × Says kind fields m
 says_by kind table octets m tabled of is = let f = fields_of kind table octets m tabled of is in (f.fields, record { of = of; content = f.content })
 
+-- each type that gateways take has a table
+has_table : (t : MessageType) → (table : Table) × (table_of (type_row t).kind ≡ Some table)
+has_table types.EchoRequest = (_, refl)
+has_table t = (_, refl)
+
+pub says_of : (t : MessageType) (octets : List ℕ) (m : MessageValue) → m.kind ≡ (type_row t).kind → IsMessage octets m → (fields : List Field) × Says (type_row t).kind fields m
+says_of t octets m of is = says_by (type_row t).kind (has_table t).0 octets m (has_table t).1 of is
+
 pub its_row : (kind element instance : ℕ) (fields : List Field) (m : MessageValue) → Says kind fields m → row_of element instance m ≡ unwrap_or (values_by element instance (table_of kind) (Fields fields)) []
 its_row kind element instance fields m says = ap (λ (o : Option (List Value)). unwrap_or o []) (row_so kind element instance fields m says)
 
@@ -72,21 +78,18 @@ pub record IsEcho (kind : ℕ) (m : MessageValue) : Type 0 where
   pub counter : Value
   pub says : Says kind (Plain (counter ∷ []) ∷ []) m
 
-pub echo_asked : (octets : List ℕ) (m : MessageValue) → m.kind ≡ 1 → IsMessage octets m → IsEcho 1 m
-echo_asked octets m of is = let f = fields_of 1 echo_request octets m refl of is in by f.fields f.elements f.are f.content
+echo_said : (kind : ℕ) (table : Table) (octets : List ℕ) (m : MessageValue) → table_of kind ≡ Some table → table.lines ≡ echo_request.lines → m.kind ≡ kind → IsMessage octets m → IsEcho kind m
+echo_said kind table octets m tabled lines of is = let f = fields_of kind table octets m tabled of is in by f.fields f.elements (subst (λ ls. LinesAre start ls f.elements f.fields) lines f.are) f.content
   where
-    by : (fs : List Field) (es : List Element) → LinesAre start echo_request.lines es fs → m.content ≡ Fields fs → IsEcho 1 m
-    by [] es are content = absurd are
+    by : (fs : List Field) (es : List Element) → LinesAre start echo_request.lines es fs → m.content ≡ Fields fs → IsEcho kind m
     by (f ∷ []) es are content = record { counter = are.0.1.0; says = record { of = of; content = content ∙ (λ i. Fields ((are.0.2 ∙ ap Plain are.0.1.2) i ∷ [])) } }
-    by (f ∷ g ∷ fs) es are content = absurd cc
+    by fs es are content = absurd (grind arith)
+
+pub echo_asked : (octets : List ℕ) (m : MessageValue) → m.kind ≡ 1 → IsMessage octets m → IsEcho 1 m
+echo_asked octets m = echo_said 1 echo_request octets m refl refl
 
 pub echo_answered : (octets : List ℕ) (m : MessageValue) → m.kind ≡ 2 → IsMessage octets m → IsEcho 2 m
-echo_answered octets m of is = let f = fields_of 2 echo_response octets m refl of is in by f.fields f.elements f.are f.content
-  where
-    by : (fs : List Field) (es : List Element) → LinesAre start echo_response.lines es fs → m.content ≡ Fields fs → IsEcho 2 m
-    by [] es are content = absurd are
-    by (f ∷ []) es are content = record { counter = are.0.1.0; says = record { of = of; content = content ∙ (λ i. Fields ((are.0.2 ∙ ap Plain are.0.1.2) i ∷ [])) } }
-    by (f ∷ g ∷ fs) es are content = absurd cc
+echo_answered octets m = echo_said 2 echo_response octets m refl refl
 
 -- a Create Bearer Response
 pub record IsBearerAnswer (m : MessageValue) : Type 0 where
@@ -100,9 +103,6 @@ pub create_bearer_answered : (octets : List ℕ) (m : MessageValue) → m.kind �
 create_bearer_answered octets m of is = let f = fields_of 96 create_bearer_response octets m refl of is in by f.fields f.elements f.are f.content
   where
     by : (fs : List Field) (es : List Element) → LinesAre start create_bearer_response.lines es fs → m.content ≡ Fields fs → IsBearerAnswer m
-    by [] es are content = absurd are
-    by (a ∷ []) es are content = absurd are.1
-    by (a ∷ b ∷ []) es are content = absurd are.1.1
     by (a ∷ b ∷ c ∷ []) es are content = record {
       cause = are.0.1.0;
       groups = are.1.0.0;
@@ -110,7 +110,7 @@ create_bearer_answered octets m of is = let f = fields_of 96 create_bearer_respo
       recovery = are.1.1.0.0;
       says = record { of = of; content = content ∙ (λ i. Fields ((are.0.2 ∙ ap Plain are.0.1.2) i ∷ are.1.0.2 i ∷ are.1.1.0.2 i ∷ [])) };
     }
-    by (a ∷ b ∷ c ∷ d ∷ fs) es are content = absurd cc
+    by fs es are content = absurd (grind arith)
 
 -- a Create Session Response
 pub record IsSessionAnswer (m : MessageValue) : Type 0 where
@@ -127,12 +127,6 @@ pub create_session_answered : (octets : List ℕ) (m : MessageValue) → m.kind 
 create_session_answered octets m of is = let f = fields_of 33 create_session_response octets m refl of is in by f.fields f.elements f.are f.content
   where
     by : (fs : List Field) (es : List Element) → LinesAre start create_session_response.lines es fs → m.content ≡ Fields fs → IsSessionAnswer m
-    by [] es are content = absurd are
-    by (a ∷ []) es are content = absurd are.1
-    by (a ∷ b ∷ []) es are content = absurd are.1.1
-    by (a ∷ b ∷ c ∷ []) es are content = absurd are.1.1.1
-    by (a ∷ b ∷ c ∷ d ∷ []) es are content = absurd are.1.1.1.1
-    by (a ∷ b ∷ c ∷ d ∷ e ∷ []) es are content = absurd are.1.1.1.1.1
     by (a ∷ b ∷ c ∷ d ∷ e ∷ f ∷ []) es are content = record {
       cause = are.0.1.0;
       control = are.1.0.0;
@@ -143,7 +137,7 @@ create_session_answered octets m of is = let f = fields_of 33 create_session_res
       recovery = are.1.1.1.1.1.0.0;
       says = record { of = of; content = content ∙ (λ i. Fields ((are.0.2 ∙ ap Plain are.0.1.2) i ∷ are.1.0.2 i ∷ are.1.1.0.2 i ∷ are.1.1.1.0.2 i ∷ are.1.1.1.1.0.2 i ∷ are.1.1.1.1.1.0.2 i ∷ [])) };
     }
-    by (a ∷ b ∷ c ∷ d ∷ e ∷ f ∷ g ∷ fs) es are content = absurd cc
+    by fs es are content = absurd (grind arith)
 
 -- the values of a bearer context of a Create Session Request
 pub record IsRequestedContext : Type 0 where
@@ -155,11 +149,8 @@ abbrev pub requested_context : IsRequestedContext → List (List Value)
 requested_context c = (c.identity ∷ []) ∷ (c.qos ∷ []) ∷ (c.user ∷ []) ∷ []
 
 requested_rows : (accepting : Bool) (es : List Element) (all : List (List Value)) → RowsAre accepting session_request_context_rows es all → (c : IsRequestedContext) × (all ≡ requested_context c)
-requested_rows accepting es [] are = absurd are
-requested_rows accepting es (a ∷ []) are = absurd are.1
-requested_rows accepting es (a ∷ b ∷ []) are = absurd are.1.1
 requested_rows accepting es (a ∷ b ∷ c ∷ []) are = (record { identity = are.0.0; qos = are.1.0.0; user = are.1.1.0.0 }, λ i. are.0.2 i ∷ are.1.0.2 i ∷ are.1.1.0.2 i ∷ [])
-requested_rows accepting es (a ∷ b ∷ c ∷ d ∷ all) are = absurd cc
+requested_rows accepting es all are = absurd (grind arith)
 
 -- the first of some groups, and the others
 pub record SomeGroup (Are : Bool → List Element → List (List Value) → Type 0) (groups : List (List (List Value))) : Type 0 where
@@ -193,10 +184,8 @@ pub record IsSessionRequest (m : MessageValue) : Type 0 where
 
 -- the third row of a bearer context of a Create Bearer Request has a value
 third_row : (accepting : Bool) (es : List Element) (rows : List (List Value)) → RowsAre accepting bearer_request_context_rows es rows → (user : Value) × (row 2 rows ≡ user ∷ [])
-third_row accepting es [] are = absurd are
-third_row accepting es (a ∷ []) are = absurd are.1
-third_row accepting es (a ∷ b ∷ []) are = absurd are.1.1
 third_row accepting es (a ∷ b ∷ c ∷ rows) are = (are.1.1.0.0, are.1.1.0.2)
+third_row accepting es rows are = absurd (grind arith)
 
 -- a Create Bearer Request: it has a bearer context, with an F-TEID
 pub record IsBearerRequest (m : MessageValue) : Type 0 where
@@ -212,9 +201,6 @@ pub create_bearer_asked : (octets : List ℕ) (m : MessageValue) → m.kind ≡ 
 create_bearer_asked octets m of is = let f = fields_of 95 create_bearer_request octets m refl of is in by f.fields f.elements f.are f.content
   where
     by : (fs : List Field) (es : List Element) → LinesAre start create_bearer_request.lines es fs → m.content ≡ Fields fs → IsBearerRequest m
-    by [] es are content = absurd are
-    by (a ∷ []) es are content = absurd are.1
-    by (a ∷ b ∷ []) es are content = absurd are.1.1
     by (a ∷ b ∷ c ∷ []) es are content =
         let groups = are.1.1.0 in
         let some = some_group (after (after start a) b).accepting bearer_request_context_rows (all_of 93 0 es) groups.0 groups.1.0 groups.1.1 in
@@ -228,23 +214,12 @@ create_bearer_asked octets m of is = let f = fields_of 95 create_bearer_request 
           says = record { of = of; content = content ∙ (λ x. Fields (are.0.2 x ∷ (are.1.0.2 ∙ ap Plain are.1.0.1.2) x ∷ (groups.2 ∙ ap Groups some.is) x ∷ [])) };
           ends = end.1;
         }
-    by (a ∷ b ∷ c ∷ d ∷ fs) es are content = absurd cc
+    by fs es are content = absurd (grind arith)
 
 pub create_session_asked : (octets : List ℕ) (m : MessageValue) → m.kind ≡ 32 → IsMessage octets m → IsSessionRequest m
 create_session_asked octets m of is = let f = fields_of 32 create_session_request octets m refl of is in by f.fields f.elements f.are f.content
   where
     by : (fs : List Field) (es : List Element) → LinesAre start create_session_request.lines es fs → m.content ≡ Fields fs → IsSessionRequest m
-    by [] es are content = absurd are
-    by (a ∷ []) es are content = absurd are.1
-    by (a ∷ b ∷ []) es are content = absurd are.1.1
-    by (a ∷ b ∷ c ∷ []) es are content = absurd are.1.1.1
-    by (a ∷ b ∷ c ∷ d ∷ []) es are content = absurd are.1.1.1.1
-    by (a ∷ b ∷ c ∷ d ∷ e ∷ []) es are content = absurd are.1.1.1.1.1
-    by (a ∷ b ∷ c ∷ d ∷ e ∷ f ∷ []) es are content = absurd are.1.1.1.1.1.1
-    by (a ∷ b ∷ c ∷ d ∷ e ∷ f ∷ g ∷ []) es are content = absurd are.1.1.1.1.1.1.1
-    by (a ∷ b ∷ c ∷ d ∷ e ∷ f ∷ g ∷ h ∷ []) es are content = absurd are.1.1.1.1.1.1.1.1
-    by (a ∷ b ∷ c ∷ d ∷ e ∷ f ∷ g ∷ h ∷ i ∷ []) es are content = absurd are.1.1.1.1.1.1.1.1.1
-    by (a ∷ b ∷ c ∷ d ∷ e ∷ f ∷ g ∷ h ∷ i ∷ j ∷ []) es are content = absurd are.1.1.1.1.1.1.1.1.1.1
     by (a ∷ b ∷ c ∷ d ∷ e ∷ f ∷ g ∷ h ∷ i ∷ j ∷ k ∷ []) es are content =
         let r4 = are.1.1.1 in
         let r8 = r4.1.1.1.1 in
@@ -270,7 +245,7 @@ create_session_asked octets m of is = let f = fields_of 32 create_session_reques
             content = content ∙ (λ x. Fields ((are.0.2 ∙ ap Plain are.0.1.2) x ∷ (are.1.0.2 ∙ ap Plain are.1.0.1.2) x ∷ are.1.1.0.2 x ∷ (r4.0.2 ∙ ap Plain r4.0.1.2) x ∷ (r4.1.0.2 ∙ ap Plain r4.1.0.1.2) x ∷ r4.1.1.0.2 x ∷ (r4.1.1.1.0.2 ∙ ap Plain r4.1.1.1.0.1.2) x ∷ r8.0.2 x ∷ r8.1.0.2 x ∷ (groups.2 ∙ ap Groups (some.is ∙ (λ y. first.1 y ∷ some.further))) x ∷ last.2 x ∷ []));
           };
         }
-    by (a ∷ b ∷ c ∷ d ∷ e ∷ f ∷ g ∷ h ∷ i ∷ j ∷ k ∷ l ∷ fs) es are content = absurd cc
+    by fs es are content = absurd (grind arith)
 
 pub asked : (m : MessageValue) (spelled : (octets : List ℕ) × IsMessage octets m) → m.kind ≡ 32 → IsSessionRequest m
 asked m (octets, is) of = create_session_asked octets m of is
@@ -300,10 +275,10 @@ counter_read octets m p r is at tells reads = by p (type_kind m.kind p at) tells
     by types.EchoRequest of tells = let a = echo_asked octets m of is in needed a.counter r (reads (ap (λ k. has_row k 3 0) of) ∙ ap front_value (its_row 1 3 0 _ m a.says)) ∙ ap recovery_of (sym (reads_so 1 _ m a.says))
     by types.EchoResponse of tells = let a = echo_answered octets m of is in needed a.counter r (reads (ap (λ k. has_row k 3 0) of) ∙ ap front_value (its_row 2 3 0 _ m a.says)) ∙ ap recovery_of (sym (reads_so 2 _ m a.says))
     by types.CreateSessionRequest of tells = so 32 _ (create_session_asked octets m of is).says refl refl
-    by types.CreateSessionResponse of tells = let a = says_by 33 create_session_response octets m refl of is in so 33 a.0 a.1 refl refl
-    by types.DeleteSessionResponse of tells = let a = says_by 37 delete_session_response octets m refl of is in so 37 a.0 a.1 refl refl
-    by types.CreateBearerResponse of tells = let a = says_by 96 create_bearer_response octets m refl of is in so 96 a.0 a.1 refl refl
-    by types.DeleteBearerResponse of tells = let a = says_by 100 delete_bearer_response octets m refl of is in so 100 a.0 a.1 refl refl
+    by types.CreateSessionResponse of tells = let a = says_of types.CreateSessionResponse octets m of is in so 33 a.0 a.1 refl refl
+    by types.DeleteSessionResponse of tells = let a = says_of types.DeleteSessionResponse octets m of is in so 37 a.0 a.1 refl refl
+    by types.CreateBearerResponse of tells = let a = says_of types.CreateBearerResponse octets m of is in so 96 a.0 a.1 refl refl
+    by types.DeleteBearerResponse of tells = let a = says_of types.DeleteBearerResponse octets m of is in so 100 a.0 a.1 refl refl
     by p of tells = absurd (let never : false ≡ true = tells in cc)
 
 -- a message of a type that has none tells no counter

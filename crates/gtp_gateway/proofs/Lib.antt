@@ -9,6 +9,7 @@ pub mod SentBack
 pub mod Requests
 pub mod Refusals
 pub mod Columns
+pub mod Rules
 pub mod Commands
 pub mod RequestsToSend
 pub mod Teids

@@ -1,5 +1,5 @@
 -- Requests that wait, by their numbers.
-use Rattle.std.proofs.Common.{◌≡◌, ◌⊎◌, ◌≢◌, inl, inr, ℕ, Bool, true, false, cond, List, [], ◌∷◌, map, Option, Some, None, refl, sym, ◌∙◌, ap, arith}
+use Rattle.std.proofs.Common.{◌≡◌, inl, inr, ℕ, Bool, true, false, cond, List, [], ◌∷◌, map, Option, Some, None, refl, sym, ◌∙◌, ap, arith}
 use Rattle.std.specs.Prelude.{◌==◌, not}
 use Rattle.std.specs.Bool.{beq}
 use Rattle.std.specs.List.{AllByRecursion}
@@ -13,13 +13,14 @@ use Rattle.gtp_values.specs.declared.cause.Cause.{Cause}
 use Rattle.gtp_tables.proofs.Rows.{turned}
 use Rattle.gtp_reliable.specs.Waiting.{Waiting}
 use Rattle.gtp_reliable.specs.Pending.{purpose_of}
-use Rattle.gtp_machine.specs.Message.{Message, DeleteSessionResponse, DeleteBearerResponse, Echo_request, Delete_session_request, Delete_bearer_request}
+use Rattle.gtp_machine.specs.Message.{Message, DeleteSessionResponse, DeleteBearerResponse, Echo_request, Delete_session_request, Delete_bearer_request, header_of}
 use Rattle.gtp_machine.specs.Node.{PendingRequest}
-use Rattle.gtp_machine.specs.Response.{IsEcho}
+use Rattle.gtp_machine.specs.Response.{IsEcho, Named}
 use Rattle.gtp_machine.specs.Serving.{FitsDeleteSession}
 use Rattle.gtp_machine.specs.Packet.{FitsDeleteBearer}
 use Rattle.gtp_gateway.specs.declared.command.purpose.Purpose.{Purpose}
-use Rattle.gtp_gateway.specs.declared.command.purpose.Purpose.TheVariants.{Echo, DeleteSession, ReleaseSession, DeleteBearer}
+use Rattle.gtp_gateway.specs.declared.command.purpose.Asked.{Asked}
+use Rattle.gtp_gateway.specs.declared.command.purpose.Asked.TheVariants.{Echo, DeleteSession, DeleteBearer}
 use Rattle.gtp_gateway.specs.declared.receive.response.Response.{Response}
 use Rattle.gtp_gateway.specs.command.SendRequest.{about}
 use Rattle.gtp_gateway.specs.Parts.{pending_of, pending_in}
@@ -27,7 +28,7 @@ use Rattle.gtp_gateway.specs.receive.Echo.{FitsEcho}
 use Rattle.gtp_gateway.specs.receive.Response.{Names}
 use Rattle.gtp_gateway.specs.receive.DeleteSessionResponse.{FitsDeleteSessionOf}
 use Rattle.gtp_gateway.specs.receive.DeleteBearerResponse.{FitsDeleteBearerOf}
-use Rattle.gtp_gateway.specs.messages.Spelled.{message_in, is_for, IsAsked, AreAsked}
+use Rattle.gtp_gateway.specs.messages.Spelled.{message_in, is_asked, is_for, IsAsked, AreAsked}
 
 -- a request for the purpose waits under the number
 pub record Waits (ws : List (Waiting Purpose)) (n : ℕ) (purpose : Purpose) : Type 0 where
@@ -83,14 +84,26 @@ one n = Some n
 
 -- ---- which requests a response fits
 
+-- a request asks for what its purpose says, and a purpose says what its request asks for
+pub asked_there : (purpose : Purpose) (a : Asked) (m : Message) → purpose.asked ≡ a → is_for purpose m ≡ true → is_asked a purpose m ≡ true
+asked_there purpose a m is meant = ap (λ (x : Asked). is_asked x purpose m) (sym is) ∙ meant
+
+pub asked_here : (purpose : Purpose) (m k : Message) → m ≡ k → is_for purpose m ≡ true → is_asked purpose.asked purpose k ≡ true
+asked_here purpose m k is meant = ap (is_for purpose) (sym is) ∙ meant
+
 pub echo_there : (purpose : Purpose) (m : Message) → is_for purpose m ≡ true → FitsEcho purpose → IsEcho (about purpose m)
-echo_there Echo (Echo_request q) is fits = record { request = q; asked = refl }
-echo_there Echo m is fits = absurd cc
-echo_there purpose m is fits = absurd fits
+echo_there purpose m meant fits = by m (asked_there purpose Echo m fits meant)
+  where
+    by : (m : Message) → is_asked Echo purpose m ≡ true → IsEcho (about purpose m)
+    by (Echo_request q) is = record { request = q; asked = refl }
+    by m is = absurd cc
 
 pub echo_here : (purpose : Purpose) (m : Message) → is_for purpose m ≡ true → IsEcho (about purpose m) → FitsEcho purpose
-echo_here Echo m is fits = tt
-echo_here purpose m is fits = absurd (let asked = fits.asked in cc)
+echo_here purpose m meant fits = by purpose.asked (asked_here purpose m (Echo_request fits.request) fits.asked meant)
+  where
+    by : (a : Asked) → is_asked a purpose (Echo_request fits.request) ≡ true → a ≡ Echo
+    by Echo is = refl
+    by a is = absurd cc
 
 named_true : (named : Bool) (asked : ℕ) → beq named (not (asked == 0)) ≡ true → (asked ≡ 0 → ⊥) → named ≡ true
 named_true true asked told other = refl
@@ -110,35 +123,54 @@ named_some named asked told is zero = by named is (subst_zero told)
     by true is told = let no : false ≡ true = told in cc
     by false is told = let no : false ≡ true = is in cc
 
--- a response that names the session by the machine's rule does so by what is kept of the request, and the other way round
-pub names_here : (session header asked : ℕ) (cause : Cause) (named : Bool) (r : Response) → beq named (not (asked == 0)) ≡ true → header ≡ r.header.0 → cause ≡ r.cause → (one session ≡ one header) ⊎ ((header ≡ 0) × (cause.value ≡ 64) × (asked ≢ 0)) → Names r session named
-names_here session header asked cause named r told at of (inl same) = inl (let is : session ≡ header = cc in is ∙ at)
-names_here session header asked cause named r told at of (inr (zero, unknown, some)) = inr (sym at ∙ zero, ap (λ (c : Cause). c.value) (sym of) ∙ unknown, named_true named asked told some)
+-- whether a TEID stood in the header of a request is what its purpose says
+abbrev pub IsTold : Purpose → Message → Type 0
+IsTold purpose m = beq purpose.is_named (not (header_of m == 0)) ≡ true
 
-pub names_there : (session header asked : ℕ) (cause : Cause) (named : Bool) (r : Response) → beq named (not (asked == 0)) ≡ true → header ≡ r.header.0 → cause ≡ r.cause → Names r session named → (one session ≡ one header) ⊎ ((header ≡ 0) × (cause.value ≡ 64) × (asked ≢ 0))
-names_there session header asked cause named r told at of (inl same) = inl (ap (λ (t : ℕ). one t) (same ∙ sym at))
-names_there session header asked cause named r told at of (inr (zero, unknown, is)) = inr (at ∙ zero, ap (λ (c : Cause). c.value) of ∙ unknown, named_some named asked told is)
+pub told_of : (purpose : Purpose) (m k : Message) → m ≡ k → IsTold purpose k → IsTold purpose m
+told_of purpose m k is told = ap (λ (x : Message). beq purpose.is_named (not (header_of x == 0))) is ∙ told
+
+-- a response that names the session by the machine's rule does so by what is kept of the request, and the other way round
+module _ (purpose : Purpose) (m : Message) (r : Response) (header : ℕ) (cause : Cause) (told : IsTold purpose m) (at : header ≡ r.header.0) (of : cause ≡ r.cause) where
+  pub names_here : Named (about purpose m) header cause → Names r purpose
+  names_here (inl same) = inl (same ∙ ap one at)
+  names_here (inr (zero, unknown, some)) = inr (sym at ∙ zero, ap (λ (c : Cause). c.value) (sym of) ∙ unknown, named_true purpose.is_named (header_of m) told some)
+
+  pub names_there : Names r purpose → Named (about purpose m) header cause
+  names_there (inl same) = inl (same ∙ ap one (sym at))
+  names_there (inr (zero, unknown, is)) = inr (at ∙ zero, ap (λ (c : Cause). c.value) of ∙ unknown, named_some purpose.is_named (header_of m) told is)
 
 pub delete_session_there : (purpose : Purpose) (m : Message) (r : Response) (d : DeleteSessionResponse) → is_for purpose m ≡ true → d.header ≡ r.header.0 → d.cause ≡ r.cause → FitsDeleteSessionOf purpose r → FitsDeleteSession (about purpose m) d
-delete_session_there (DeleteSession session named) (Delete_session_request q) r d meant at of names = record { request = q; asked = refl; named = names_there session.0 d.header q.header d.cause named r meant at of names }
-delete_session_there (DeleteSession session named) m r d meant at of names = absurd cc
-delete_session_there purpose m r d meant at of names = absurd names
+delete_session_there purpose m r d meant at of (is, names) = by m (asked_there purpose DeleteSession m is meant)
+  where
+    by : (m : Message) → is_asked DeleteSession purpose m ≡ true → FitsDeleteSession (about purpose m) d
+    by (Delete_session_request q) told = record { request = q; asked = refl; named = names_there purpose (Delete_session_request q) r d.header d.cause told at of names }
+    by m told = absurd cc
 
 pub delete_session_here : (purpose : Purpose) (m : Message) (r : Response) (d : DeleteSessionResponse) → is_for purpose m ≡ true → d.header ≡ r.header.0 → d.cause ≡ r.cause → FitsDeleteSession (about purpose m) d → FitsDeleteSessionOf purpose r
-delete_session_here (DeleteSession session named) (Delete_session_request q) r d meant at of fits = names_here session.0 d.header q.header d.cause named r meant at of fits.named
-delete_session_here purpose m r d meant at of fits = absurd (let asked = fits.asked in cc)
+delete_session_here purpose m r d meant at of fits =
+    let is = by purpose.asked (asked_here purpose m (Delete_session_request fits.request) fits.asked meant) in
+    (is.0, names_here purpose m r d.header d.cause (told_of purpose m (Delete_session_request fits.request) fits.asked is.1) at of fits.named)
+  where
+    by : (a : Asked) → is_asked a purpose (Delete_session_request fits.request) ≡ true → (a ≡ DeleteSession) × IsTold purpose (Delete_session_request fits.request)
+    by DeleteSession told = (refl, told)
+    by a told = absurd cc
 
 pub delete_bearer_there : (purpose : Purpose) (m : Message) (r : Response) (d : DeleteBearerResponse) → is_for purpose m ≡ true → d.header ≡ r.header.0 → d.cause ≡ r.cause → FitsDeleteBearerOf purpose r → FitsDeleteBearer (about purpose m) d
-delete_bearer_there (ReleaseSession session named) (Delete_bearer_request q) r d meant at of names = record { request = q; asked = refl; named = names_there session.0 d.header q.header d.cause named r meant at of names }
-delete_bearer_there (ReleaseSession session named) m r d meant at of names = absurd cc
-delete_bearer_there (DeleteBearer session bearer named) (Delete_bearer_request q) r d meant at of names = record { request = q; asked = refl; named = names_there session.0 d.header q.header d.cause named r meant at of names }
-delete_bearer_there (DeleteBearer session bearer named) m r d meant at of names = absurd cc
-delete_bearer_there purpose m r d meant at of names = absurd names
+delete_bearer_there purpose m r d meant at of (is, names) = by m (asked_there purpose DeleteBearer m is meant)
+  where
+    by : (m : Message) → is_asked DeleteBearer purpose m ≡ true → FitsDeleteBearer (about purpose m) d
+    by (Delete_bearer_request q) told = record { request = q; asked = refl; named = names_there purpose (Delete_bearer_request q) r d.header d.cause told at of names }
+    by m told = absurd cc
 
 pub delete_bearer_here : (purpose : Purpose) (m : Message) (r : Response) (d : DeleteBearerResponse) → is_for purpose m ≡ true → d.header ≡ r.header.0 → d.cause ≡ r.cause → FitsDeleteBearer (about purpose m) d → FitsDeleteBearerOf purpose r
-delete_bearer_here (ReleaseSession session named) (Delete_bearer_request q) r d meant at of fits = names_here session.0 d.header q.header d.cause named r meant at of fits.named
-delete_bearer_here (DeleteBearer session bearer named) (Delete_bearer_request q) r d meant at of fits = names_here session.0 d.header q.header d.cause named r meant at of fits.named
-delete_bearer_here purpose m r d meant at of fits = absurd (let asked = fits.asked in cc)
+delete_bearer_here purpose m r d meant at of fits =
+    let is = by purpose.asked (asked_here purpose m (Delete_bearer_request fits.request) fits.asked meant) in
+    (is.0, names_here purpose m r d.header d.cause (told_of purpose m (Delete_bearer_request fits.request) fits.asked is.1) at of fits.named)
+  where
+    by : (a : Asked) → is_asked a purpose (Delete_bearer_request fits.request) ≡ true → (a ≡ DeleteBearer) × IsTold purpose (Delete_bearer_request fits.request)
+    by DeleteBearer told = (refl, told)
+    by a told = absurd cc
 
 -- under another name of the number, too
 pub waits_at : (ws : List (Waiting Purpose)) (n k : ℕ) (purpose : Purpose) (w : Waits ws n purpose) → k ≡ n → get (pending_in ws) k ≡ Some (about purpose w.message)

@@ -7,45 +7,54 @@ use Rattle.gtp_machine.specs.declared.message_type.MessageType.{MessageType}
 use Rattle.gtp_machine.specs.declared.message_type.MessageType.TheVariants as types
 use Rattle.gtp_machine.specs.declared.role.Role.{Role}
 use Rattle.gtp_machine.specs.declared.role.Role.TheVariants.{Serving, Packet}
-use Rattle.gtp_machine.specs.Message.{Message}
-use Rattle.gtp_machine.specs.MessageType.{type_at, type_of, is_taker, takes_some, takes_message}
+use Rattle.gtp_machine.specs.Message.{Message, Control, plane_of}
+use Rattle.gtp_machine.specs.MessageType.{type_at, type_of, type_row, is_taker, takes_type, takes_some, takes_message}
 use Rattle.gtp_machine.specs.Decoded.{session_request_in, bearer_request_in, message_by, content_message, message_of}
 
--- What is so of a message that both gateways take, and of one that one of them takes, by what is so of it there.
-module _ (P : Role → Message → Type 0) where
-  pub at_both : (role : Role) (m k : Message) → m ≡ k → P Serving k → P Packet k → P role m
-  at_both Serving m k is serving packet = subst (P Serving) (sym is) serving
-  at_both Packet m k is serving packet = subst (P Packet) (sym is) packet
+-- what is so at each gateway that takes the messages of a type: at both, where none is named
+abbrev pub AtTakers : (Role → Type 0) → Option Role → Type 0
+AtTakers P None = P Serving × P Packet
+AtTakers P (Some taker) = P taker
 
-  pub at_taker : (taker role : Role) (m k : Message) → is_taker role (Some taker) ≡ true → m ≡ k → P taker k → P role m
-  at_taker Serving Serving m k takes is so = subst (P Serving) (sym is) so
-  at_taker Serving Packet m k takes is so = absurd cc
-  at_taker Packet Serving m k takes is so = absurd cc
-  at_taker Packet Packet m k takes is so = subst (P Packet) (sym is) so
+taker_is : (P : Role → Type 0) (role : Role) (taker : Option Role) → is_taker role taker ≡ true → AtTakers P taker → P role
+taker_is P Serving None takes so = so.0
+taker_is P Packet None takes so = so.1
+taker_is P Serving (Some Serving) takes so = so
+taker_is P Packet (Some Packet) takes so = so
+taker_is P role (Some taker) takes so = absurd cc
 
--- a message has the type that its number names, or it is none that gateways take
-abbrev IsOf : Option MessageType → Message → Type 0
-IsOf t m = (type_of m ≡ t) ⊎ (type_of m ≡ None)
+-- what is so of a message at the gateways that take its type is so at a gateway that takes it
+pub at_taker : (P : Role → Message → Type 0) (role : Role) (t u : MessageType) (m k : Message) → takes_type role t ≡ true → t ≡ u → m ≡ k → AtTakers (λ r. P r k) (type_row u).taker → P role m
+at_taker P role t u m k takes same is so = subst (P role) (sym is) (taker_is (λ r. P r k) role (type_row u).taker (ap (takes_type role) (sym same) ∙ takes) so)
+
+-- a message of the control plane has the type that its number names, or it is none that gateways take
+record IsOf (t : Option MessageType) (m : Message) : Type 0 where
+  type : (type_of m ≡ t) ⊎ (type_of m ≡ None)
+  plane : plane_of m ≡ Control
 
 session : (header number : ℕ) (f : List Field) (groups : List (List (List Value))) → IsOf (Some types.CreateSessionRequest) (session_request_in header number f groups)
-session header number f [] = inr refl
-session header number f (g ∷ groups) = inl refl
+session header number f [] = record { type = inr refl; plane = refl }
+session header number f (g ∷ groups) = record { type = inl refl; plane = refl }
 
 bearer : (header number : ℕ) (f : List Field) (groups : List (List (List Value))) → IsOf (Some types.CreateBearerRequest) (bearer_request_in header number f groups)
-bearer header number f [] = inr refl
-bearer header number f (g ∷ groups) = inl refl
+bearer header number f [] = record { type = inr refl; plane = refl }
+bearer header number f (g ∷ groups) = record { type = inl refl; plane = refl }
 
 fields : (t : Option MessageType) (kind header number : ℕ) (f : List Field) → IsOf t (message_by t kind header number f)
 fields (Some types.CreateSessionRequest) kind header number f = session header number f _
 fields (Some types.CreateBearerRequest) kind header number f = bearer header number f _
-fields t kind header number f = inl refl
+fields t kind header number f = record { type = inl refl; plane = refl }
 
 content : (kind header number : ℕ) (c : Content) → IsOf (type_at kind) (content_message kind header number c)
 content kind header number (Fields f) = fields (type_at kind) kind header number f
-content kind header number (Raw octets) = inr refl
+content kind header number (Raw octets) = record { type = inr refl; plane = refl }
 
-pub type_is_of : (m : MessageValue) → IsOf (type_at m.kind) (message_of m)
-type_is_of m = content m.kind _ m.seq m.content
+-- what a message was read as is of the control plane
+pub on_control : (m : MessageValue) → plane_of (message_of m) ≡ Control
+on_control m = (content m.kind _ m.seq m.content).plane
+
+pub type_is_of : (m : MessageValue) → (type_of (message_of m) ≡ type_at m.kind) ⊎ (type_of (message_of m) ≡ None)
+type_is_of m = (content m.kind _ m.seq m.content).type
 
 -- a message of a type that the gateway does not take is not taken
 pub not_taken : (role : Role) (m : MessageValue) → takes_some role (type_at m.kind) ≡ false → takes_message role (message_of m) ≡ false

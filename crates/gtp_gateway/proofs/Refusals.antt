@@ -1,10 +1,9 @@
 -- Commands that are refused, and commands that are not.
-use Rattle.std.proofs.Common.{◌≡◌, ◌↔◌, inl, inr, ℕ, ◌<◌, ◌≤◌, List, [], ◌∷◌, length, Option, None, Some, Result, Err, sym, ◌∙◌, ap, subst, arith}
+use Rattle.std.proofs.Common.{◌≡◌, ℕ, ◌<◌, ◌≤◌, List, [], ◌∷◌, length, Option, None, Some, sym, ◌∙◌, ap, subst, arith}
 use Rattle.std.specs.FinMap.{len, insert}
 use Rattle.gtp_values.specs.declared.qos.Qos.{Qos}
 use Rattle.gtp_reliable.specs.Waiting.{Waiting}
 use Rattle.gtp_reliable.specs.Pending.{AreDistinct}
-use Rattle.gtp_machine.specs.Ordered.{Unless}
 use Rattle.gtp_machine.specs.Node.{Closing, Session, Bearer, PendingRequest, Node, written}
 use Rattle.gtp_machine.specs.Choice.{HasPendingRoom}
 use Rattle.gtp_machine.specs.Message.{Echo_request, Create_session_request, Delete_session_request, Create_bearer_request, Delete_bearer_request}
@@ -12,12 +11,8 @@ use Rattle.gtp_machine.specs.Removal.{session_closing}
 use Rattle.gtp_machine.specs.Command.{ClosesBearer, BeginsSession, session_request, session_begun, ClosesSession, ReleasesSession, BeginsBearer, bearer_request, pending_dedicated, asks, SendsEcho}
 use Rattle.gtp_machine.specs.Input.{Came_to, Specification, Effect, refused}
 use Rattle.gtp_machine.specs.declared.outcome.Refusal.{Refusal}
-use Rattle.gtp_machine.specs.declared.outcome.Refusal.TheVariants.{PendingFull}
 use Rattle.gtp_machine.specs.declared.outcome.Outcome.TheVariants as outcomes
-use Rattle.gtp_gateway.specs.declared.fault.CommandFault.{CommandFault}
-use Rattle.gtp_gateway.specs.declared.fault.CommandFault.TheVariants as faults
 use Rattle.gtp_gateway.specs.declared.command.purpose.Purpose.{Purpose}
-use Rattle.gtp_gateway.specs.declared.sent.Begun.{Begun}
 use Rattle.gtp_gateway.specs.Parts.{pending_in}
 use Rattle.gtp_gateway.proofs.Requests.{len_pending}
 
@@ -35,9 +30,6 @@ asks_on old new number p teid why is = not_begun why teid (ap (λ (e : Effect). 
 pub same_reason : (old : Node) (why other : Refusal) → refused old why ≡ refused old other → why ≡ other
 same_reason old why other is = one_reason why other (ap (λ (e : Effect). e.outcome) is)
 
-at_least : (n m : ℕ) → (n < m → ⊥) → m ≤ n
-at_least n m not = omega (arith, not)
-
 module _ (old : Node) (ws : List (Waiting Purpose)) (distinct : AreDistinct ws) (same : old.pending ≡ pending_in ws) where
   count : ◌≡◌ {A = ℕ} (len old.pending) (length ws)
   count = ap len same ∙ len_pending ws distinct
@@ -47,23 +39,6 @@ module _ (old : Node) (ws : List (Waiting Purpose)) (distinct : AreDistinct ws) 
 
   pub has_none : 256 ≤ length ws → HasPendingRoom old → ⊥
   has_none many room = let few : length ws < 256 = subst (λ (n : ℕ). n < 256) count room.few in omega (arith, few, many)
-
-  pub is_full : (HasPendingRoom old → ⊥) → 256 ≤ length ws
-  is_full none = at_least (length ws) 256 (λ few. none (has_room few))
-
-  -- the last refusal of a command that sends a request: 256 are pending
-  pub last_refused : (r : Result Begun CommandFault) (Asks : Effect → Type 0) → ((why : Refusal) → Asks (refused old why) → ⊥) → (r ≡ Err (faults.Refused PendingFull)) ↔ (256 ≤ length ws) → ((why : Refusal) → r ≡ Err (faults.Refused why) → why ≡ PendingFull)
-      → (why : Refusal) → (r ≡ Err (faults.Refused why)) ↔ Unless (HasPendingRoom old) (refused old why ≡ refused old PendingFull) (λ few. Asks (refused old why))
-  last_refused r Asks goes_on full only why = (there, back)
-    where
-      there : r ≡ Err (faults.Refused why) → Unless (HasPendingRoom old) (refused old why ≡ refused old PendingFull) (λ few. Asks (refused old why))
-      there is =
-          let one : why ≡ PendingFull = only why is in
-          inl (has_none (full.0 (is ∙ ap (λ (x : Refusal). Err (faults.Refused x)) one)), ap (refused old) one)
-
-      back : Unless (HasPendingRoom old) (refused old why ≡ refused old PendingFull) (λ few. Asks (refused old why)) → r ≡ Err (faults.Refused why)
-      back (inl none) = full.1 (is_full none.0) ∙ ap (λ (x : Refusal). Err (faults.Refused x)) (sym (same_reason old why PendingFull none.1))
-      back (inr asks) = absurd (goes_on why asks.1)
 
 pub echo_goes_on : (old : Node) (why : Refusal) → SendsEcho old (refused old why) → ⊥
 echo_goes_on old why sends = asks_on old old sends.number (record { session = None; bearer = None; request = Echo_request (record { number = sends.number; recovery = old.counter }) }) None why sends.gives

@@ -1,55 +1,50 @@
--- Commands that ask the peer for something, by their last rule.
-use Rattle.std.proofs.Common.{◌≡◌, ◌↔◌, inl, inr, ℕ, Bool, true, false, Some, refl, ◌∙◌}
-use Rattle.std.specs.Prelude.{◌==◌, ◌&&◌, not}
+-- Requests that commands send, and the last rule of a command.
+use Rattle.std.proofs.Common.{◌≡◌, ◌↔◌, inl, inr, Bool, true, false, Result, Ok, Err, refl, sym, ◌∙◌, ap}
 use Rattle.std.specs.Bool.{beq}
-use Rattle.gtp_values.proofs.Tests.{itself}
+use Rattle.std.specs.Prelude.{IsErrAnd}
 use Rattle.gtp_machine.specs.Ordered.{Unless}
-use Rattle.gtp_machine.specs.Node.{Node, written}
-use Rattle.gtp_machine.specs.Input.{refused}
+use Rattle.gtp_machine.specs.Choice.{HasPendingRoom}
+use Rattle.gtp_machine.specs.Input.{Effect, refused}
 use Rattle.gtp_machine.specs.declared.outcome.Refusal.{Refusal}
-use Rattle.gtp_gateway.specs.declared.command.request.RequestToSend.{RequestToSend}
-use Rattle.gtp_gateway.specs.declared.command.request.RequestToSend.TheVariants.{Echo, CreateSession, DeleteSession, ReleaseSession, CreateBearer, DeleteBearer}
-use Rattle.gtp_gateway.specs.command.SendRequest.{about}
-use Rattle.gtp_gateway.specs.command.Command.{request_number}
-use Rattle.gtp_gateway.specs.tables.Change.{changed_by}
-use Rattle.gtp_gateway.specs.messages.Spelled.{is_for}
-use Rattle.gtp_gateway.specs.command.Request.{request_of, purpose_of, change_of, teid_of, AsksFor}
-use Rattle.gtp_gateway.proofs.Refusals.{asks_on}
+use Rattle.gtp_machine.specs.declared.outcome.Refusal.TheVariants.{PendingFull}
+use Rattle.gtp_gateway.specs.declared.fault.CommandFault.{CommandFault}
+use Rattle.gtp_gateway.specs.declared.fault.CommandFault.TheVariants.{Refused, Memory}
+use Rattle.gtp_gateway.specs.declared.sent.Begun.{Begun}
+use Rattle.gtp_gateway.specs.command.Command.{IsLastRefused}
+use Rattle.gtp_gateway.specs.GatewayState.{GatewayState}
+use Rattle.gtp_gateway.proofs.Refusals.{same_reason}
 
-test_itself : (b : Bool) → beq b b ≡ true
+-- a purpose tells of the header what the request has
+pub test_itself : (b : Bool) → beq b b ≡ true
 test_itself true = refl
 test_itself false = refl
 
--- the request is one that is sent for the purpose
-pub meant : (to_send : RequestToSend) (number : _) (old : Node) → is_for (purpose_of to_send) (request_of to_send number old) ≡ true
-meant Echo number old = refl
-meant (CreateSession drawn spec) number old = (λ i. itself drawn.control.0 i && (itself drawn.user.0 i && true))
-meant (DeleteSession teid session) number old = test_itself _
-meant (ReleaseSession teid session) number old = test_itself _
-meant (CreateBearer drawn session of tft qos) number old = (λ i. (itself drawn.teid.0 i) && beq (not (written of.remote == 0)) (not (written of.remote == 0))) ∙ test_itself _
-meant (DeleteBearer teid bearer session of identity) number old = test_itself _
+-- where fewer than 256 are pending, nothing is refused by the last rule
+module _ {A : Type 0} (s : GatewayState) (room : HasPendingRoom s.node) where
+  pub begun : (x : A) → IsLastRefused s (Ok x)
+  begun x why = (λ is. absurd cc, λ full. absurd (full.0 room))
 
--- the request has the number
-pub numbered : (to_send : RequestToSend) (number : ℕ) (old : Node) → request_number (request_of to_send number old) ≡ Some number
-numbered Echo number old = refl
-numbered (CreateSession drawn spec) number old = refl
-numbered (DeleteSession teid session) number old = refl
-numbered (ReleaseSession teid session) number old = refl
-numbered (CreateBearer drawn session of tft qos) number old = refl
-numbered (DeleteBearer teid bearer session of identity) number old = refl
+  pub no_memory : (r : Result A CommandFault) → IsErrAnd r (λ e. e ≡ Memory) → IsLastRefused s r
+  no_memory (Ok x) is = absurd is
+  no_memory (Err e) is = λ why. (λ told. absurd cc, λ full. absurd (full.0 room))
 
--- what asks is not refused
-pub to_send_goes_on : (to_send : RequestToSend) (old : Node) (why : Refusal) → AsksFor to_send old (refused old why) → ⊥
-to_send_goes_on to_send old why asks = asks_on old (changed_by (change_of to_send) old) asks.number (about (purpose_of to_send) (request_of to_send asks.number old)) (teid_of to_send) why asks.gives
+-- and where 256 are, that is why
+pub full : {A : Type 0} (s : GatewayState) → (HasPendingRoom s.node → ⊥) → IsLastRefused {A = A} s (Err (Refused PendingFull))
+full s none why = (λ is. let one : why ≡ PendingFull = cc in (none, one), λ is. ap (λ (x : Refusal). Err (Refused x)) (sym is.1))
 
--- one last rule in the place of another, where neither is a refusal
-pub in_place : {T X R : Type 0} {A B : R → Type 0} → ((r : R) → A r → ⊥) → ((r : R) → B r → ⊥) → T ↔ Unless R X A → T ↔ Unless R X B
-in_place {T} {X} {R} {A} {B} no_a no_b is = (λ t. there (is.0 t), λ u. is.1 (back u))
+-- the error of the number is the error of the command
+pub as_err : {A B : Type 0} (s : GatewayState) (f : CommandFault) (r : Result B CommandFault) → IsErrAnd r (λ e. e ≡ f) → IsLastRefused {A = A} s (Err f) → IsLastRefused s r
+as_err s f (Ok x) is rule = absurd is
+as_err s f (Err e) is rule = λ why. (
+  λ told. (rule why).0 (let one : f ≡ Refused why = cc in ap (λ (x : CommandFault). Err x) one),
+  λ none. let one : f ≡ Refused why = (let so = (rule why).1 none in cc) in ap (λ (x : CommandFault). Err x) (is ∙ one),
+)
+
+-- the last rule of a command, where what is asked for is no refusal
+pub last : (s : GatewayState) (r : Result Begun CommandFault) (Asks : Effect → Type 0) (why : Refusal) → IsLastRefused s r → (Asks (refused s.node why) → ⊥)
+    → (r ≡ Err (Refused why)) ↔ Unless (HasPendingRoom s.node) (refused s.node why ≡ refused s.node PendingFull) (λ few. Asks (refused s.node why))
+last s r Asks why rule asks_on = (λ told. let full = (rule why).0 told in inl (full.0, ap (refused s.node) full.1), back)
   where
-    there : Unless R X A → Unless R X B
-    there (inl none) = inl none
-    there (inr asks) = absurd (no_a asks.0 asks.1)
-
-    back : Unless R X B → Unless R X A
-    back (inl none) = inl none
-    back (inr asks) = absurd (no_b asks.0 asks.1)
+    back : Unless (HasPendingRoom s.node) (refused s.node why ≡ refused s.node PendingFull) (λ few. Asks (refused s.node why)) → r ≡ Err (Refused why)
+    back (inl none) = (rule why).1 (none.0, same_reason s.node why PendingFull none.1)
+    back (inr asks) = absurd (asks_on asks.1)

@@ -22,10 +22,11 @@ use Rattle.gtp_machine.specs.Spelling.{datagram_of, spelled}
 use Rattle.gtp_machine.specs.Tick.{TickStep, joined}
 use Rattle.gtp_machine.proofs.Basics.Counting.{tied}
 use Rattle.gtp_gateway.specs.declared.command.purpose.Purpose.{Purpose}
-use Rattle.gtp_gateway.specs.declared.command.purpose.Purpose.TheVariants.{Echo, CreateSession, DeleteSession, ReleaseSession, CreateBearer, DeleteBearer}
+use Rattle.gtp_gateway.specs.declared.command.purpose.Asked.{Asked}
+use Rattle.gtp_gateway.specs.declared.command.purpose.Asked.TheVariants.{Echo, CreateSession, DeleteSession, CreateBearer, DeleteBearer}
 use Rattle.gtp_gateway.specs.Parts.{pending_of, pending_in}
 use Rattle.gtp_gateway.specs.messages.Sent.{ReadsBack, SendingReads}
-use Rattle.gtp_gateway.specs.messages.Spelled.{message_in, is_for, IsAsked, AreAsked}
+use Rattle.gtp_gateway.specs.messages.Spelled.{message_in, is_asked, is_for, IsAsked, AreAsked}
 use Rattle.gtp_gateway.specs.Tick.{datagram_again}
 use Rattle.gtp_gateway.proofs.Requests.{not_found}
 use Rattle.gtp_gateway.proofs.Taking.{kept_back}
@@ -107,18 +108,15 @@ resending node t3 n3 ws moves rest new pending distinct tick = moves_each node (
 
 -- requests are messages of the control plane
 on_control : (purpose : Purpose) (m : Message) → is_for purpose m ≡ true → plane_of m ≡ Control
-on_control Echo (Echo_request q) is = refl
-on_control Echo m is = absurd cc
-on_control (CreateSession session bearer) (Create_session_request q) is = refl
-on_control (CreateSession session bearer) m is = absurd cc
-on_control (DeleteSession session named) (Delete_session_request q) is = refl
-on_control (DeleteSession session named) m is = absurd cc
-on_control (ReleaseSession session named) (Delete_bearer_request q) is = refl
-on_control (ReleaseSession session named) m is = absurd cc
-on_control (CreateBearer session bearer named) (Create_bearer_request q) is = refl
-on_control (CreateBearer session bearer named) m is = absurd cc
-on_control (DeleteBearer session bearer named) (Delete_bearer_request q) is = refl
-on_control (DeleteBearer session bearer named) m is = absurd cc
+on_control purpose m is = by purpose.asked m is
+  where
+    by : (a : Asked) (m : Message) → is_asked a purpose m ≡ true → plane_of m ≡ Control
+    by Echo (Echo_request q) is = refl
+    by (CreateSession default) (Create_session_request q) is = refl
+    by DeleteSession (Delete_session_request d) is = refl
+    by CreateBearer (Create_bearer_request r) is = refl
+    by DeleteBearer (Delete_bearer_request d) is = refl
+    by a m is = absurd cc
 
 asked_there : (peer : Ip) (ws : List (Waiting Purpose)) (w : Waiting Purpose) → AllByRecursion (IsAsked peer) ws → Among w ws → IsAsked peer w
 asked_there peer [] w each among = absurd among

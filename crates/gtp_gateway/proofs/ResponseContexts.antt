@@ -1,5 +1,5 @@
 -- Bearer contexts of responses, by their elements.
-use Rattle.std.proofs.Common.{◌≡◌, inl, inr, List, [], ◌∷◌, map, true, Option, Some, None, refl, sym, ◌∙◌, ap, subst}
+use Rattle.std.proofs.Common.{arith, ◌≡◌, inl, inr, List, [], ◌∷◌, map, true, Option, Some, None, refl, sym, ◌∙◌, ap, subst}
 use Rattle.std.specs.Prelude.{option_to_list, is_some, IsSomeAnd}
 use Rattle.gtp_ie.specs.Element.{Element}
 use Rattle.gtp_ie.specs.Value.{Value}
@@ -46,9 +46,8 @@ has_cause others es has = cause_there (optional_at 73 0 es) (optional_at 2 0 es)
 
 -- a bearer context whose first two rows are needed
 pub group_has : (Rest : List Value → List Value → Group → Type 0) (es : List Element) (all : Group) → First_and_others (One 73 0 es) (λ identity. First_and_others (One 2 0 es) (Rest identity)) all → HasCause all
-group_has Rest es [] are = absurd are
-group_has Rest es (a ∷ []) are = absurd are.1
 group_has Rest es (a ∷ b ∷ all) are = record { identity = are.0.0; cause = are.1.0.0; others = all; is = λ i. are.0.2 i ∷ are.1.0.2 i ∷ all }
+group_has Rest es all are = absurd (grind arith)
 
 -- so each bearer context has an identity and a cause
 pub each_group : {Is : Element → Group → Type 0} → ((e : Element) (g : Group) → Is e g → HasCause g) → (es : List Element) (groups : List Group) → EachIs Is es groups → (g : Group) → Among g groups → HasCause g

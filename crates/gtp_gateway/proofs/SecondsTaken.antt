@@ -33,8 +33,9 @@ use Rattle.gtp_gateway.specs.receive.Row.{IsRow}
 use Rattle.gtp_gateway.specs.messages.Sent.{datagram_by, AreSent}
 use Rattle.gtp_gateway.specs.GatewayState.{GatewayState}
 use Rattle.gtp_gateway.specs.receive.Taken.{plain_report, IsTakenAs, IsSentAgain}
-use Rattle.gtp_gateway.proofs.CreateBearerRequests.{takes_bearer_request}
-use Rattle.gtp_gateway.proofs.Allocations.{needs_bearer, message_needs, repeated_needs, create_bearer_asked}
+use Rattle.gtp_gateway.proofs.Procedures.{at_taker}
+use Rattle.gtp_machine.specs.Step.{TakesBy}
+use Rattle.gtp_gateway.proofs.Allocations.{needs_by, message_needs, repeated_needs, create_bearer_asked}
 use Rattle.gtp_gateway.proofs.Rows.{ends, message_taken}
 use Rattle.gtp_gateway.proofs.CreateSessionRequests.{none_above}
 use Rattle.gtp_gateway.proofs.Taking.{by_role}
@@ -88,7 +89,7 @@ module _ (source : Endpoint) (octets : List ℕ) (q : CreateBearerRequest) (old 
       let t = row.tells in
       record {
         effect = row.effect;
-        takes = message_taken old.role old.node request message row.effect peer fresh takes_it (takes_bearer_request old.role request q message has_it refl old.node row.effect row.takes);
+        takes = message_taken old.role old.node request message row.effect peer fresh takes_it (at_taker (λ r k. TakesBy r request k old.node row.effect) old.role types.CreateBearerRequest types.CreateBearerRequest message message has_it refl refl row.takes);
         tells = record {
           sent = t.sent;
           outcome = t.outcome;
@@ -110,7 +111,7 @@ module _ (source : Endpoint) (octets : List ℕ) (q : CreateBearerRequest) (old 
   -- where it is answered, something is sent
   pub answer_needs : (made : Bool) (m : Message) (cause : ℕ) (left : Node) → HasHeldRoom old.node → BearerJudged request q old.node (answering made request (m ∷ []) cause left) → StepSendsOrOpens request (Control_message message) old
   answer_needs made m cause left room judged =
-      message_needs request old message None peer takes_it refl (λ early. early) (needs_bearer old.role request message old.node q has_it refl (create_bearer_asked request q old.node made m cause left room judged))
+      message_needs request old message None peer takes_it refl (λ early. early) (needs_by old.role request message old.node types.CreateBearerRequest types.CreateBearerRequest message has_it refl refl (create_bearer_asked request q old.node made m cause left room judged))
 
   pub again_needs : (ps : List HeldPair) → old.node.held ≡ map held_of ps → IsHeld source octets ps → StepSendsOrOpens request (Control_message message) old
   again_needs ps is held =

@@ -1,5 +1,5 @@
 -- The node that a gateway stands for.
-use Rattle.std.specs.Prelude.{ℕ, List, map, Option, Some, None}
+use Rattle.std.specs.Prelude.{ℕ, List, map}
 use Rattle.std.specs.FinMap.{from_entries}
 use Rattle.gtp_values.specs.FiniteMap.{FiniteMap}
 use Rattle.gtp_values.specs.declared.address.Endpoint.{Endpoint}
@@ -8,27 +8,9 @@ use Rattle.gtp_reliable.specs.Waiting.{Waiting}
 use Rattle.gtp_reliable.specs.Held.{HeldPair}
 use Rattle.gtp_machine.specs.Node.{PendingRequest, Arrival, Held, Node}
 use Rattle.gtp_gateway.specs.declared.command.purpose.Purpose.{Purpose}
-use Rattle.gtp_gateway.specs.declared.command.purpose.Purpose.TheVariants.{Echo, CreateSession, DeleteSession, ReleaseSession, CreateBearer, DeleteBearer}
 use Rattle.gtp_gateway.specs.declared.parts.Parts.{Parts}
+use Rattle.gtp_gateway.specs.command.Purpose.{session_of, bearer_of}
 use Rattle.gtp_gateway.specs.messages.Spelled.{message_in, messages_in}
-
--- the session that a request is about
-abbrev pub session_of : Purpose → Option ℕ
-session_of Echo = None
-session_of (CreateSession session bearer) = Some session.0
-session_of (DeleteSession session named) = Some session.0
-session_of (ReleaseSession session named) = Some session.0
-session_of (CreateBearer session bearer named) = Some session.0
-session_of (DeleteBearer session bearer named) = Some session.0
-
--- the bearer that it is about, where it is not about a whole session
-abbrev pub bearer_of : Purpose → Option ℕ
-bearer_of Echo = None
-bearer_of (CreateSession session bearer) = None
-bearer_of (DeleteSession session named) = None
-bearer_of (ReleaseSession session named) = None
-bearer_of (CreateBearer session bearer named) = Some bearer.0
-bearer_of (DeleteBearer session bearer named) = Some bearer.0
 
 -- a request that waits, under its sequence number
 abbrev pub pending_of : Waiting Purpose → ℕ × PendingRequest

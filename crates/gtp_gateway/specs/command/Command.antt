@@ -1,14 +1,14 @@
 -- Commands that were carried out, and commands that were refused.
 use Rattle.std.specs.Prelude.{◌≡◌, ◌↔◌, ℕ, [], ◌∷◌, Option, Some, None, option_map, Result, Err}
 use Rattle.gtp_reliable.specs.Pending.{IsNextFree}
-use Rattle.gtp_machine.specs.Ordered.{Unless}
 use Rattle.gtp_machine.specs.Choice.{HasPendingRoom}
 use Rattle.gtp_machine.specs.declared.outcome.Refusal.TheVariants.{PendingFull}
 use Rattle.gtp_machine.specs.Input.{Came_to, Command, Mark_end, Send_user, Commanded, Effect, refused}
 use Rattle.gtp_machine.specs.declared.outcome.Refusal.{Refusal}
 use Rattle.gtp_machine.specs.declared.outcome.Outcome.{Outcome}
 use Rattle.gtp_machine.specs.declared.outcome.Outcome.TheVariants as outcomes
-use Rattle.gtp_machine.specs.Message.{Message, Echo_request, Create_session_request, Delete_session_request, Create_bearer_request, Delete_bearer_request}
+use Rattle.gtp_machine.specs.Message.{Message, Echo_request, Create_session_request, Delete_session_request}
+use Rattle.gtp_machine.specs.Message.{Create_bearer_request, Delete_bearer_request}
 use Rattle.gtp_machine.specs.Step.{Step}
 use Rattle.gtp_gateway.specs.declared.fault.CommandFault.{CommandFault}
 use Rattle.gtp_gateway.specs.declared.fault.CommandFault.TheVariants.{Refused}
@@ -55,11 +55,12 @@ pub record SendsRequestNext (old : GatewayState) (begun : Begun) (new : GatewayS
 
 -- a command is refused so exactly where the machine refuses it so
 abbrev pub IsRefusedWhere : Command → GatewayState → Result Begun CommandFault → Type 0
-IsRefusedWhere command old result = (why : Refusal) → (result ≡ Err (Refused why)) ↔ Step old.role old.node (Commanded command) (refused old.node why)
+IsRefusedWhere command old result =
+    (why : Refusal) → (result ≡ Err (Refused why)) ↔ Step old.role old.node (Commanded command) (refused old.node why)
 
--- the last rule of a command that sends a request: it is refused where 256 are pending, and else the request is sent
-abbrev pub IsLastRefused : (Effect → Type 0) → GatewayState → Result Begun CommandFault → Type 0
-IsLastRefused Asks old result = (why : Refusal) → (result ≡ Err (Refused why)) ↔ Unless (HasPendingRoom old.node) (refused old.node why ≡ refused old.node PendingFull) (λ few. Asks (refused old.node why))
+-- the last rule of a command that sends a request: it is refused where 256 are pending, and for nothing else
+abbrev pub IsLastRefused : {A : Type 0} → GatewayState → Result A CommandFault → Type 0
+IsLastRefused old result = (why : Refusal) → (result ≡ Err (Refused why)) ↔ ((HasPendingRoom old.node → ⊥) × (why ≡ PendingFull))
 
 -- a request was sent, by the last rule of its command
 pub record IsAsked (Asks : Effect → Type 0) (old : GatewayState) (begun : Begun) (new : GatewayState) : Type 0 where

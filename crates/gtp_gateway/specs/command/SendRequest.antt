@@ -9,7 +9,7 @@ use Rattle.gtp_machine.specs.Node.{PendingRequest, Node}
 use Rattle.gtp_gateway.specs.declared.tables.change.Change.{Change}
 use Rattle.gtp_gateway.specs.declared.command.purpose.Purpose.{Purpose}
 use Rattle.gtp_gateway.specs.tables.Change.{changed_by}
-use Rattle.gtp_gateway.specs.Parts.{session_of, bearer_of}
+use Rattle.gtp_gateway.specs.command.Purpose.{session_of, bearer_of}
 use Rattle.gtp_gateway.specs.GatewayState.{Queues}
 
 -- a request that waits, with what it is about

@@ -1,5 +1,5 @@
 -- Messages kept as the octets that were sent for them.
-use Rattle.std.specs.Prelude.{◌≡◌, ◌==◌, ◌&&◌, not, ℕ, Bool, true, false, List, [], ◌∷◌, length, All}
+use Rattle.std.specs.Prelude.{◌≡◌, ◌==◌, ◌&&◌, not, ℕ, Bool, true, false, List, [], ◌∷◌, length, All, is_some}
 use Rattle.std.specs.Bool.{beq}
 use Rattle.gtp_values.specs.declared.address.Ip.{Ip}
 use Rattle.gtp_reliable.specs.Waiting.{Waiting}
@@ -9,10 +9,13 @@ use Rattle.gtp_machine.specs.Config.{control_end}
 use Rattle.gtp_machine.specs.Message.{Message, Other_control, Echo_request, Create_session_request, Delete_session_request, Create_bearer_request, Delete_bearer_request}
 use Rattle.gtp_machine.specs.Input.{ControlReading, Control_message, Faulty, Control_fault}
 use Rattle.gtp_machine.specs.Reading.{announces, control_reading, ControlReads, DatagramReading, Alone, Both, datagram_reading, DatagramReads, reading_of}
+use Rattle.gtp_machine.specs.Removal.{on}
 use Rattle.gtp_machine.specs.Spelling.{spelled, spelled_all}
 use Rattle.gtp_gateway.specs.receive.TwoMessages.{first_length}
 use Rattle.gtp_gateway.specs.declared.command.purpose.Purpose.{Purpose}
-use Rattle.gtp_gateway.specs.declared.command.purpose.Purpose.TheVariants.{Echo, CreateSession, DeleteSession, ReleaseSession, CreateBearer, DeleteBearer}
+use Rattle.gtp_gateway.specs.declared.command.purpose.Asked.{Asked}
+use Rattle.gtp_gateway.specs.declared.command.purpose.Asked.TheVariants.{Echo, CreateSession, DeleteSession, CreateBearer, DeleteBearer}
+use Rattle.gtp_gateway.specs.command.Purpose.{session_of, bearer_of}
 
 -- the message that was read; where there is none, one of a type that is none
 abbrev pub message_read : ControlReading → Message
@@ -57,15 +60,21 @@ pub record AreSpelledAll (octets : List ℕ) : Type 0 where
   pub read : DatagramReads octets (reading_of (messages_in octets))
   pub apart : LieApart (messages_in octets)
 
--- the request is one that is sent for the purpose; a purpose tells whether a TEID stood in the header, and in that of a Create Session Request none did
+-- whether a request asks for this and is about what the purpose says; a purpose tells whether a TEID stood in the header, and in that
+-- of a Create Session Request none did
+abbrev pub is_asked : Asked → Purpose → Message → Bool
+is_asked Echo purpose (Echo_request q) = true
+is_asked (CreateSession default) purpose (Create_session_request q) =
+    on (λ t. q.control.teid == t) (session_of purpose) && ((q.context.user.teid == default.0) && ((q.header == 0) && not (is_some purpose.bearer)))
+is_asked DeleteSession purpose (Delete_session_request d) = beq purpose.is_named (not (d.header == 0))
+is_asked CreateBearer purpose (Create_bearer_request r) =
+    on (λ t. r.context.user.teid == t) (bearer_of purpose) && beq purpose.is_named (not (r.header == 0))
+is_asked DeleteBearer purpose (Delete_bearer_request d) = beq purpose.is_named (not (d.header == 0))
+is_asked asked purpose m = false
+
+-- the request is one that is sent for the purpose
 abbrev pub is_for : Purpose → Message → Bool
-is_for Echo (Echo_request q) = true
-is_for (CreateSession session bearer) (Create_session_request q) = (q.control.teid == session.0) && ((q.context.user.teid == bearer.0) && (q.header == 0))
-is_for (DeleteSession session named) (Delete_session_request d) = beq named (not (d.header == 0))
-is_for (ReleaseSession session named) (Delete_bearer_request d) = beq named (not (d.header == 0))
-is_for (CreateBearer session bearer named) (Create_bearer_request r) = (r.context.user.teid == bearer.0) && beq named (not (r.header == 0))
-is_for (DeleteBearer session bearer named) (Delete_bearer_request d) = beq named (not (d.header == 0))
-is_for purpose m = false
+is_for purpose m = is_asked purpose.asked purpose m
 
 -- a request that waits went to the peer, as it is spelled, for its purpose
 pub record IsAsked (peer : Ip) (w : Waiting Purpose) : Type 0 where

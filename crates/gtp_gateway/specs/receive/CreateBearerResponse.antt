@@ -1,5 +1,5 @@
 -- Create Bearer Responses that the packet gateway gets.
-use Rattle.std.specs.Prelude.{◌≡◌, ◌≢◌, ℕ, Bool, List, [], ◌∷◌, Option, Some, None}
+use Rattle.std.specs.Prelude.{◌≡◌, ◌≢◌, ℕ, List, [], ◌∷◌, Option, Some, None, IsSome}
 use Rattle.std.specs.FinMap.{get}
 use Rattle.gtp_values.specs.Ebi.{IsEbi}
 use Rattle.gtp_values.specs.FiniteMap.{FiniteMap}
@@ -16,12 +16,13 @@ use Rattle.gtp_gateway.specs.declared.receive.create_bearer_response.BearerRespo
 use Rattle.gtp_gateway.specs.declared.receive.response_context.ResponseContext.{ResponseContext}
 use Rattle.gtp_gateway.specs.declared.receive.restart_counter.Heard.{Heard}
 use Rattle.gtp_gateway.specs.declared.command.purpose.Purpose.{Purpose}
-use Rattle.gtp_gateway.specs.declared.command.purpose.Purpose.TheVariants.{CreateBearer}
+use Rattle.gtp_gateway.specs.declared.command.purpose.Asked.TheVariants.{CreateBearer}
 use Rattle.gtp_gateway.specs.declared.receive.response.Response.{Response}
 use Rattle.gtp_gateway.specs.declared.tables.opening.ResponseVerdict.{ResponseVerdict}
 use Rattle.gtp_gateway.specs.declared.step.ControlStep.{ControlStep}
 use Rattle.gtp_gateway.specs.receive.RestartCounter.{node_heard}
 use Rattle.gtp_gateway.specs.receive.Response.{Names}
+use Rattle.gtp_gateway.specs.command.Purpose.{session_of, bearer_of}
 use Rattle.gtp_gateway.specs.receive.Row.{IsRow}
 use Rattle.gtp_gateway.specs.tables.Opening.{effect_by, CanApply}
 use Rattle.gtp_gateway.specs.GatewayState.{GatewayState}
@@ -52,15 +53,18 @@ pub record ReadsCreateBearerResponse (m : MessageValue) (r : BearerResponse) : T
   pub says : SaysCreateBearerResponse r response
 
 -- the request is a Create Bearer Request for the session that the response names
-abbrev pub FitsCreateBearerOf : Purpose → Response → Type 0
-FitsCreateBearerOf (CreateBearer session bearer named) r = Names r session.0 named
-FitsCreateBearerOf purpose r = ⊥
+pub record FitsCreateBearerOf (purpose : Purpose) (r : Response) : Type 0 where
+  pub asked : purpose.asked ≡ CreateBearer
+  pub names : Names r purpose
+  pub session : IsSome purpose.session
+  pub bearer : IsSome purpose.bearer
 
 -- the request asks for this bearer of this session, which the response names
 pub record IsAskedBearer (purpose : Purpose) (r : Response) (k : AskedBearer) : Type 0 where
-  pub named : Bool
-  pub is : purpose ≡ CreateBearer k.session k.bearer named
-  pub names : Names r k.session.0 named
+  pub asked : purpose.asked ≡ CreateBearer
+  pub names : Names r purpose
+  pub session : session_of purpose ≡ Some k.session.0
+  pub bearer : bearer_of purpose ≡ Some k.bearer.0
 
 -- the identity is 5 to 15 and not in use in the session, which stands and is not closing
 pub record CanOpenIn (sessions : FiniteMap Session) (bearers : FiniteMap Bearer) (session identity : ℕ) : Type 0 where

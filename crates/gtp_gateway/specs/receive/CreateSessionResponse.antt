@@ -2,6 +2,7 @@
 use Rattle.std.specs.Prelude.{◌≡◌, ℕ, List, [], ◌∷◌, Option, Some, None}
 use Rattle.std.specs.FinMap.{get}
 use Rattle.gtp_values.specs.FiniteMap.{FiniteMap}
+use Rattle.gtp_values.specs.declared.identifiers.Teid.{Teid}
 use Rattle.gtp_v2.specs.Message.{MessageValue}
 use Rattle.gtp_machine.specs.Decoded.{message_of}
 use Rattle.gtp_machine.specs.Element.{address_of, teid_in}
@@ -13,7 +14,7 @@ use Rattle.gtp_machine.specs.Serving.{CreateSessionAnswered}
 use Rattle.gtp_gateway.specs.declared.receive.response_context.ResponseContext.{ResponseContext}
 use Rattle.gtp_gateway.specs.declared.receive.restart_counter.Heard.{Heard}
 use Rattle.gtp_gateway.specs.declared.command.purpose.Purpose.{Purpose}
-use Rattle.gtp_gateway.specs.declared.command.purpose.Purpose.TheVariants.{CreateSession}
+use Rattle.gtp_gateway.specs.declared.command.purpose.Asked.TheVariants.{CreateSession}
 use Rattle.gtp_gateway.specs.declared.receive.response.Response.{Response}
 use Rattle.gtp_gateway.specs.declared.receive.create_session_response.AskedSession.{AskedSession}
 use Rattle.gtp_gateway.specs.declared.receive.create_session_response.DescribedSession.{DescribedSession}
@@ -22,7 +23,7 @@ use Rattle.gtp_gateway.specs.declared.tables.opening.ResponseVerdict.{ResponseVe
 use Rattle.gtp_gateway.specs.declared.tables.opening.ResponseVerdict.TheVariants.{Drops, Finishes, OpensSession, OpensBearer}
 use Rattle.gtp_gateway.specs.declared.step.ControlStep.{ControlStep}
 use Rattle.gtp_gateway.specs.receive.RestartCounter.{node_heard, IsEarlier}
-use Rattle.gtp_gateway.specs.Parts.{bearer_of}
+use Rattle.gtp_gateway.specs.command.Purpose.{session_of, bearer_of}
 use Rattle.gtp_gateway.specs.receive.Row.{IsRow}
 use Rattle.gtp_gateway.specs.tables.Opening.{effect_by, CanApply}
 use Rattle.gtp_gateway.specs.GatewayState.{GatewayState}
@@ -54,13 +55,15 @@ pub record ReadsCreateSessionResponse (m : MessageValue) (r : SessionResponse) :
   pub says : SaysCreateSessionResponse r response
 
 -- the request is a Create Session Request for the session that the response names
-abbrev pub FitsCreateSessionOf : Purpose → Response → Type 0
-FitsCreateSessionOf (CreateSession session bearer) r = session.0 ≡ r.header.0
-FitsCreateSessionOf purpose r = ⊥
+pub record FitsCreateSessionOf (purpose : Purpose) (r : Response) : Type 0 where
+  pub default : Teid
+  pub asked : purpose.asked ≡ CreateSession default
+  pub named : session_of purpose ≡ Some r.header.0
 
 -- the request asks for this session, which the response names
 pub record IsAskedSession (purpose : Purpose) (r : Response) (k : AskedSession) : Type 0 where
-  pub is : purpose ≡ CreateSession k.session k.bearer
+  pub asked : purpose.asked ≡ CreateSession k.bearer
+  pub session : session_of purpose ≡ Some k.session.0
   pub named : k.session.0 ≡ r.header.0
 
 -- the session stands, and the response has one bearer context, of its default identity, and an address

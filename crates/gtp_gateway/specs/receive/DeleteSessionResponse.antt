@@ -4,7 +4,7 @@ use Rattle.gtp_machine.specs.Message as messages
 use Rattle.gtp_machine.specs.Serving.{DeleteSessionAnswered}
 use Rattle.gtp_machine.specs.Node.{Arrival}
 use Rattle.gtp_gateway.specs.declared.command.purpose.Purpose.{Purpose}
-use Rattle.gtp_gateway.specs.declared.command.purpose.Purpose.TheVariants.{DeleteSession}
+use Rattle.gtp_gateway.specs.declared.command.purpose.Asked.TheVariants.{DeleteSession}
 use Rattle.gtp_gateway.specs.declared.receive.response.Response.{Response}
 use Rattle.gtp_gateway.specs.declared.step.ControlStep.{ControlStep}
 use Rattle.gtp_gateway.specs.GatewayState.{GatewayState}
@@ -13,9 +13,10 @@ use Rattle.gtp_gateway.specs.receive.Response.{Names}
 
 -- the request is a Delete Session Request for the session that the response names
 abbrev pub FitsDeleteSessionOf : Purpose → Response → Type 0
-FitsDeleteSessionOf (DeleteSession session named) r = Names r session.0 named
-FitsDeleteSessionOf purpose r = ⊥
+FitsDeleteSessionOf purpose r = (purpose.asked ≡ DeleteSession) × Names r purpose
 
 -- a Delete Session Response was taken
 abbrev pub TakesDeleteSessionResponse : Response → GatewayState → ControlStep → GatewayState → Type 0
-TakesDeleteSessionResponse r old step new = (request : Arrival) (d : messages.DeleteSessionResponse) → d.header ≡ r.header.0 → d.number ≡ r.seq → d.cause ≡ r.cause → IsRow (DeleteSessionAnswered d) request old.role old.node step new
+TakesDeleteSessionResponse r old step new =
+    (request : Arrival) (d : messages.DeleteSessionResponse) → d.header ≡ r.header.0 → d.number ≡ r.seq → d.cause ≡ r.cause
+    → IsRow (DeleteSessionAnswered d) request old.role old.node step new

@@ -6,7 +6,7 @@ use Rattle.gtp_machine.specs.Answer.{echoed}
 use Rattle.gtp_machine.specs.Response.{EchoAnswered}
 use Rattle.gtp_machine.specs.Node.{Arrival}
 use Rattle.gtp_gateway.specs.declared.command.purpose.Purpose.{Purpose}
-use Rattle.gtp_gateway.specs.declared.command.purpose.Purpose.TheVariants.{Echo}
+use Rattle.gtp_gateway.specs.declared.command.purpose.Asked.TheVariants.{Echo}
 use Rattle.gtp_gateway.specs.declared.step.ControlStep.{ControlStep}
 use Rattle.gtp_gateway.specs.declared.receive.restart_counter.Heard.{Heard}
 use Rattle.gtp_gateway.specs.receive.RestartCounter.{node_heard}
@@ -15,13 +15,15 @@ use Rattle.gtp_gateway.specs.receive.Row.{IsRow}
 
 -- the request is an Echo Request
 abbrev pub FitsEcho : Purpose → Type 0
-FitsEcho Echo = Unit {0}
-FitsEcho purpose = ⊥
+FitsEcho purpose = purpose.asked ≡ Echo
 
 -- an Echo Request was taken
 abbrev pub AnswersEcho : Endpoint → ℕ → Heard → GatewayState → ControlStep → GatewayState → Type 0
-AnswersEcho source number heard old step new = (request : Arrival) (q : messages.Echo) → request.source ≡ source → q.number ≡ number → IsRow (λ node e. e ≡ echoed request q node) request old.role (node_heard heard old.node) step new
+AnswersEcho source number heard old step new =
+    (request : Arrival) (q : messages.Echo) → request.source ≡ source → q.number ≡ number
+    → IsRow (λ node e. e ≡ echoed request q node) request old.role (node_heard heard old.node) step new
 
 -- an Echo Response was taken
 abbrev pub TakesEchoResponse : ℕ → GatewayState → ControlStep → GatewayState → Type 0
-TakesEchoResponse number old step new = (request : Arrival) (a : messages.Echo) → a.number ≡ number → IsRow (EchoAnswered a) request old.role old.node step new
+TakesEchoResponse number old step new =
+    (request : Arrival) (a : messages.Echo) → a.number ≡ number → IsRow (EchoAnswered a) request old.role old.node step new

@@ -20,7 +20,8 @@ use Rattle.gtp_gateway.specs.declared.tables.opening.ResponseVerdict.TheVariants
 use Rattle.gtp_gateway.specs.receive.CreateBearerRequest.{SaysCreateBearer}
 use Rattle.gtp_gateway.specs.receive.RestartCounter.{node_heard}
 use Rattle.gtp_gateway.specs.receive.Allocations.{StepSendsOrOpens}
-use Rattle.gtp_gateway.specs.Parts.{session_of, bearer_of, arrival_of}
+use Rattle.gtp_gateway.specs.Parts.{arrival_of}
+use Rattle.gtp_gateway.specs.command.Purpose.{session_of, bearer_of}
 use Rattle.gtp_gateway.specs.tables.Removal.{goes_with_session}
 use Rattle.gtp_gateway.specs.tables.Opening.{outcome_by, node_by}
 use Rattle.gtp_gateway.specs.GatewayState.{GatewayState}

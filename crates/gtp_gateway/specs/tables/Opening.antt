@@ -18,7 +18,7 @@ use Rattle.gtp_gateway.specs.declared.tables.opening.ResponseVerdict.{ResponseVe
 use Rattle.gtp_gateway.specs.declared.tables.opening.ResponseVerdict.TheVariants.{Drops, Finishes, OpensSession, OpensBearer}
 use Rattle.gtp_gateway.specs.command.SendRequest.{about}
 use Rattle.gtp_gateway.specs.receive.RestartCounter.{goes_with}
-use Rattle.gtp_gateway.specs.Parts.{session_of, bearer_of}
+use Rattle.gtp_gateway.specs.command.Purpose.{session_of, bearer_of}
 use Rattle.gtp_gateway.specs.messages.Spelled.{is_for}
 
 -- whether a request goes as the counter is heard

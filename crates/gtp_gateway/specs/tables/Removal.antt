@@ -2,7 +2,7 @@
 use Rattle.std.specs.Prelude.{ℕ, ◌==◌, ◌||◌, Bool, false}
 use Rattle.gtp_machine.specs.Removal.{on}
 use Rattle.gtp_gateway.specs.declared.command.purpose.Purpose.{Purpose}
-use Rattle.gtp_gateway.specs.Parts.{session_of, bearer_of}
+use Rattle.gtp_gateway.specs.command.Purpose.{session_of, bearer_of}
 
 -- whether a request is about the session
 abbrev pub goes_with_session : ℕ → Purpose → Bool

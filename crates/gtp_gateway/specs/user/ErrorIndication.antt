@@ -8,7 +8,7 @@ use Rattle.gtp_machine.specs.Node.{Session, Bearer}
 use Rattle.gtp_machine.specs.Removal.{on}
 use Rattle.gtp_machine.specs.User.{default_among}
 use Rattle.gtp_gateway.specs.declared.command.purpose.Purpose.{Purpose}
-use Rattle.gtp_gateway.specs.Parts.{session_of, bearer_of}
+use Rattle.gtp_gateway.specs.command.Purpose.{session_of, bearer_of}
 
 -- whether a request is about a session whose default bearer has the remote, or about a bearer that has it
 abbrev pub goes_with_remote : FiniteMap Bearer → ℕ → Purpose → Bool

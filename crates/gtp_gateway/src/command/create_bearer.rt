@@ -3,18 +3,65 @@
 ghost use Rattle.std.specs.Prelude.{◌≡◌, IfOk, OnErr};
 ghost use Rattle.gtp_machine.specs.Input.{Create_bearer};
 ghost use Rattle.gtp_gateway.specs.command.Command.{IsCarriedOut, IsRefusedWhere, SendsRequestNext};
+ghost use Rattle.gtp_gateway.specs.command.Request.{request_by, CanBeSent};
+ghost use Rattle.gtp_gateway.specs.command.CreateBearer.{request_to_create_bearer};
+ghost use Rattle.gtp_gateway.specs.Parts.{node_of};
 ghost use Rattle.gtp_gateway.specs.GatewayState.{IsSoundState, state_of};
 
+use crate::command::purpose::{Asked, Purpose};
 use crate::command::request::RequestToSend;
 use crate::fault::CommandFault;
+use crate::messages::create_bearer::create_bearer_request;
+use crate::messages::elements::{is_there, own_end, written_teid};
 use crate::parts::Parts;
 use crate::sent::Begun;
-use crate::tables::contexts::is_session_active;
+use crate::tables::change::Change;
+use crate::tables::contexts::{is_session_active, pending_dedicated};
+use crate::tables::teids::OneDrawn;
+use gtp_machine::interface_types::S5S8_PGW_GTP_U;
 use gtp_machine::{Refusal, Role};
-use gtp_values::{Qos, Teid, Tft};
+use gtp_tables::Session;
+use gtp_values::{Memory, Qos, Seq, Teid, Tft};
 use std::alloc::Global;
 
 impl Parts {
+    /// The Create Bearer Request, with this number: the bearer is pending from then on.
+    fn request_to_create_bearer(
+        &self,
+        alloc: Global,
+        drawn: &OneDrawn,
+        session: Teid,
+        at: &Session,
+        tft: &Tft,
+        qos: &Qos,
+        seq: Seq,
+    ) -> Result<RequestToSend, Memory>
+        ensures says { IfOk result (λ request. request_by request
+            ≡ request_to_create_bearer drawn.now session at.now tft.now qos.now seq
+            (node_of self.now)) }
+        ensures ready { IfOk result (CanBeSent seq) }
+    {
+        let header = written_teid(at.remote);
+        let linked = at.subscriber.identity;
+        let user = own_end(S5S8_PGW_GTP_U, drawn.teid, self.config.own().user);
+        let charging = drawn.teid.0;
+        Ok(RequestToSend {
+            purpose: Purpose {
+                asked: Asked::CreateBearer,
+                session: Some(session),
+                bearer: Some(drawn.teid),
+                is_named: is_there(header),
+            },
+            change: Change::MakesBearer {
+                draws: drawn.draws,
+                teid: drawn.teid,
+                bearer: pending_dedicated(session),
+            },
+            teid: Some(drawn.teid),
+            message: create_bearer_request(alloc, header, seq, linked, *tft, *qos, user, charging)?,
+        })
+    }
+
     /// Begins a dedicated bearer of an active session, at the packet gateway.
     pub fn create_bearer(
         &mut self,
@@ -45,15 +92,8 @@ impl Parts {
         let Some(drawn) = self.draw_one() else {
             return Err(CommandFault::Refused(Refusal::TeidsUsed));
         };
-        self.send_request(
-            alloc,
-            &RequestToSend::CreateBearer {
-                drawn,
-                session,
-                of: at,
-                tft: *tft,
-                qos: *qos,
-            },
-        )
+        let seq = self.next_number()?;
+        let request = self.request_to_create_bearer(alloc, &drawn, session, &at, tft, qos, seq)?;
+        self.send_request(alloc, seq, &request)
     }
 }

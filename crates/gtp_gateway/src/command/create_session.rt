@@ -5,16 +5,25 @@ ghost use Rattle.gtp_machine.specs.Choice.{IsIdentity, HasSessionRoom};
 ghost use Rattle.gtp_machine.specs.Input.{Create_session};
 ghost use Rattle.gtp_gateway.specs.command.Command.{IsCarriedOut, IsRefusedWhere, SendsRequestNext};
 ghost use Rattle.gtp_gateway.specs.Parts.{node_of};
-ghost use Rattle.gtp_gateway.specs.command.CreateSession.{specification};
+ghost use Rattle.gtp_gateway.specs.command.CreateSession.{specification, request_to_create_session};
+ghost use Rattle.gtp_gateway.specs.command.Request.{request_by, CanBeSent};
 ghost use Rattle.gtp_gateway.specs.GatewayState.{IsSoundState, state_of};
 
+use crate::command::purpose::{Asked, Purpose};
 use crate::command::request::RequestToSend;
 use crate::fault::CommandFault;
+use crate::messages::create_session::create_session_request;
+use crate::messages::elements::own_end;
 use crate::parts::Parts;
 use crate::sent::Begun;
+use crate::tables::change::Change;
+use crate::tables::contexts::{pending_default, pending_session};
+use crate::tables::teids::TwoDrawn;
+use gtp_machine::interface_types::{S5S8_SGW_GTP_C, S5S8_SGW_GTP_U};
 use gtp_machine::{Refusal, Role};
 use gtp_tables::Subscriber;
 use gtp_v2::{Ambr, PdnType, Plmn, Qos, Rat, Selection};
+use gtp_values::{Memory, Seq};
 use std::alloc::Global;
 
 /// The values with which a session is requested (TS 29.274 table 7.2.1-1).
@@ -45,6 +54,41 @@ impl Parts {
         !self.sessions.is_full()
     }
 
+    /// The Create Session Request, with this number: the session and its default bearer are pending from then on.
+    fn request_to_create_session(
+        &self,
+        alloc: Global,
+        drawn: &TwoDrawn,
+        spec: &SessionSpec,
+        seq: Seq,
+    ) -> Result<RequestToSend, Memory>
+        ensures says { IfOk result (λ request. request_by request
+            ≡ request_to_create_session drawn.now spec.now seq (node_of self.now)) }
+        ensures ready { IfOk result (CanBeSent seq) }
+    {
+        let own = self.config.own();
+        let control = own_end(S5S8_SGW_GTP_C, drawn.control, own.control);
+        let user = own_end(S5S8_SGW_GTP_U, drawn.user, own.user);
+        let counter = self.draws.counter();
+        Ok(RequestToSend {
+            purpose: Purpose {
+                asked: Asked::CreateSession(drawn.user),
+                session: Some(drawn.control),
+                bearer: None,
+                is_named: false,
+            },
+            change: Change::MakesSession {
+                draws: drawn.draws,
+                control: drawn.control,
+                session: pending_session(spec),
+                user: drawn.user,
+                bearer: pending_default(drawn.control, spec),
+            },
+            teid: Some(drawn.control),
+            message: create_session_request(alloc, seq, spec, control, user, counter)?,
+        })
+    }
+
     /// Begins a session, at the serving gateway.
     pub fn create_session(
         &mut self,
@@ -73,6 +117,8 @@ impl Parts {
         let Some(drawn) = self.draw_two() else {
             return Err(CommandFault::Refused(Refusal::TeidsUsed));
         };
-        self.send_request(alloc, &RequestToSend::CreateSession { drawn, spec: *spec })
+        let seq = self.next_number()?;
+        let request = self.request_to_create_session(alloc, &drawn, spec, seq)?;
+        self.send_request(alloc, seq, &request)
     }
 }

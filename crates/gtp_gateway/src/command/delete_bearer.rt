@@ -2,20 +2,25 @@
 
 ghost use Rattle.std.specs.Prelude.{◌≡◌, IfSome, IfNone, IfOk, OnErr};
 ghost use Rattle.gtp_machine.specs.Command.{NamesBearer};
-ghost use Rattle.gtp_gateway.specs.command.DeleteBearer.{IsDedicated};
+ghost use Rattle.gtp_gateway.specs.command.DeleteBearer.{IsDedicated, request_to_delete_bearer};
 ghost use Rattle.gtp_gateway.specs.Parts.{node_of};
 ghost use Rattle.gtp_machine.specs.Input.{Delete_bearer};
 ghost use Rattle.gtp_gateway.specs.command.Command.{IsCarriedOut, IsRefusedWhere, SendsRequestNext};
+ghost use Rattle.gtp_gateway.specs.command.Request.{request_by, CanBeSent};
 ghost use Rattle.gtp_gateway.specs.GatewayState.{IsSoundState, state_of};
 
+use crate::command::purpose::{Asked, Purpose};
 use crate::command::request::RequestToSend;
 use crate::fault::CommandFault;
+use crate::messages::delete_bearer::delete_bearer_request;
+use crate::messages::elements::{is_there, written_teid};
 use crate::parts::Parts;
 use crate::sent::Begun;
-use crate::tables::contexts::{are_active, is_dedicated};
+use crate::tables::change::Change;
+use crate::tables::contexts::{are_active, closing, is_dedicated};
 use gtp_machine::{Refusal, Role};
-use gtp_tables::Bearer;
-use gtp_values::{Ebi, Teid};
+use gtp_tables::{Bearer, Session};
+use gtp_values::{Ebi, Memory, Seq, Teid};
 use std::alloc::Global;
 
 /// A dedicated bearer, under the gateway's own user plane TEID.
@@ -25,6 +30,36 @@ pub struct Dedicated {
     pub bearer: Bearer,
 }
 
+/// The Delete Bearer Request for a dedicated bearer, with this number: the bearer is closing from then on.
+fn request_to_delete_bearer(
+    alloc: Global,
+    named: &Dedicated,
+    session: Teid,
+    at: &Session,
+    identity: Ebi,
+    seq: Seq,
+) -> Result<RequestToSend, Memory>
+    ensures says { IfOk result (λ request. request_by request
+        ≡ request_to_delete_bearer named.now session at.now identity seq) }
+    ensures ready { IfOk result (CanBeSent seq) }
+{
+    let header = written_teid(at.remote);
+    Ok(RequestToSend {
+        purpose: Purpose {
+            asked: Asked::DeleteBearer,
+            session: Some(session),
+            bearer: Some(named.teid),
+            is_named: is_there(header),
+        },
+        change: Change::Replaces {
+            teid: named.teid,
+            bearer: closing(&named.bearer),
+        },
+        teid: Some(named.teid),
+        message: delete_bearer_request(alloc, header, seq, identity)?,
+    })
+}
+
 impl Parts {
     /// The session's dedicated bearer with this identity.
     pub fn dedicated(&self, session: Teid, identity: Ebi) -> Option<Dedicated>
@@ -32,12 +67,8 @@ impl Parts {
         ensures some { IfSome result (IsDedicated (node_of self.now) session.0 identity) }
         ensures none { IfNone result (NamesBearer (node_of self.now) session.0 identity → ⊥) }
     {
-        let Some(teid) = self.bearers.with_identity(session, identity) else {
-            return None;
-        };
-        let Some(bearer) = self.bearers.get(teid) else {
-            return None;
-        };
+        let teid = self.bearers.with_identity(session, identity)?;
+        let bearer = self.bearers.get(teid)?;
         if !is_dedicated(&bearer) {
             return None;
         }
@@ -73,15 +104,8 @@ impl Parts {
         if !are_active(&at, &named.bearer) {
             return Err(CommandFault::Refused(Refusal::NotActive));
         }
-        self.send_request(
-            alloc,
-            &RequestToSend::DeleteBearer {
-                teid: named.teid,
-                bearer: named.bearer,
-                session,
-                of: at,
-                identity,
-            },
-        )
+        let seq = self.next_number()?;
+        let request = request_to_delete_bearer(alloc, &named, session, &at, identity, seq)?;
+        self.send_request(alloc, seq, &request)
     }
 }

@@ -2,80 +2,44 @@
 
 use gtp_values::Teid;
 
-/// What a request that waits for its answer is about: a session by its own control plane TEID, a
-/// bearer by its own user plane TEID.
+/// What was asked of the peer.
 #[derive(Clone, Copy)]
-pub enum Purpose {
-    /// An Echo Request is about none.
+pub enum Asked {
+    /// An answer, by an Echo Request (TS 29.274 7.1.1).
     Echo,
-    /// A Create Session Request: a session that is pending, with its default bearer.
-    CreateSession {
-        session: Teid,
-        bearer: Teid,
-    },
-    /// A Delete Session Request: a session that is closing, and whether a TEID stood in the header.
-    DeleteSession {
-        session: Teid,
-        is_named: bool,
-    },
-    /// A Delete Bearer Request for a whole session, which is closing.
-    ReleaseSession {
-        session: Teid,
-        is_named: bool,
-    },
-    /// A Create Bearer Request: a bearer of the session that is pending.
-    CreateBearer {
-        session: Teid,
-        bearer: Teid,
-        is_named: bool,
-    },
-    /// A Delete Bearer Request: a dedicated bearer of the session, which is closing.
-    DeleteBearer {
-        session: Teid,
-        bearer: Teid,
-        is_named: bool,
-    },
+    /// A session (7.2.1), whose default bearer has this TEID of the user plane.
+    CreateSession(Teid),
+    /// To delete a session (7.2.9.1).
+    DeleteSession,
+    /// A dedicated bearer (7.2.3).
+    CreateBearer,
+    /// To delete a session by its default bearer, or a dedicated bearer (7.2.9.2).
+    DeleteBearer,
+}
+
+/// What a request that waits for its answer is about.
+#[derive(Clone, Copy)]
+pub struct Purpose {
+    pub asked: Asked,
+    /// The session, by its own TEID of the control plane; an Echo Request is about none.
+    pub session: Option<Teid>,
+    /// The dedicated bearer, by its own TEID of the user plane; none of a request about a whole session.
+    pub bearer: Option<Teid>,
+    /// Whether a TEID stood in the header of the request.
+    pub is_named: bool,
 }
 
 impl Purpose {
-    ghost use Rattle.std.specs.Prelude.{◌≡◌, option_map};
-    ghost use Rattle.gtp_gateway.specs.Parts.{session_of, bearer_of};
+    ghost use Rattle.std.specs.Prelude.{◌≡◌, ◌↔◌, IsTrue, Some};
+    ghost use Rattle.gtp_gateway.specs.command.Purpose.{session_of};
     ghost use Rattle.gtp_gateway.specs.tables.Removal.{goes_with_session, goes_with_bearer};
-
-    /// The session that the request is about.
-    pub fn session(&self) -> Option<Teid>
-        ensures { option_map (λ t. t.0) result ≡ session_of self.now }
-    {
-        match *self {
-            Purpose::Echo => None,
-            Purpose::CreateSession { session, .. }
-            | Purpose::DeleteSession { session, .. }
-            | Purpose::ReleaseSession { session, .. }
-            | Purpose::CreateBearer { session, .. }
-            | Purpose::DeleteBearer { session, .. } => Some(session),
-        }
-    }
-
-    /// The bearer that it is about, where it is not about a whole session.
-    pub fn bearer(&self) -> Option<Teid>
-        ensures { option_map (λ t. t.0) result ≡ bearer_of self.now }
-    {
-        match *self {
-            Purpose::Echo
-            | Purpose::CreateSession { .. }
-            | Purpose::DeleteSession { .. }
-            | Purpose::ReleaseSession { .. } => None,
-            Purpose::CreateBearer { bearer, .. } | Purpose::DeleteBearer { bearer, .. } => {
-                Some(bearer)
-            }
-        }
-    }
 
     /// Whether the request is about the session.
     pub fn is_of_session(&self, session: Teid) -> bool
-        ensures { result ≡ goes_with_session session.0 self.now }
+        ensures goes { result ≡ goes_with_session session.0 self.now }
+        ensures about { IsTrue result ↔ (session_of self.now ≡ Some session.0) }
     {
-        match self.session() {
+        match self.session {
             Some(about) => about == session,
             None => false,
         }
@@ -85,7 +49,7 @@ impl Purpose {
     pub fn is_of_bearer(&self, bearer: Teid) -> bool
         ensures { result ≡ goes_with_bearer bearer.0 self.now }
     {
-        match self.bearer() {
+        match self.bearer {
             Some(about) => about == bearer,
             None => false,
         }

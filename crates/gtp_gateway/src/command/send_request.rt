@@ -1,12 +1,11 @@
 //! How a request is sent, and waits for its answer (TS 29.274 7.6).
 
-ghost use Rattle.std.specs.Prelude.{true, ◌≡◌, ◌≤◌, ◌↔◌, ◌⊎◌, [], ◌∷◌, Err, IfOk, IfErr, OnOk, OnErr, length};
-ghost use Rattle.gtp_reliable.specs.Pending.{AreDistinct, IsPrepared};
+ghost use Rattle.std.specs.Prelude.{true, ◌≡◌, ◌<◌, [], ◌∷◌, IfOk, OnOk, OnErr, length};
+ghost use Rattle.gtp_reliable.specs.Pending.{IsNextFree, IsPrepared};
+ghost use Rattle.gtp_machine.specs.Choice.{HasPendingRoom};
 ghost use Rattle.gtp_machine.specs.Config.{control_end};
 ghost use Rattle.gtp_machine.specs.Reading.{control_message};
 ghost use Rattle.gtp_machine.specs.Spelling.{datagram_of};
-ghost use Rattle.gtp_machine.specs.declared.outcome.Refusal.TheVariants.{PendingFull};
-ghost use Rattle.gtp_gateway.specs.declared.fault.CommandFault.TheVariants as faults;
 ghost use Rattle.gtp_gateway.specs.tables.Change.{keeps_requests, CanChange};
 ghost use Rattle.gtp_gateway.specs.messages.Own.{IsOwn};
 ghost use Rattle.gtp_gateway.specs.Parts.{node_of};
@@ -16,25 +15,19 @@ ghost use Rattle.gtp_gateway.specs.command.SendRequest.{about, asking, after_beg
 ghost use Rattle.gtp_gateway.specs.messages.Sent.{datagram_by, ReadsBack};
 ghost use Rattle.gtp_gateway.specs.messages.Spelled.{is_for, message_in, AreSpelled};
 ghost use Rattle.gtp_gateway.specs.command.Command.{SendsRequestNext, IsLastRefused};
-ghost use Rattle.gtp_gateway.specs.command.Request.{request_of, change_of, AsksFor, IsAskedFor};
+ghost use Rattle.gtp_gateway.specs.command.Request.{request_by, CanBeSent, IsAskedFor};
 
 use crate::command::purpose::Purpose;
 use crate::command::request::RequestToSend;
 use crate::fault::CommandFault;
-use crate::messages::create_bearer::create_bearer_request;
-use crate::messages::create_session::create_session_request;
-use crate::messages::delete_bearer::{delete_bearer_request, delete_bearer_request_for_session};
-use crate::messages::delete_session::delete_session_request;
-use crate::messages::echo::echo_request;
-use crate::messages::elements::{own_end, written_teid};
 use crate::messages::encode::encode_own;
 use crate::parts::Parts;
+use crate::receive::restart_counter::Heard;
 use crate::sent::{Begun, Sent};
 use crate::tables::change::Change;
 use gtp_machine::{Plane, Refusal};
-use gtp_reliable::ReliableFault;
 use gtp_v2::Message;
-use gtp_values::{Below, Endpoint, Ip, Memory, Seq};
+use gtp_values::{Endpoint, Ip, Memory, Seq};
 use std::alloc::Global;
 
 /// The UDP port of the control plane (TS 29.274 4.2.1.1).
@@ -51,23 +44,31 @@ pub fn control_end_of(ip: Ip) -> Endpoint
 }
 
 impl Parts {
-    /// The sequence number of the next request, with room for it.
-    pub fn next_number(&mut self) -> Result<Seq, CommandFault>
-        ensures prepared { IfOk result (IsPrepared self.new.pending) }
-        ensures distinct { AreDistinct self.old.pending.waiting }
-        ensures full { (result ≡ Err (faults.Refused PendingFull))
-            ↔ (256 ≤ length self.old.pending.waiting) }
-        ensures fault { IfErr result (λ f.
-            (f ≡ faults.Refused PendingFull) ⊎ (f ≡ faults.Memory)) }
+    /// The sequence number of the next request. Nothing changes.
+    pub fn next_number(&self) -> Result<Seq, CommandFault>
+        ensures number { IfOk result
+            (IsNextFree self.now.pending.next self.now.pending.waiting) }
+        ensures few { IfOk result (λ _. length self.now.pending.waiting < 256) }
+        ensures room { IfOk result (λ _. HasPendingRoom (node_of self.now)) }
+        ensures refused { IsLastRefused (state_of self.now) result }
+    {
+        match self.number_after(Heard::Nothing) {
+            Some(seq) => Ok(seq),
+            None => Err(CommandFault::Refused(Refusal::PendingFull)),
+        }
+    }
+
+    /// Room for one more request; nothing else changes.
+    fn reserve_request(&mut self) -> Result<(), Memory>
+        ensures room { OnOk result
+            (self.new.pending ≡ record self.old.pending { has_room = true }) }
         ensures same { state_of self.new ≡ state_of self.old }
-        ensures waiting { self.new.pending.waiting ≡ self.old.pending.waiting }
         ensures bearers { self.new.bearers ≡ self.old.bearers }
         ensures sessions { self.new.sessions ≡ self.old.sessions }
     {
-        match self.pending.prepare() {
-            Ok(seq) => Ok(seq),
-            Err(ReliableFault::PendingFull) => Err(CommandFault::Refused(Refusal::PendingFull)),
-            Err(_) => Err(CommandFault::Memory),
+        match self.pending.reserve() {
+            Ok(()) => Ok(()),
+            Err(_) => Err(Memory),
         }
     }
 
@@ -134,76 +135,35 @@ impl Parts {
         })
     }
 
-    /// The request for it, with this number.
-    fn request_for(
-        &self,
-        alloc: Global,
-        to_send: &RequestToSend,
-        seq: Seq,
-    ) -> Result<Message, Memory>
-        ensures says { IfOk result (λ message.
-            control_message message ≡ request_of to_send.now seq (node_of self.now)) }
-        ensures own { IfOk result (λ message. IsOwn message) }
-    {
-        match *to_send {
-            RequestToSend::Echo => Ok(echo_request(seq, self.draws.counter())),
-            RequestToSend::CreateSession { drawn, spec } => {
-                let own = self.config.own();
-                let control = own_end(Below::new(6), drawn.control, own.control);
-                let user = own_end(Below::new(4), drawn.user, own.user);
-                create_session_request(alloc, seq, &spec, control, user, self.draws.counter())
-            }
-            RequestToSend::DeleteSession { session, .. } => {
-                let header = written_teid(session.remote);
-                Ok(delete_session_request(header, seq, session.subscriber.identity))
-            }
-            RequestToSend::ReleaseSession { session, .. } => {
-                let header = written_teid(session.remote);
-                Ok(delete_bearer_request_for_session(
-                    alloc,
-                    header,
-                    seq,
-                    session.subscriber.identity,
-                ))
-            }
-            RequestToSend::CreateBearer {
-                drawn,
-                of,
-                tft,
-                qos,
-                ..
-            } => {
-                let user = own_end(Below::new(5), drawn.teid, self.config.own().user);
-                let header = written_teid(of.remote);
-                let linked = of.subscriber.identity;
-                create_bearer_request(alloc, header, seq, linked, tft, qos, user, drawn.teid.0)
-            }
-            RequestToSend::DeleteBearer { of, identity, .. } => {
-                delete_bearer_request(alloc, written_teid(of.remote), seq, identity)
-            }
-        }
-    }
-
-    /// Asks the peer, by the last rule of a command: refused where 256 requests are pending.
+    /// Sends a request to the peer, with this number, which is the next one.
     pub fn send_request(
         &mut self,
         alloc: Global,
-        to_send: &RequestToSend,
+        seq: Seq,
+        request: &RequestToSend,
     ) -> Result<Begun, CommandFault>
-        requires { CanChange (change_of to_send.now) (node_of self.old) }
-        ensures done { IfOk result (λ begun.
-            IsAskedFor to_send.now (state_of self.old) begun (state_of self.new)) }
+        requires number { IsNextFree self.old.pending.next self.old.pending.waiting seq }
+        requires few { length self.old.pending.waiting < 256 }
+        requires room { HasPendingRoom (node_of self.old) }
+        requires ready { CanBeSent seq request.now }
+        requires can { CanChange request.now.change (node_of self.old) }
+        ensures done { IfOk result (λ begun. IsAskedFor seq (request_by request.now)
+            (state_of self.old) begun (state_of self.new)) }
         ensures next { IfOk result (λ begun.
             SendsRequestNext (state_of self.old) begun (state_of self.new)) }
-        ensures refused { IsLastRefused (AsksFor to_send.now (node_of self.old))
-            (state_of self.old) result }
+        ensures refused { IsLastRefused (state_of self.old) result }
         ensures err { OnErr result (state_of self.new ≡ state_of self.old) }
     {
-        let seq = self.next_number()?;
-        let message = self.request_for(alloc, to_send, seq)?;
-        let out = self.begin_request(alloc, seq, &message, to_send.purpose(), to_send.change())?;
+        self.reserve_request()?;
+        let out = self.begin_request(
+            alloc,
+            seq,
+            &request.message,
+            request.purpose,
+            request.change,
+        )?;
         Ok(Begun {
-            teid: to_send.teid(),
+            teid: request.teid,
             out,
         })
     }

@@ -1,6 +1,6 @@
 //! The Cause, F-TEIDs and TEIDs of headers that a gateway sends.
 
-ghost use Rattle.std.specs.Prelude.{◌≡◌, ◌==◌, not};
+ghost use Rattle.std.specs.Prelude.{◌≡◌, ◌<◌, ◌==◌, not};
 ghost use Rattle.gtp_machine.specs.Element.{cause_of, cause_at, tunnel_end};
 ghost use Rattle.gtp_machine.specs.Node.{written};
 
@@ -30,10 +30,11 @@ pub fn fault_cause(value: u8, kind: u8, instance: Below<16>) -> Cause
 }
 
 /// An F-TEID (TS 29.274 8.22) that a gateway gives, with its own address.
-pub fn own_end(interface: Below<64>, teid: Teid, ip: Ip) -> FTeid
+pub fn own_end(interface: u8, teid: Teid, ip: Ip) -> FTeid
+    requires { interface < 64 }
     ensures { result ≡ tunnel_end interface teid.0 ip }
 {
-    FTeid::new(interface, teid, ip)
+    FTeid::new(Below::new(interface), teid, ip)
 }
 
 /// A TEID that may be absent, as it is written: 0 for none.

@@ -22,6 +22,7 @@ use crate::messages::refusal::refusal;
 use crate::parts::Parts;
 use crate::receive::create_bearer_request::judge::{CreateBearerAnswer, CreateBearerVerdict};
 use crate::step::ControlStep;
+use gtp_machine::interface_types::S5S8_SGW_GTP_U;
 use gtp_machine::{DropReason, MessageType};
 use gtp_tables::View;
 use gtp_v2::{EbiValue, Message, MessageView};
@@ -93,7 +94,7 @@ impl Parts {
                 no_resources_response(alloc, header, seq, request.user, counter)
             }
             CreateBearerAnswer::Granted(grant) => {
-                let own = own_end(Below::new(4), grant.drawn.teid, self.config.own().user);
+                let own = own_end(S5S8_SGW_GTP_U, grant.drawn.teid, self.config.own().user);
                 create_bearer_response(
                     alloc,
                     header,

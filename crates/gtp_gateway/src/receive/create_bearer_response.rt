@@ -15,7 +15,7 @@ ghost use Rattle.gtp_gateway.specs.Parts.{node_of};
 ghost use Rattle.gtp_machine.specs.MessageType.{type_at};
 ghost use Rattle.gtp_gateway.specs.GatewayState.{IsSoundState, state_of};
 
-use crate::command::purpose::Purpose;
+use crate::command::purpose::{Asked, Purpose};
 use crate::parts::Parts;
 use crate::receive::response::{Response, response_in};
 use crate::receive::response_context::{ResponseContext, accepts, only_context_in};
@@ -61,14 +61,16 @@ fn fits_create_bearer(purpose: &Purpose, response: &Response) -> Option<AskedBea
     ensures some { IfSome result (IsAskedBearer purpose.now response.now) }
     ensures none { IfNone result (FitsCreateBearerOf purpose.now response.now → ⊥) }
 {
-    match *purpose {
-        Purpose::CreateBearer {
-            session,
-            bearer,
-            is_named,
-        } if response.names(session, is_named) => Some(AskedBearer { session, bearer }),
-        _ => None,
+    let Asked::CreateBearer = purpose.asked else {
+        return None;
+    };
+    if !response.names(purpose) {
+        return None;
     }
+    Some(AskedBearer {
+        session: purpose.session?,
+        bearer: purpose.bearer?,
+    })
 }
 
 /// Whether the F-TEID that comes back is the bearer's.
@@ -86,9 +88,7 @@ fn openable(view: &View<'_>, session: Teid, identity: Below<16>) -> Option<Ebi>
     ensures none { IfNone result
         (CanOpenIn view.now.sessions view.now.bearers session.0 identity → ⊥) }
 {
-    let Ok(identity) = Ebi::try_new(identity.number()) else {
-        return None;
-    };
+    let identity = Ebi::try_new(identity.number()).ok()?;
     if view.with_identity(session, identity).is_some() {
         return None;
     }

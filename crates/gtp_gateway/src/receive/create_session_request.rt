@@ -31,10 +31,11 @@ use crate::receive::create_session_request::judge::{CreateSessionVerdict, Sessio
 use crate::receive::create_session_request::read::SessionRequest;
 use crate::receive::restart_counter::Heard;
 use crate::step::ControlStep;
+use gtp_machine::interface_types::{S5S8_PGW_GTP_C, S5S8_PGW_GTP_U};
 use gtp_machine::{DropReason, MessageType};
 use gtp_tables::{Bearer, Kind, Session, State, Subscriber};
 use gtp_v2::Message;
-use gtp_values::{Below, Cause, Endpoint, Memory};
+use gtp_values::{Cause, Endpoint, Memory};
 use std::alloc::Global;
 
 /// The session that is granted, active at once.
@@ -110,8 +111,8 @@ impl Parts {
         ensures own { IfOk result (λ message. IsOwn message) }
     {
         let own = self.config.own();
-        let control = own_end(Below::new(7), grant.drawn.control, own.control);
-        let user = own_end(Below::new(5), grant.drawn.user, own.user);
+        let control = own_end(S5S8_PGW_GTP_C, grant.drawn.control, own.control);
+        let user = own_end(S5S8_PGW_GTP_U, grant.drawn.user, own.user);
         create_session_response(
             alloc,
             request,

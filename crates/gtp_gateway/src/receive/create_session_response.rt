@@ -15,7 +15,7 @@ ghost use Rattle.gtp_machine.specs.MessageType.{type_at};
 ghost use Rattle.gtp_gateway.specs.receive.CreateSessionResponse.{ReadsCreateSessionResponse, FitsCreateSessionOf, IsAskedSession, IsDescribed, SaysCreateSessionResponse, JudgesCreateSessionResponse, JudgesAnswer, TakesCreateSessionResponse};
 ghost use Rattle.gtp_gateway.specs.GatewayState.{IsSoundState, state_of};
 
-use crate::command::purpose::Purpose;
+use crate::command::purpose::{Asked, Purpose};
 use crate::parts::Parts;
 use crate::receive::response::{Response, response_in};
 use crate::receive::response_context::{
@@ -76,12 +76,14 @@ fn fits_create_session(purpose: &Purpose, response: &Response) -> Option<AskedSe
     ensures some { IfSome result (IsAskedSession purpose.now response.now) }
     ensures none { IfNone result (FitsCreateSessionOf purpose.now response.now → ⊥) }
 {
-    match *purpose {
-        Purpose::CreateSession { session, bearer } if session == response.header => {
-            Some(AskedSession { session, bearer })
-        }
-        _ => None,
+    let Asked::CreateSession(bearer) = purpose.asked else {
+        return None;
+    };
+    let session = purpose.session?;
+    if session != response.header {
+        return None;
     }
+    Some(AskedSession { session, bearer })
 }
 
 /// Whether it is the identity of the session's default bearer.
@@ -98,15 +100,9 @@ fn described(view: &View<'_>, session: Teid, answer: &SessionResponse) -> Option
     ensures none { IfNone result ((d : _)
         → IsDescribed view.now.sessions session.0 answer.now d → ⊥) }
 {
-    let Some(at) = view.session(session) else {
-        return None;
-    };
-    let Some(context) = answer.context else {
-        return None;
-    };
-    let Some(address) = answer.address else {
-        return None;
-    };
+    let at = view.session(session)?;
+    let context = answer.context?;
+    let address = answer.address?;
     if !is_default(context.identity, &at) {
         return None;
     }

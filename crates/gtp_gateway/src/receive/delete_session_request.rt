@@ -54,10 +54,7 @@ pub fn delete_request_in(view: &MessageView<'_>) -> DeleteRequest
 fn identity_of(value: Option<EbiValue>) -> Option<Below<16>>
     ensures { option_map (λ e. e) result ≡ option_map (λ v. v.0) value }
 {
-    match value {
-        Some(EbiValue(identity)) => Some(identity),
-        None => None,
-    }
+    Some(value?.0)
 }
 
 /// Whether the linked identity is absent, or the session's default.

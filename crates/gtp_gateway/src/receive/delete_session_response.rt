@@ -5,7 +5,7 @@ ghost use Rattle.gtp_gateway.specs.GatewayState.{state_of};
 ghost use Rattle.gtp_gateway.specs.receive.DeleteSessionResponse.{FitsDeleteSessionOf, TakesDeleteSessionResponse};
 ghost use Rattle.gtp_gateway.specs.user.Receive.{RequestsWaitOn};
 
-use crate::command::purpose::Purpose;
+use crate::command::purpose::{Asked, Purpose};
 use crate::parts::Parts;
 use crate::receive::response::Response;
 use crate::step::ControlStep;
@@ -15,10 +15,7 @@ use gtp_machine::{DropReason, Outcome};
 fn fits_delete_session(purpose: &Purpose, response: &Response) -> bool
     ensures { IsTrue result ↔ FitsDeleteSessionOf purpose.now response.now }
 {
-    match *purpose {
-        Purpose::DeleteSession { session, is_named } => response.names(session, is_named),
-        _ => false,
-    }
+    matches!(purpose.asked, Asked::DeleteSession) && response.names(purpose)
 }
 
 impl Parts {

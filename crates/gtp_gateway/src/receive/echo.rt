@@ -7,7 +7,7 @@ ghost use Rattle.gtp_values.specs.declared.counter.Counter.{Counter as AnyCounte
 ghost use Rattle.gtp_gateway.specs.receive.RestartCounter.{weighed_by};
 ghost use Rattle.gtp_gateway.specs.receive.Echo.{AnswersEcho, FitsEcho, TakesEchoResponse};
 
-use crate::command::purpose::Purpose;
+use crate::command::purpose::{Asked, Purpose};
 use crate::messages::echo::echo_response;
 use crate::parts::Parts;
 use crate::receive::restart_counter::Heard;
@@ -20,7 +20,7 @@ use std::alloc::Global;
 fn fits_echo(purpose: &Purpose) -> bool
     ensures { IsTrue result ↔ FitsEcho purpose.now }
 {
-    matches!(purpose, Purpose::Echo)
+    matches!(purpose.asked, Asked::Echo)
 }
 
 impl Parts {

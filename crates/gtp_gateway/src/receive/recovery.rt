@@ -27,8 +27,5 @@ pub fn counter_in(view: &MessageView<'_>, message_type: MessageType) -> Option<C
 fn counter_of(recovery: Option<Recovery>) -> Option<Counter>
     ensures { option_map (λ c. c.0) result ≡ option_map (λ r. r.0.0) recovery }
 {
-    match recovery {
-        Some(Recovery(counter)) => Some(counter),
-        None => None,
-    }
+    Some(recovery?.0)
 }

@@ -8,7 +8,8 @@ ghost use Rattle.gtp_v2.specs.Viewed.{in_row, always_has};
 ghost use Rattle.gtp_reliable.specs.Pending.{purpose_of, SameTimes};
 ghost use Rattle.gtp_machine.specs.Node.{written};
 ghost use Rattle.gtp_machine.specs.Removal.{finished_about};
-ghost use Rattle.gtp_gateway.specs.Parts.{node_of, session_of, bearer_of};
+ghost use Rattle.gtp_gateway.specs.Parts.{node_of};
+ghost use Rattle.gtp_gateway.specs.command.Purpose.{session_of, bearer_of};
 ghost use Rattle.gtp_gateway.specs.GatewayState.{state_of};
 ghost use Rattle.gtp_gateway.specs.user.Receive.{RequestsWaitOn};
 
@@ -48,11 +49,11 @@ impl Response {
 
     /// Whether the header names the session that the request is about (TS 29.274 5.5.2): it has the
     /// session's TEID, or 0 with "context not found" where a TEID stood in the request's own.
-    pub fn names(&self, session: Teid, is_named: bool) -> bool
-        ensures { IsTrue result ↔ Names self.now session.0 is_named }
+    pub fn names(&self, request: &Purpose) -> bool
+        ensures { IsTrue result ↔ Names self.now request.now }
     {
-        session == self.header
-            || (self.header.0 == 0 && self.cause.value == CONTEXT_NOT_FOUND && is_named)
+        request.is_of_session(self.header)
+            || (self.header.0 == 0 && self.cause.value == CONTEXT_NOT_FOUND && request.is_named)
     }
 }
 
@@ -76,9 +77,9 @@ impl Parts {
         ensures draws { self.new.draws ≡ self.old.draws }
         ensures role { self.new.role ≡ self.old.role }
     {
-        match purpose.bearer() {
+        match purpose.bearer {
             Some(bearer) => self.remove_bearer(bearer),
-            None => match purpose.session() {
+            None => match purpose.session {
                 Some(session) => self.remove_session(session),
                 None => self.finish_number(seq),
             },

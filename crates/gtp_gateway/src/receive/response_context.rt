@@ -36,20 +36,14 @@ pub fn accepts(cause: &Cause) -> bool
 pub fn teid_of(end: Option<FTeid>) -> Option<u32>
     ensures { result ≡ teid_in end }
 {
-    match end {
-        Some(end) => Some(end.teid().0),
-        None => None,
-    }
+    Some(end?.teid().0)
 }
 
 /// The address of a PDN Address Allocation (TS 29.274 8.14) that may be absent.
 pub fn address_of(allocation: Option<Paa>) -> Option<Addr>
     ensures { result ≡ address_of allocation }
 {
-    match allocation {
-        Some(allocation) => allocation.address(),
-        None => None,
-    }
+    allocation?.address()
 }
 
 /// What a bearer context says that has an identity and a cause.

@@ -71,7 +71,7 @@ impl Heard {
 pub fn is_of_opened(sessions: &Sessions, purpose: &Purpose) -> bool
     ensures { result ≡ goes_with sessions.now.table purpose.now }
 {
-    match purpose.session() {
+    match purpose.session {
         None => false,
         Some(session) => match sessions.get(session) {
             None => false,

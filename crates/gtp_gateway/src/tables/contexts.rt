@@ -4,7 +4,7 @@ ghost use Rattle.std.specs.Prelude.{◌≡◌, ◌↔◌, IsTrue};
 ghost use Rattle.gtp_machine.specs.Node as nodes;
 ghost use Rattle.gtp_machine.specs.Node.{Active, Closing};
 ghost use Rattle.gtp_machine.specs.Command.{pending_dedicated};
-ghost use Rattle.gtp_gateway.specs.command.Request.{pending_session_of, pending_default_of};
+ghost use Rattle.gtp_gateway.specs.command.CreateSession.{pending_session_of, pending_default_of};
 
 use crate::command::create_session::SessionSpec;
 use gtp_tables::{Bearer, Kind, Session, State};

@@ -33,11 +33,11 @@ fn session_goes(bearers: &Bearers, remote: Teid, session: Teid) -> bool
 fn request_goes(bearers: &Bearers, remote: Teid, purpose: &Purpose) -> bool
     ensures { result ≡ goes_with_remote bearers.now remote.0 purpose.now }
 {
-    let session = match purpose.session() {
+    let session = match purpose.session {
         Some(session) => session_goes(bearers, remote, session),
         None => false,
     };
-    let bearer = match purpose.bearer() {
+    let bearer = match purpose.bearer {
         Some(bearer) => has_remote(bearers.get(bearer), remote),
         None => false,
     };

@@ -109,12 +109,8 @@ impl Parts {
         ensures none { IfNone result (HasDraws (node_of self.now) 1
             → HasAll view.now.bearers session.0) }
     {
-        let Ok(identity) = view.lowest_free_identity(session) else {
-            return None;
-        };
-        let Some(drawn) = self.draw_one() else {
-            return None;
-        };
+        let identity = view.lowest_free_identity(session).ok()?;
+        let drawn = self.draw_one()?;
         Some(BearerGrant { identity, drawn })
     }
 

@@ -18,7 +18,7 @@ ghost use Rattle.gtp_gateway.specs.GatewayState.{IsSoundState, state_of};
 ghost use Rattle.gtp_gateway.specs.user.Receive.{RequestsWaitOn};
 ghost use Rattle.gtp_gateway.specs.receive.Taken.{IsFresh};
 
-use crate::command::purpose::Purpose;
+use crate::command::purpose::{Asked, Purpose};
 use crate::messages::create_bearer::create_bearer_request;
 use crate::messages::create_session::session_cause;
 use crate::messages::elements::{is_there, own_end, written_teid};
@@ -30,8 +30,9 @@ use crate::receive::create_session_request::{granted_bearer, granted_session};
 use crate::receive::restart_counter::Heard;
 use crate::step::ControlStep;
 use crate::tables::contexts::pending_dedicated;
+use gtp_machine::interface_types::S5S8_PGW_GTP_U;
 use gtp_v2::Message;
-use gtp_values::{Below, Endpoint, Memory};
+use gtp_values::{Endpoint, Memory};
 use std::alloc::Global;
 
 impl Parts {
@@ -48,7 +49,7 @@ impl Parts {
         ensures own { IfOk result (λ message. IsOwn message) }
     {
         let session = granted_session(request, grant);
-        let user = own_end(Below::new(5), added.drawn.teid, self.config.own().user);
+        let user = own_end(S5S8_PGW_GTP_U, added.drawn.teid, self.config.own().user);
         let header = written_teid(session.remote);
         let linked = session.subscriber.identity;
         let template = added.template;
@@ -159,9 +160,10 @@ impl Parts {
         let ready = self.ready_octets(alloc, octets, encoded.both)?;
         self.pending.reserve().map_err(|_| Memory)?;
         self.make_granted_with(request, grant, added, heard)?;
-        let purpose = Purpose::CreateBearer {
-            session: grant.drawn.control,
-            bearer: added.drawn.teid,
+        let purpose = Purpose {
+            asked: Asked::CreateBearer,
+            session: Some(grant.drawn.control),
+            bearer: Some(added.drawn.teid),
             is_named: is_there(request.control.teid()),
         };
         self.begin_kept(added.seq, encoded.second, purpose);

@@ -46,14 +46,10 @@ pub fn identities_in(alloc: Global, view: &MessageView<'_>) -> Result<Vec<EbiVal
 pub fn has_too_many(view: &MessageView<'_>) -> bool
     ensures { IsTrue result ↔ (11 < length (all_of (number_of forms.Ebi) 1 view.now.elements)) }
 {
-    let mut count = 0;
-    for _ in view.elements().all(EbiValue::KIND, 1) {
-        if count == MOST_IDENTITIES {
-            return true;
-        }
-        count += 1;
-    }
-    false
+    view.elements()
+        .all(EbiValue::KIND, 1)
+        .nth(MOST_IDENTITIES)
+        .is_some()
 }
 
 impl NamedBearer {

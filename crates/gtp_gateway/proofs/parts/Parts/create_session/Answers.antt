@@ -1,18 +1,22 @@
-use Rattle.std.proofs.Common.{◌↔◌, inr, refl, sym, subst}
+use Rattle.std.proofs.Common.{◌≡◌, ◌↔◌, inr, Result, refl, sym, subst}
 use Rattle.gtp_machine.specs.declared.role.Role.{Role}
+use Rattle.gtp_machine.specs.declared.role.Role.TheVariants.{Serving}
+use Rattle.gtp_machine.specs.Choice.{HasDraws, HasSessionRoom}
 use Rattle.gtp_machine.specs.Command.{SessionBegun, BeginsSession}
 use Rattle.gtp_machine.specs.Input.{Specification, Create_session, refused}
 use Rattle.gtp_machine.specs.declared.outcome.Refusal.TheVariants.{SessionsFull, TeidsUsed}
-use Rattle.gtp_gateway.specs.declared.command.request.RequestToSend.{RequestToSend}
-use Rattle.gtp_gateway.specs.declared.command.request.RequestToSend.TheVariants.{CreateSession}
+use Rattle.gtp_gateway.specs.declared.fault.CommandFault.{CommandFault}
+use Rattle.gtp_gateway.specs.declared.sent.Begun.{Begun}
+use Rattle.gtp_gateway.specs.command.Command.{IsLastRefused, IsRefusedWhere}
+use Rattle.gtp_gateway.specs.command.Request.{Request}
+use Rattle.gtp_gateway.specs.tables.Change.{CanChange}
 use Rattle.gtp_gateway.specs.Parts.{node_of}
-use Rattle.gtp_gateway.specs.command.CreateSession.{specification}
-use Rattle.gtp_gateway.specs.GatewayState.{state_of}
-use Rattle.gtp_gateway.specs.command.Request.{AsksFor}
+use Rattle.gtp_gateway.specs.command.CreateSession.{specification, request_to_create_session}
+use Rattle.gtp_gateway.specs.GatewayState.{GatewayState, state_of}
 use Rattle.gtp_gateway.proofs.Columns.{yes, no, Told, stops, goes}
 use Rattle.gtp_gateway.proofs.Commands.{done_by}
 use Rattle.gtp_gateway.proofs.Refusals.{session_goes_on}
-use Rattle.gtp_gateway.proofs.RequestsToSend.{to_send_goes_on, in_place}
+use Rattle.gtp_gateway.proofs.RequestsToSend.{no_memory, as_err, last}
 use Rattle.gtp_gateway.proofs.parts.Parts.create_session.Goals as goal
 
 pub returns-then-not-has_session_room-clause-refused : goal.returns-then-not-has_session_room-clause-refused
@@ -30,16 +34,28 @@ returns-in_default-clause-refused c = λ why.
     (goes node _ SessionsFull why (yes c.has_session_room.ensures c.if-not-has_session_room.false) (λ room.
     stops node _ TeidsUsed refl c.in_default.ensures.none why))
 
+-- where there is room for a session and two TEIDs are left, the last rule decides
+by_last : (s : GatewayState) (spec : Specification) (r : Result Begun CommandFault) → s.role ≡ Serving → HasSessionRoom s.node → HasDraws s.node 2 → IsLastRefused s r → IsRefusedWhere (Create_session spec) s r
+by_last s spec r role room left rule = λ why.
+    subst (λ (x : Role). Told r why ↔ SessionBegun x spec s.node (refused s.node why)) (sym role)
+    (goes s.node r SessionsFull why room (λ _.
+    goes s.node r TeidsUsed why left (λ _.
+    last s r (BeginsSession s.node spec) why rule (session_goes_on s.node spec why))))
+
+pub returns-in_err-seq-clause-refused : goal.returns-in_err-seq-clause-refused
+returns-in_err-seq-clause-refused c =
+    by_last (state_of c.args.self.now) (specification c.args.spec.now) _ c.in-Serving.is (yes c.has_session_room.ensures c.if-not-has_session_room.false) c.in-Some.ensures.some.left (as_err (state_of c.args.self.now) c.in_err-seq.field-0.0 c.from_residual.result c.from_residual.ensures.1 c.in_err-seq.ensures.refused)
+
+pub returns-in_err-request-clause-refused : goal.returns-in_err-request-clause-refused
+returns-in_err-request-clause-refused c =
+    by_last (state_of c.args.self.now) (specification c.args.spec.now) _ c.in-Serving.is (yes c.has_session_room.ensures c.if-not-has_session_room.false) c.in-Some.ensures.some.left
+    (no_memory (state_of c.args.self.now) c.in_ok-seq.ensures.room c.from_residual-in_err-request.result c.from_residual-in_err-request.ensures.1)
+
 pub returns-clause-refused : goal.returns-clause-refused
-returns-clause-refused c = λ why.
-    let node = node_of c.args.self.now in
-    let spec : Specification = specification c.args.spec.now in
+returns-clause-refused c =
     let r = c.send_request.result in
-    let to_send : RequestToSend = CreateSession c.in-Some.drawn c.args.spec.now in
-    subst (λ (role : Role). Told r why ↔ SessionBegun role spec node (refused node why)) (sym c.in-Serving.is)
-    (goes node r SessionsFull why (yes c.has_session_room.ensures c.if-not-has_session_room.false) (λ room.
-    goes node r TeidsUsed why c.in-Some.ensures.some.left (λ draws.
-    in_place {A = λ few. AsksFor to_send node (refused node why)} {B = λ few. BeginsSession node spec (refused node why)} (λ few. to_send_goes_on to_send node why) (λ few. session_goes_on node spec why) (c.send_request.ensures.refused why))))
+    by_last (state_of c.args.self.now) (specification c.args.spec.now) r c.in-Serving.is (yes c.has_session_room.ensures c.if-not-has_session_room.false) c.in-Some.ensures.some.left
+    c.send_request.ensures.refused
 
 pub returns-clause-done : goal.returns-clause-done
 returns-clause-done c =
@@ -47,12 +63,16 @@ returns-clause-done c =
     let spec : Specification = specification c.args.spec.now in
     let drawn = c.in-Some.drawn in
     let two = c.in-Some.ensures.some in
-    done_by (Create_session spec) (AsksFor (CreateSession drawn c.args.spec.now) old.node) c.send_request.result old (state_of c.send_request.new.self) (λ teid. refl)
+    let seq = c.in_ok-seq.seq in
+    done_by (Create_session spec) seq _ (request_to_create_session drawn c.args.spec.now seq old.node) c.send_request.result old (state_of c.send_request.new.self)
+    c.in_ok-request.ensures.says (λ teid. refl)
     (λ e room asks. subst (λ (role : Role). SessionBegun role spec old.node e) (sym c.in-Serving.is)
-    (inr (yes c.has_session_room.ensures c.if-not-has_session_room.false, inr (two.left, inr (room, record { control = drawn.control.0; user = drawn.user.0; number = asks.number; control_free = two.control_free; user_free = two.user_free; apart = two.apart; number_free = asks.number_free; gives = asks.gives })))))
+    (inr (yes c.has_session_room.ensures c.if-not-has_session_room.false, inr (two.left, inr (room, record { control = drawn.control.0; user = drawn.user.0; number = seq; control_free = two.control_free; user_free = two.user_free; apart = two.apart; number_free = asks.number_free; gives = asks.gives })))))
     c.send_request.ensures.done
 
-pub send_request-requires : goal.send_request-requires
-send_request-requires c =
+-- the TEIDs that were drawn can be used
+pub send_request-requires-clause-can : goal.send_request-requires-clause-can
+send_request-requires-clause-can c =
     let two = c.in-Some.ensures.some in
-    record { draws_are = two.are; room = (yes c.has_session_room.ensures c.if-not-has_session_room.false).few; control_above = two.control_above; user_above = two.user_above }
+    subst (λ (x : Request). CanChange x.change (node_of c.args.self.now)) (sym c.in_ok-request.ensures.says)
+    (record { draws_are = two.are; room = (yes c.has_session_room.ensures c.if-not-has_session_room.false).few; control_above = two.control_above; user_above = two.user_above })

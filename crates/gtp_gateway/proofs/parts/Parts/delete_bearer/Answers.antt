@@ -1,17 +1,22 @@
-use Rattle.std.proofs.Common.{◌↔◌, inr, refl, sym, ◌∙◌, subst}
+use Rattle.std.proofs.Common.{◌≡◌, ◌↔◌, inr, ℕ, Some, Result, refl, sym, ◌∙◌, subst}
+use Rattle.std.specs.FinMap.{get}
 use Rattle.gtp_machine.specs.declared.role.Role.{Role}
+use Rattle.gtp_machine.specs.declared.role.Role.TheVariants.{Packet}
+use Rattle.gtp_machine.specs.Node.{Active, Session}
 use Rattle.gtp_machine.specs.Command.{BearerDeleted, ClosesBearer}
 use Rattle.gtp_machine.specs.Input.{Delete_bearer, refused}
 use Rattle.gtp_machine.specs.declared.outcome.Refusal.TheVariants.{NoSuchContext, NotActive}
-use Rattle.gtp_gateway.specs.declared.command.request.RequestToSend.{RequestToSend}
-use Rattle.gtp_gateway.specs.declared.command.request.RequestToSend.TheVariants.{DeleteBearer}
-use Rattle.gtp_gateway.specs.GatewayState.{state_of}
-use Rattle.gtp_gateway.specs.command.Request.{AsksFor}
+use Rattle.gtp_gateway.specs.declared.command.delete_bearer.Dedicated.{Dedicated}
+use Rattle.gtp_gateway.specs.declared.fault.CommandFault.{CommandFault}
+use Rattle.gtp_gateway.specs.declared.sent.Begun.{Begun}
+use Rattle.gtp_gateway.specs.command.Command.{IsLastRefused, IsRefusedWhere}
+use Rattle.gtp_gateway.specs.command.DeleteBearer.{IsDedicated, request_to_delete_bearer}
+use Rattle.gtp_gateway.specs.GatewayState.{GatewayState, IsSoundState, state_of}
 use Rattle.gtp_gateway.proofs.Columns.{yes, no, Told, ends_named, ends_session, stops, goes, goes_session}
 use Rattle.gtp_gateway.proofs.Commands.{done_by}
 use Rattle.gtp_gateway.proofs.DedicatedBearers.{goes_named}
 use Rattle.gtp_gateway.proofs.Refusals.{closing_goes_on}
-use Rattle.gtp_gateway.proofs.RequestsToSend.{to_send_goes_on, in_place}
+use Rattle.gtp_gateway.proofs.RequestsToSend.{no_memory, as_err, last}
 use Rattle.gtp_gateway.proofs.parts.Parts.delete_bearer.Goals as goal
 
 pub returns-then-not-are_active-clause-refused : goal.returns-then-not-are_active-clause-refused
@@ -26,20 +31,32 @@ returns-then-not-are_active-clause-refused c = λ why.
     (goes_named old c.requires.whole session identity _ (ends_named session identity node (refused node why) c.in-Some.at) d.named NoSuchContext why d.ensures.some
     (stops node _ NotActive refl (no c.are_active.ensures c.if-not-are_active.true) why)))
 
+-- of an active bearer of an active session the last rule decides
+by_last : (s : GatewayState) (whole : IsSoundState s) (session identity : ℕ) (at : Session) (d : Dedicated) (r : Result Begun CommandFault) → s.role ≡ Packet → get s.node.sessions session ≡ Some at → IsDedicated s.node session identity d → (at.state ≡ Active) × (d.bearer.state ≡ Active) → IsLastRefused s r → IsRefusedWhere (Delete_bearer session identity) s r
+by_last s whole session identity at d r role stands named active rule = λ why.
+    subst (λ (x : Role). Told r why ↔ BearerDeleted x session identity s.node (refused s.node why)) (sym role)
+    (goes_session s.node r (ends_session session identity s.node (refused s.node why)) session at NoSuchContext why stands
+    (goes_named s whole session identity r (ends_named session identity s.node (refused s.node why) at) d NoSuchContext why named
+    (goes s.node r NotActive why active (λ _.
+    last s r (ClosesBearer s.node session at identity d.teid.0 d.bearer) why rule (closing_goes_on s.node session at identity d.teid.0 d.bearer why)))))
+
+pub returns-in_err-seq-clause-refused : goal.returns-in_err-seq-clause-refused
+returns-in_err-seq-clause-refused c =
+    let d = c.in-Some-dedicated in
+    by_last (state_of c.args.self.now) c.requires.whole c.args.session.0 c.args.identity c.in-Some.at d.named _ c.in-Packet.is (sym c.get.ensures ∙ c.in-Some.is) d.ensures.some (yes c.are_active.ensures c.if-not-are_active.false) (as_err (state_of c.args.self.now) c.in_err-seq.field-0.0 c.from_residual.result c.from_residual.ensures.1 c.in_err-seq.ensures.refused)
+
+pub returns-in_err-request-clause-refused : goal.returns-in_err-request-clause-refused
+returns-in_err-request-clause-refused c =
+    let d = c.in-Some-dedicated in
+    by_last (state_of c.args.self.now) c.requires.whole c.args.session.0 c.args.identity c.in-Some.at d.named _ c.in-Packet.is (sym c.get.ensures ∙ c.in-Some.is) d.ensures.some (yes c.are_active.ensures c.if-not-are_active.false)
+    (no_memory (state_of c.args.self.now) c.in_ok-seq.ensures.room c.from_residual-in_err-request.result c.from_residual-in_err-request.ensures.1)
+
 pub returns-clause-refused : goal.returns-clause-refused
-returns-clause-refused c = λ why.
-    let old = state_of c.args.self.now in
-    let node = old.node in
-    let session = c.args.session.0 in
-    let identity = c.args.identity in
+returns-clause-refused c =
     let d = c.in-Some-dedicated in
     let r = c.send_request.result in
-    let to_send : RequestToSend = DeleteBearer d.named.teid d.named.bearer c.args.session c.in-Some.at identity in
-    subst (λ (role : Role). Told r why ↔ BearerDeleted role session identity node (refused node why)) (sym c.in-Packet.is)
-    (goes_session node r (ends_session session identity node (refused node why)) session c.in-Some.at NoSuchContext why (sym c.get.ensures ∙ c.in-Some.is)
-    (goes_named old c.requires.whole session identity r (ends_named session identity node (refused node why) c.in-Some.at) d.named NoSuchContext why d.ensures.some
-    (goes node r NotActive why (yes c.are_active.ensures c.if-not-are_active.false) (λ active.
-    in_place {A = λ few. AsksFor to_send node (refused node why)} {B = λ few. ClosesBearer node session c.in-Some.at identity d.named.teid.0 d.named.bearer (refused node why)} (λ few. to_send_goes_on to_send node why) (λ few. closing_goes_on node session c.in-Some.at identity d.named.teid.0 d.named.bearer why) (c.send_request.ensures.refused why)))))
+    by_last (state_of c.args.self.now) c.requires.whole c.args.session.0 c.args.identity c.in-Some.at d.named r c.in-Packet.is (sym c.get.ensures ∙ c.in-Some.is) d.ensures.some (yes c.are_active.ensures c.if-not-are_active.false)
+    c.send_request.ensures.refused
 
 pub returns-clause-done : goal.returns-clause-done
 returns-clause-done c =
@@ -48,16 +65,14 @@ returns-clause-done c =
     let identity = c.args.identity in
     let d = c.in-Some-dedicated in
     let is = d.ensures.some in
-    done_by (Delete_bearer session identity) (AsksFor (DeleteBearer d.named.teid d.named.bearer c.args.session c.in-Some.at identity) old.node) c.send_request.result old (state_of c.send_request.new.self) (λ teid. refl)
+    let seq = c.in_ok-seq.seq in
+    done_by (Delete_bearer session identity) seq _ (request_to_delete_bearer d.named c.args.session c.in-Some.at identity seq) c.send_request.result old (state_of c.send_request.new.self) c.in_ok-request.ensures.says (λ teid. refl)
     (λ e room asks. subst (λ (role : Role). BearerDeleted role session identity old.node e) (sym c.in-Packet.is)
     (inr (
       record { session = c.in-Some.at; stands = sym c.get.ensures ∙ c.in-Some.is },
       inr (
         record { key = d.named.teid.0; at = record { bearer = d.named.bearer; stands = is.stands }; of = is.of; dedicated = is.dedicated; has = is.has },
-        inr (
-          yes c.are_active.ensures c.if-not-are_active.false,
-          inr (room, record { number = asks.number; number_free = asks.number_free; gives = asks.gives }),
-        ),
+        inr (yes c.are_active.ensures c.if-not-are_active.false, inr (room, record { number = seq; number_free = asks.number_free; gives = asks.gives })),
       ),
     )))
     c.send_request.ensures.done

@@ -1,8 +1,8 @@
-use Rattle.std.proofs.Common.{◌≡◌, ℕ, true, Some, refl, sym, ◌∙◌, ap, subst}
+use Rattle.std.proofs.Common.{◌≡◌, ℕ, Some, refl, sym, ◌∙◌, ap, subst}
 use Rattle.std.proofs.lemmas.Result.{IfOk-weaker, on_err_weaker}
 use Rattle.gtp_v2.specs.Viewed.{always_has}
 use Rattle.gtp_machine.specs.Answer.{echoed}
-use Rattle.gtp_machine.specs.Message.{recovery_of}
+use Rattle.gtp_machine.specs.Message.{recovery_of, Echo_request, Echo_response, Create_session_request, Create_session_response, Delete_session_response, Create_bearer_request, Create_bearer_response, Delete_bearer_request, Delete_bearer_response}
 use Rattle.gtp_machine.specs.Decoded.{message_of}
 use Rattle.gtp_machine.specs.Packet.{CreateSessionAsked, DeleteSessionAsked, CreateBearerAnswered, DeleteBearerAnswered}
 use Rattle.gtp_machine.specs.Response.{EchoAnswered}
@@ -13,18 +13,14 @@ use Rattle.gtp_machine.proofs.Basics.Types.{type_kind}
 use Rattle.gtp_gateway.specs.receive.DeleteSessionRequest.{delete_session_by}
 use Rattle.gtp_gateway.specs.receive.RestartCounter.{node_heard}
 use Rattle.gtp_gateway.specs.Parts.{arrival_of}
-use Rattle.gtp_machine.specs.MessageType.{takes_type}
 use Rattle.gtp_machine.specs.Step.{TakesBy}
 use Rattle.gtp_gateway.specs.GatewayState.{state_of}
-use Rattle.gtp_gateway.proofs.ByProcedure.{unheard, deletion_request_is, takes_deletion_request, echo_request_is, takes_echo_request, echo_response_is, takes_echo_response, deletion_response_is, takes_deletion_response, removal_response_is, takes_removal_response, takes_session_request}
-use Rattle.gtp_gateway.proofs.DeleteBearerRequests.{delete_bearer_is, takes_removal_request}
+use Rattle.gtp_gateway.proofs.ByProcedure.{unheard, deletion_request_is, echo_request_is, echo_response_is, deletion_response_is, removal_response_is, row_by}
+use Rattle.gtp_gateway.proofs.DeleteBearerRequests.{delete_bearer_is}
 use Rattle.gtp_gateway.proofs.GivenUp.{wait_on}
 use Rattle.gtp_gateway.proofs.QueuesAfter.{on_ok, tied_of, on_goes}
-use Rattle.gtp_gateway.proofs.CreateBearerRequests.{has_context, create_bearer_is, takes_bearer_request}
-use Rattle.gtp_gateway.proofs.CreateBearerResponses.{takes_bearer_response}
-use Rattle.gtp_gateway.proofs.Rows.{as_row}
-use Rattle.gtp_gateway.proofs.CreateSessionResponses.{takes_session_response}
-use Rattle.gtp_gateway.proofs.Allocations.{on_err, needs_echo, needs_session, needs_delete_session, needs_bearer, needs_delete_bearer, needs_session_response, needs_bearer_response}
+use Rattle.gtp_gateway.proofs.CreateBearerRequests.{has_context, create_bearer_is}
+use Rattle.gtp_gateway.proofs.Allocations.{on_err, needs_echo, needs_by}
 use Rattle.gtp_gateway.specs.receive.Allocations.{AlwaysSendsOrOpens}
 use Rattle.gtp_machine.specs.Node.{Node}
 use Rattle.gtp_gateway.proofs.parts.Parts.dispatch.Goals as goal
@@ -35,8 +31,7 @@ returns-in-EchoRequest-clause-taken c =
     let m = c.args.view.now.message in
     let request = arrival_of c.args.source c.args.octets.now in
     let says = echo_request_is c.args.octets.now m c.requires.spelled (c.requires.of ∙ ap (λ (p : MessageType). Some p) c.in-EchoRequest.is) in
-    IfOk-weaker c.take_echo_request.result _ _ (λ step taken. as_row (λ n e. e ≡ echoed request says.echo n) (TakesBy old.role request (message_of m)) request old.role old.role (node_heard c.args.heard old.node) (node_heard c.args.heard old.node) step (state_of c.take_echo_request.new.self) refl refl
-    (takes_echo_request old.role request says.echo (message_of m) says.is)
+    IfOk-weaker c.take_echo_request.result _ _ (λ step taken. row_by (λ n e. e ≡ echoed request says.echo n) request c.args.message_type types.EchoRequest (message_of m) (Echo_request says.echo) old.role old.role (node_heard c.args.heard old.node) (node_heard c.args.heard old.node) step (state_of c.take_echo_request.new.self) c.requires.has c.in-EchoRequest.is says.is refl refl (λ n e row. (row, row))
     (taken request says.echo refl (says.number ∙ sym c.seq.ensures)))
     c.take_echo_request.ensures.taken
 
@@ -47,8 +42,7 @@ returns-in-EchoResponse-clause-taken c =
     let request = arrival_of c.args.source c.args.octets.now in
     let says = echo_response_is c.args.octets.now m c.requires.spelled (c.requires.of ∙ ap (λ (p : MessageType). Some p) c.in-EchoResponse.is) in
     let heard = state_of c.hear.new.self in
-    as_row (EchoAnswered says.echo) (TakesBy old.role request (message_of m)) request old.role heard.role (node_heard c.args.heard old.node) heard.node _ (state_of c.take_echo_response.new.self) c.hear.ensures.role c.hear.ensures.node
-    (takes_echo_response old.role request says.echo (message_of m) says.is)
+    row_by (EchoAnswered says.echo) request c.args.message_type types.EchoResponse (message_of m) (Echo_response says.echo) old.role heard.role (node_heard c.args.heard old.node) heard.node _ (state_of c.take_echo_response.new.self) c.requires.has c.in-EchoResponse.is says.is c.hear.ensures.role c.hear.ensures.node (λ n e row. (row, row))
     (c.take_echo_response.ensures.taken request says.echo (says.number ∙ sym c.seq-in-EchoResponse.ensures))
 
 pub take_echo_request-requires : goal.take_echo_request-requires
@@ -63,8 +57,7 @@ returns-in-DeleteSessionRequest-clause-taken c =
     let m = c.args.view.now.message in
     let request = arrival_of c.args.source c.args.octets.now in
     let is = deletion_request_is c.args.octets.now m c.delete_request_in-request.result c.requires.spelled (c.requires.of ∙ ap (λ (p : MessageType). Some p) c.in-DeleteSessionRequest.is) c.delete_request_in-request.ensures in
-    IfOk-weaker c.take_delete_session_request.result _ _ (λ step taken. as_row (DeleteSessionAsked request (delete_session_by c.delete_request_in-request.result)) (TakesBy old.role request (message_of m)) request old.role old.role (node_heard c.args.heard old.node) old.node step (state_of c.take_delete_session_request.new.self) refl (unheard c.args.heard (message_of m) old c.requires.weighed (ap recovery_of is))
-    (takes_deletion_request old.role request _ (message_of m) (subst (λ (p : MessageType). takes_type old.role p ≡ true) c.in-DeleteSessionRequest.is c.requires.has) is)
+    IfOk-weaker c.take_delete_session_request.result _ _ (λ step taken. row_by (DeleteSessionAsked request (delete_session_by c.delete_request_in-request.result)) request c.args.message_type types.DeleteSessionRequest (message_of m) _ old.role old.role (node_heard c.args.heard old.node) old.node step (state_of c.take_delete_session_request.new.self) c.requires.has c.in-DeleteSessionRequest.is is refl (unheard c.args.heard (message_of m) old c.requires.weighed (ap recovery_of is)) (λ n e row. row)
     taken)
     c.take_delete_session_request.ensures.taken
 
@@ -76,8 +69,7 @@ returns-in-DeleteSessionResponse-clause-taken c =
     let r = c.response_in-response in
     let says = deletion_response_is c.args.octets.now m r.result.cause c.requires.spelled (c.requires.of ∙ ap (λ (p : MessageType). Some p) c.in-DeleteSessionResponse.is) r.ensures.cause in
     let heard = state_of c.hear-in-DeleteSessionResponse.new.self in
-    as_row (DeleteSessionAnswered says.response) (TakesBy old.role request (message_of m)) request old.role heard.role (node_heard c.args.heard old.node) heard.node _ (state_of c.take_delete_session_response.new.self) c.hear-in-DeleteSessionResponse.ensures.role c.hear-in-DeleteSessionResponse.ensures.node
-    (takes_deletion_response old.role request says.response (message_of m) (subst (λ (p : MessageType). takes_type old.role p ≡ true) c.in-DeleteSessionResponse.is c.requires.has) says.is)
+    row_by (DeleteSessionAnswered says.response) request c.args.message_type types.DeleteSessionResponse (message_of m) (Delete_session_response says.response) old.role heard.role (node_heard c.args.heard old.node) heard.node _ (state_of c.take_delete_session_response.new.self) c.requires.has c.in-DeleteSessionResponse.is says.is c.hear-in-DeleteSessionResponse.ensures.role c.hear-in-DeleteSessionResponse.ensures.node (λ n e row. row)
     (c.take_delete_session_response.ensures.taken request says.response (says.header ∙ sym r.ensures.header) (says.number ∙ sym r.ensures.seq) says.cause)
 
 pub returns-in-DeleteBearerResponse-clause-taken : goal.returns-in-DeleteBearerResponse-clause-taken
@@ -88,8 +80,7 @@ returns-in-DeleteBearerResponse-clause-taken c =
     let r = c.response_in-response-in-DeleteBearerResponse in
     let says = removal_response_is c.args.octets.now m r.result.cause c.requires.spelled (c.requires.of ∙ ap (λ (p : MessageType). Some p) c.in-DeleteBearerResponse.is) r.ensures.cause in
     let heard = state_of c.hear-in-DeleteBearerResponse.new.self in
-    as_row (DeleteBearerAnswered says.response) (TakesBy old.role request (message_of m)) request old.role heard.role (node_heard c.args.heard old.node) heard.node _ (state_of c.take_delete_bearer_response.new.self) c.hear-in-DeleteBearerResponse.ensures.role c.hear-in-DeleteBearerResponse.ensures.node
-    (takes_removal_response old.role request says.response (message_of m) (subst (λ (p : MessageType). takes_type old.role p ≡ true) c.in-DeleteBearerResponse.is c.requires.has) says.is)
+    row_by (DeleteBearerAnswered says.response) request c.args.message_type types.DeleteBearerResponse (message_of m) (Delete_bearer_response says.response) old.role heard.role (node_heard c.args.heard old.node) heard.node _ (state_of c.take_delete_bearer_response.new.self) c.requires.has c.in-DeleteBearerResponse.is says.is c.hear-in-DeleteBearerResponse.ensures.role c.hear-in-DeleteBearerResponse.ensures.node (λ n e row. row)
     (c.take_delete_bearer_response.ensures.taken request says.response (says.header ∙ sym r.ensures.header) (says.number ∙ sym r.ensures.seq) says.cause)
 
 pub create_session_request_in-request-requires-clause-of : goal.create_session_request_in-request-requires-clause-of
@@ -101,8 +92,7 @@ returns-in-CreateSessionRequest-clause-taken c =
     let m = c.args.view.now.message in
     let request = arrival_of c.args.source c.args.octets.now in
     let q = c.create_session_request_in-request.ensures in
-    IfOk-weaker c.take_create_session_request.result _ _ (λ step taken. as_row (CreateSessionAsked request q.0) (TakesBy old.role request (message_of m)) request old.role old.role (node_heard c.args.heard old.node) (node_heard c.args.heard old.node) step (state_of c.take_create_session_request.new.self) refl refl
-    (takes_session_request old.role request q.0 (message_of m) (subst (λ (p : MessageType). takes_type old.role p ≡ true) c.in-CreateSessionRequest.is c.requires.has) q.1)
+    IfOk-weaker c.take_create_session_request.result _ _ (λ step taken. row_by (CreateSessionAsked request q.0) request c.args.message_type types.CreateSessionRequest (message_of m) (Create_session_request q.0) old.role old.role (node_heard c.args.heard old.node) (node_heard c.args.heard old.node) step (state_of c.take_create_session_request.new.self) c.requires.has c.in-CreateSessionRequest.is q.1 refl refl (λ n e row. row)
     (taken q.0 q.2))
     c.take_create_session_request.ensures.taken
 
@@ -115,8 +105,7 @@ returns-in-CreateBearerRequest-clause-taken c =
     let m = c.args.view.now.message in
     let request = arrival_of c.args.source c.args.octets.now in
     let says = create_bearer_is c.args.octets.now m c.create_bearer_request_in-request.result c.requires.spelled (c.requires.of ∙ ap (λ (p : MessageType). Some p) c.in-CreateBearerRequest.is) c.create_bearer_request_in-request.ensures in
-    IfOk-weaker c.take_create_bearer_request.result _ _ (λ step taken. as_row (CreateBearerAsked request says.request) (TakesBy old.role request (message_of m)) request old.role old.role (node_heard c.args.heard old.node) old.node step (state_of c.take_create_bearer_request.new.self) refl (unheard c.args.heard (message_of m) old c.requires.weighed (ap recovery_of says.is))
-    (takes_bearer_request old.role request says.request (message_of m) (subst (λ (p : MessageType). takes_type old.role p ≡ true) c.in-CreateBearerRequest.is c.requires.has) says.is)
+    IfOk-weaker c.take_create_bearer_request.result _ _ (λ step taken. row_by (CreateBearerAsked request says.request) request c.args.message_type types.CreateBearerRequest (message_of m) (Create_bearer_request says.request) old.role old.role (node_heard c.args.heard old.node) old.node step (state_of c.take_create_bearer_request.new.self) c.requires.has c.in-CreateBearerRequest.is says.is refl (unheard c.args.heard (message_of m) old c.requires.weighed (ap recovery_of says.is)) (λ n e row. row)
     (taken says.request says.says))
     c.take_create_bearer_request.ensures.taken
 
@@ -132,8 +121,7 @@ returns-in-CreateSessionResponse-clause-taken c =
     let m = c.args.view.now.message in
     let request = arrival_of c.args.source c.args.octets.now in
     let reads = c.create_session_response_in-answer.ensures in
-    IfOk-weaker c.take_create_session_response.result _ _ (λ step taken. as_row (CreateSessionAnswered reads.response) (TakesBy old.role request (message_of m)) request old.role old.role (node_heard c.args.heard old.node) (node_heard c.args.heard old.node) step (state_of c.take_create_session_response.new.self) refl refl
-    (takes_session_response old.role request reads.response (message_of m) (subst (λ (p : MessageType). takes_type old.role p ≡ true) c.in-CreateSessionResponse.is c.requires.has) reads.is)
+    IfOk-weaker c.take_create_session_response.result _ _ (λ step taken. row_by (CreateSessionAnswered reads.response) request c.args.message_type types.CreateSessionResponse (message_of m) (Create_session_response reads.response) old.role old.role (node_heard c.args.heard old.node) (node_heard c.args.heard old.node) step (state_of c.take_create_session_response.new.self) c.requires.has c.in-CreateSessionResponse.is reads.is refl refl (λ n e row. row)
     (taken request reads.response reads.says))
     c.take_create_session_response.ensures.taken
 
@@ -146,8 +134,7 @@ returns-in-DeleteBearerRequest-clause-taken c =
     let m = c.args.view.now.message in
     let request = arrival_of c.args.source c.args.octets.now in
     let says = delete_bearer_is c.args.octets.now m c.delete_request_in-request-in-DeleteBearerRequest.result c.requires.spelled (c.requires.of ∙ ap (λ (p : MessageType). Some p) c.in-DeleteBearerRequest.is) c.delete_request_in-request-in-DeleteBearerRequest.ensures in
-    IfOk-weaker c.take_delete_bearer_request.result _ _ (λ step taken. as_row (DeleteBearerAsked request says.request) (TakesBy old.role request (message_of m)) request old.role old.role (node_heard c.args.heard old.node) old.node step (state_of c.take_delete_bearer_request.new.self) refl (unheard c.args.heard (message_of m) old c.requires.weighed (ap recovery_of says.is))
-    (takes_removal_request old.role request says.request (message_of m) (subst (λ (p : MessageType). takes_type old.role p ≡ true) c.in-DeleteBearerRequest.is c.requires.has) says.is)
+    IfOk-weaker c.take_delete_bearer_request.result _ _ (λ step taken. row_by (DeleteBearerAsked request says.request) request c.args.message_type types.DeleteBearerRequest (message_of m) (Delete_bearer_request says.request) old.role old.role (node_heard c.args.heard old.node) old.node step (state_of c.take_delete_bearer_request.new.self) c.requires.has c.in-DeleteBearerRequest.is says.is refl (unheard c.args.heard (message_of m) old c.requires.weighed (ap recovery_of says.is)) (λ n e row. row)
     (taken says.request says.says says.reads))
     c.take_delete_bearer_request.ensures.taken
 
@@ -157,8 +144,7 @@ returns-in-CreateBearerResponse-clause-taken c =
     let m = c.args.view.now.message in
     let request = arrival_of c.args.source c.args.octets.now in
     let reads = c.create_bearer_response_in-answer.ensures in
-    IfOk-weaker c.take_create_bearer_response.result _ _ (λ step taken. as_row (CreateBearerAnswered reads.response) (TakesBy old.role request (message_of m)) request old.role old.role (node_heard c.args.heard old.node) (node_heard c.args.heard old.node) step (state_of c.take_create_bearer_response.new.self) refl refl
-    (takes_bearer_response old.role request reads.response (message_of m) (subst (λ (p : MessageType). takes_type old.role p ≡ true) c.in-CreateBearerResponse.is c.requires.has) reads.is)
+    IfOk-weaker c.take_create_bearer_response.result _ _ (λ step taken. row_by (CreateBearerAnswered reads.response) request c.args.message_type types.CreateBearerResponse (message_of m) (Create_bearer_response reads.response) old.role old.role (node_heard c.args.heard old.node) (node_heard c.args.heard old.node) step (state_of c.take_create_bearer_response.new.self) c.requires.has c.in-CreateBearerResponse.is reads.is refl refl (λ n e row. row)
     (taken request reads.response reads.says))
     c.take_create_bearer_response.ensures.taken
 
@@ -182,14 +168,17 @@ returns-in-EchoRequest-clause-memory c =
     let old = state_of c.args.self.now in
     let m = c.args.view.now.message in
     let says = echo_request_is c.args.octets.now m c.requires.spelled (c.requires.of ∙ ap (λ (p : MessageType). Some p) c.in-EchoRequest.is) in
-    on_err c.take_echo_request.result (needs_echo old.role (arrival_of c.args.source c.args.octets.now) (message_of m) (node_heard c.args.heard old.node) says.echo says.is)
+    let node = node_heard c.args.heard old.node in
+    let request = arrival_of c.args.source c.args.octets.now in
+    let needs = needs_echo old.role request (message_of m) node says.echo in
+    on_err c.take_echo_request.result (needs_by old.role request (message_of m) node c.args.message_type types.EchoRequest (Echo_request says.echo) c.requires.has c.in-EchoRequest.is says.is (needs, needs))
 
 pub returns-in-CreateSessionRequest-clause-memory : goal.returns-in-CreateSessionRequest-clause-memory
 returns-in-CreateSessionRequest-clause-memory c =
     let old = state_of c.args.self.now in
     let request = arrival_of c.args.source c.args.octets.now in
     let q = c.create_session_request_in-request.ensures in
-    on_err_weaker c.take_create_session_request.result (λ needs. needs_session old.role request (message_of c.args.view.now.message) (node_heard c.args.heard old.node) q.0 (subst (λ (p : MessageType). takes_type old.role p ≡ true) c.in-CreateSessionRequest.is c.requires.has) q.1 (needs request q.0))
+    on_err_weaker c.take_create_session_request.result (λ needs. needs_by old.role request (message_of c.args.view.now.message) (node_heard c.args.heard old.node) c.args.message_type types.CreateSessionRequest (Create_session_request q.0) c.requires.has c.in-CreateSessionRequest.is q.1 (needs request q.0))
     c.take_create_session_request.ensures.memory
 
 pub returns-in-DeleteSessionRequest-clause-memory : goal.returns-in-DeleteSessionRequest-clause-memory
@@ -199,7 +188,7 @@ returns-in-DeleteSessionRequest-clause-memory c =
     let request = arrival_of c.args.source c.args.octets.now in
     let is = deletion_request_is c.args.octets.now m c.delete_request_in-request.result c.requires.spelled (c.requires.of ∙ ap (λ (p : MessageType). Some p) c.in-DeleteSessionRequest.is) c.delete_request_in-request.ensures in
     on_err_weaker c.take_delete_session_request.result (λ needs. subst (λ (n : Node). AlwaysSendsOrOpens (TakesBy old.role request (message_of m)) n) (unheard c.args.heard (message_of m) old c.requires.weighed (ap recovery_of is))
-    (needs_delete_session old.role request (message_of m) old.node _ (subst (λ (p : MessageType). takes_type old.role p ≡ true) c.in-DeleteSessionRequest.is c.requires.has) is (needs request)))
+    (needs_by old.role request (message_of m) old.node c.args.message_type types.DeleteSessionRequest _ c.requires.has c.in-DeleteSessionRequest.is is (needs request)))
     c.take_delete_session_request.ensures.memory
 
 pub returns-in-CreateBearerRequest-clause-memory : goal.returns-in-CreateBearerRequest-clause-memory
@@ -209,7 +198,7 @@ returns-in-CreateBearerRequest-clause-memory c =
     let request = arrival_of c.args.source c.args.octets.now in
     let says = create_bearer_is c.args.octets.now m c.create_bearer_request_in-request.result c.requires.spelled (c.requires.of ∙ ap (λ (p : MessageType). Some p) c.in-CreateBearerRequest.is) c.create_bearer_request_in-request.ensures in
     on_err_weaker c.take_create_bearer_request.result (λ needs. subst (λ (n : Node). AlwaysSendsOrOpens (TakesBy old.role request (message_of m)) n) (unheard c.args.heard (message_of m) old c.requires.weighed (ap recovery_of says.is))
-    (needs_bearer old.role request (message_of m) old.node says.request (subst (λ (p : MessageType). takes_type old.role p ≡ true) c.in-CreateBearerRequest.is c.requires.has) says.is (needs request says.request says.says)))
+    (needs_by old.role request (message_of m) old.node c.args.message_type types.CreateBearerRequest (Create_bearer_request says.request) c.requires.has c.in-CreateBearerRequest.is says.is (needs request says.request says.says)))
     c.take_create_bearer_request.ensures.memory
 
 pub returns-in-DeleteBearerRequest-clause-memory : goal.returns-in-DeleteBearerRequest-clause-memory
@@ -219,21 +208,21 @@ returns-in-DeleteBearerRequest-clause-memory c =
     let request = arrival_of c.args.source c.args.octets.now in
     let says = delete_bearer_is c.args.octets.now m c.delete_request_in-request-in-DeleteBearerRequest.result c.requires.spelled (c.requires.of ∙ ap (λ (p : MessageType). Some p) c.in-DeleteBearerRequest.is) c.delete_request_in-request-in-DeleteBearerRequest.ensures in
     on_err_weaker c.take_delete_bearer_request.result (λ needs. subst (λ (n : Node). AlwaysSendsOrOpens (TakesBy old.role request (message_of m)) n) (unheard c.args.heard (message_of m) old c.requires.weighed (ap recovery_of says.is))
-    (needs_delete_bearer old.role request (message_of m) old.node says.request (subst (λ (p : MessageType). takes_type old.role p ≡ true) c.in-DeleteBearerRequest.is c.requires.has) says.is (needs request says.request says.says)))
+    (needs_by old.role request (message_of m) old.node c.args.message_type types.DeleteBearerRequest (Delete_bearer_request says.request) c.requires.has c.in-DeleteBearerRequest.is says.is (needs request says.request says.says)))
     c.take_delete_bearer_request.ensures.memory
 
 pub returns-in-CreateSessionResponse-clause-memory : goal.returns-in-CreateSessionResponse-clause-memory
 returns-in-CreateSessionResponse-clause-memory c =
     let old = state_of c.args.self.now in
     let reads = c.create_session_response_in-answer.ensures in
-    on_err_weaker c.take_create_session_response.result (λ needs. needs_session_response old.role (arrival_of c.args.source c.args.octets.now) (message_of c.args.view.now.message) (node_heard c.args.heard old.node) reads.response (subst (λ (p : MessageType). takes_type old.role p ≡ true) c.in-CreateSessionResponse.is c.requires.has) reads.is (needs reads.response reads.says))
+    on_err_weaker c.take_create_session_response.result (λ needs. needs_by old.role (arrival_of c.args.source c.args.octets.now) (message_of c.args.view.now.message) (node_heard c.args.heard old.node) c.args.message_type types.CreateSessionResponse (Create_session_response reads.response) c.requires.has c.in-CreateSessionResponse.is reads.is (needs reads.response reads.says))
     c.take_create_session_response.ensures.memory
 
 pub returns-in-CreateBearerResponse-clause-memory : goal.returns-in-CreateBearerResponse-clause-memory
 returns-in-CreateBearerResponse-clause-memory c =
     let old = state_of c.args.self.now in
     let reads = c.create_bearer_response_in-answer.ensures in
-    on_err_weaker c.take_create_bearer_response.result (λ needs. needs_bearer_response old.role (arrival_of c.args.source c.args.octets.now) (message_of c.args.view.now.message) (node_heard c.args.heard old.node) reads.response (subst (λ (p : MessageType). takes_type old.role p ≡ true) c.in-CreateBearerResponse.is c.requires.has) reads.is (needs reads.response reads.says))
+    on_err_weaker c.take_create_bearer_response.result (λ needs. needs_by old.role (arrival_of c.args.source c.args.octets.now) (message_of c.args.view.now.message) (node_heard c.args.heard old.node) c.args.message_type types.CreateBearerResponse (Create_bearer_response reads.response) c.requires.has c.in-CreateBearerResponse.is reads.is (needs reads.response reads.says))
     c.take_create_bearer_response.ensures.memory
 
 pub returns-in-CreateSessionResponse-clause-goes : goal.returns-in-CreateSessionResponse-clause-goes

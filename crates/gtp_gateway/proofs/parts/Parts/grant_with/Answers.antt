@@ -7,7 +7,7 @@ use Rattle.gtp_machine.specs.Message.{Control}
 use Rattle.gtp_machine.specs.Node.{holding}
 use Rattle.gtp_machine.specs.declared.outcome.Outcome.TheVariants.{Answered}
 use Rattle.gtp_gateway.specs.declared.command.purpose.Purpose.{Purpose}
-use Rattle.gtp_gateway.specs.declared.command.purpose.Purpose.TheVariants.{CreateBearer}
+use Rattle.gtp_gateway.specs.declared.command.purpose.Asked.TheVariants.{CreateBearer}
 use Rattle.gtp_gateway.specs.receive.Answer.{after_held}
 use Rattle.gtp_gateway.specs.command.SendRequest.{about}
 use Rattle.gtp_gateway.specs.receive.CreateSessionRequest.{session_granted, asked_with, made_with}
@@ -62,7 +62,7 @@ returns-clause-granted c =
     }) ∙ c.ready_octets.ensures.same in
     let config : c.begin_kept.new.self.config.config ≡ old.node.config = ap (λ (s : Settings). s.config) (c.begin_kept.ensures.config ∙ c.make_granted_with.ensures.config) ∙ ap (λ (s : GatewayState). s.node.config) same in
     let makes : node_of c.make_granted_with.new.self ≡ made_with r g a (node_heard c.args.heard old.node) = made.node ∙ ap (λ (s : GatewayState). made_with r g a (node_heard c.args.heard s.node)) same in
-    let left = c.begin_kept.ensures.node ∙ (λ i. record (makes i) { pending = insert (makes i).pending a.seq (about (CreateBearer g.drawn.control a.drawn.teid c.is_there.result) (encoded.alone i)) }) in
+    let left = c.begin_kept.ensures.node ∙ (λ i. record (makes i) { pending = insert (makes i).pending a.seq (about (record { asked = CreateBearer; session = Some g.drawn.control; bearer = Some a.drawn.teid; is_named = c.is_there.result }) (encoded.alone i)) }) in
     record {
       sent = c.send_answer-out.result;
       is = c.answered.ensures ∙ (λ i. record { out = Some c.send_answer-out.result; report = record (plain_report (Answered (c.session_cause.ensures i))) { made = true } });
@@ -93,7 +93,7 @@ returns-clause-goes c =
     let config : c.make_granted_with.new.self.config.config ≡ old.node.config = ap (λ (s : Settings). s.config) c.make_granted_with.ensures.config ∙ ap (λ (s : GatewayState). s.node.config) same in
     let encoded = c.in_ok-encoded.ensures in
     let g = c.args.grant.now in
-    let begun_new : IsNewFor (record { number = a.seq; purpose = CreateBearer g.drawn.control a.drawn.teid c.is_there.result; to = control_end c.make_granted_with.new.self.config.config.peer.control; octets = c.in_ok-encoded.encoded.second.items }) old = record {
+    let begun_new : IsNewFor (record { number = a.seq; purpose = record { asked = CreateBearer; session = Some g.drawn.control; bearer = Some a.drawn.teid; is_named = c.is_there.result }; to = control_end c.make_granted_with.new.self.config.config.peer.control; octets = c.in_ok-encoded.encoded.second.items }) old = record {
       to = ap (λ (k : Config). control_end k.peer.control) config;
       spelled = encoded.alone_kept;
       other = new_request old c.args.grant.now.drawn a c.args.heard c.requires.whole c.requires.add refl _ (asked_with (session_granted c.args.request.now c.args.grant.now) a old.node) refl encoded.alone;

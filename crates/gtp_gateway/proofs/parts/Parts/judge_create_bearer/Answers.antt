@@ -1,5 +1,5 @@
 use Rattle.gtp_machine.specs.declared.message_type.MessageType.TheVariants as types
-use Rattle.std.proofs.Common.{◌≡◌, ℕ, ◌∷◌, [], Option, Some, true, false, inl, inr, refl, sym, ◌∙◌, ap, subst}
+use Rattle.std.proofs.Common.{◌≡◌, ℕ, ◌∷◌, [], Option, Some, true, false, refl, sym, ◌∙◌, ap, subst}
 use Rattle.std.specs.FinMap.{get, insert}
 use Rattle.gtp_machine.specs.Answer.{refusing}
 use Rattle.gtp_machine.specs.Choice.{HasFreeIdentity, IsFreeIdentity}
@@ -10,6 +10,7 @@ use Rattle.gtp_machine.specs.Node.{Session, Bearer, Dedicated, Active}
 use Rattle.gtp_machine.specs.Serving.{no_resources}
 use Rattle.gtp_gateway.specs.receive.Answer.{answering}
 use Rattle.gtp_gateway.specs.Parts.{node_of}
+use Rattle.gtp_gateway.proofs.Rules.{meets, breaks}
 use Rattle.gtp_gateway.proofs.Columns.{yes, no}
 use Rattle.gtp_gateway.proofs.CreateBearerRequests.{none_free}
 use Rattle.gtp_gateway.proofs.BeforeSecond.{draws_there, all_there, granted_there}
@@ -19,10 +20,8 @@ pub returns-then-not-is_session_active-clause-judged : goal.returns-then-not-is_
 returns-then-not-is_session_active-clause-judged c = λ node stands. record {
   judged = λ request q says.
       let old = node in
-      inr (
-        record { session = c.in-Some.session; stands = ap (get old.sessions) says.header ∙ (stands.session ∙ c.in-Some.is) },
-        inl (no c.is_session_active.ensures c.if-not-is_session_active.true, refl),
-      );
+      meets (record { session = c.in-Some.session; stands = ap (get old.sessions) says.header ∙ (stands.session ∙ c.in-Some.is) })
+      (breaks (no c.is_session_active.ensures c.if-not-is_session_active.true) refl);
   chosen = tt;
 }
 
@@ -30,16 +29,9 @@ pub returns-then-not-request-clause-judged : goal.returns-then-not-request-claus
 returns-then-not-request-clause-judged c = λ node stands. record {
   judged = λ request q says.
       let old = node in
-      inr (
-        record { session = c.in-Some.session; stands = ap (get old.sessions) says.header ∙ (stands.session ∙ c.in-Some.is) },
-        inr (
-          yes c.is_session_active.ensures c.if-not-is_session_active.false,
-          inl (
-            no says.alone c.if-not-request.true,
-            λ i. answering false request (refusing types.CreateBearerRequest (c.written_teid-header.ensures i) q.number (cause_of 94) old.counter ∷ []) 94 old,
-          ),
-        ),
-      );
+      meets (record { session = c.in-Some.session; stands = ap (get old.sessions) says.header ∙ (stands.session ∙ c.in-Some.is) })
+      (meets (yes c.is_session_active.ensures c.if-not-is_session_active.false)
+      (breaks (no says.alone c.if-not-request.true) (λ i. answering false request (refusing types.CreateBearerRequest (c.written_teid-header.ensures i) q.number (cause_of 94) old.counter ∷ []) 94 old)));
   chosen = refl;
 }
 
@@ -47,19 +39,10 @@ pub returns-then-not-is_default-clause-judged : goal.returns-then-not-is_default
 returns-then-not-is_default-clause-judged c = λ node stands. record {
   judged = λ request q says.
       let old = node in
-      inr (
-        record { session = c.in-Some.session; stands = ap (get old.sessions) says.header ∙ (stands.session ∙ c.in-Some.is) },
-        inr (
-          yes c.is_session_active.ensures c.if-not-is_session_active.false,
-          inr (
-            yes says.alone c.if-not-request.false,
-            inl (
-              λ linked. no c.is_default.ensures c.if-not-is_default.true (sym says.linked ∙ linked),
-              λ i. answering false request (refusing types.CreateBearerRequest (c.written_teid-header.ensures i) q.number (cause_of 64) old.counter ∷ []) 64 old,
-            ),
-          ),
-        ),
-      );
+      meets (record { session = c.in-Some.session; stands = ap (get old.sessions) says.header ∙ (stands.session ∙ c.in-Some.is) })
+      (meets (yes c.is_session_active.ensures c.if-not-is_session_active.false)
+      (meets (yes says.alone c.if-not-request.false)
+      (breaks (λ linked. no c.is_default.ensures c.if-not-is_default.true (sym says.linked ∙ linked)) (λ i. answering false request (refusing types.CreateBearerRequest (c.written_teid-header.ensures i) q.number (cause_of 64) old.counter ∷ []) 64 old))));
   chosen = refl;
 }
 
@@ -67,22 +50,11 @@ pub returns-in_default-choose-clause-judged : goal.returns-in_default-choose-cla
 returns-in_default-choose-clause-judged c = λ node stands. record {
   judged = λ request q says.
       let old = node in
-      inr (
-        record { session = c.in-Some.session; stands = ap (get old.sessions) says.header ∙ (stands.session ∙ c.in-Some.is) },
-        inr (
-          yes c.is_session_active.ensures c.if-not-is_session_active.false,
-          inr (
-            yes says.alone c.if-not-request.false,
-            inr (
-              says.linked ∙ yes c.is_default.ensures c.if-not-is_default.false,
-              inl (
-                λ free. none_free old c.args.request.now.header.0 (all_there c.args.request.now.header.0 c.args.view.now.bearers old.bearers (stands.identities (ap (λ (o : Option Session). is_some o) c.in-Some.is)) (c.in_default-choose.ensures.none (draws_there c.args.request.now.header.0 c.args.found c.args.view.now.bearers (node_of c.args.self.now) old stands free.1))) (subst (λ (t : ℕ). HasFreeIdentity old t) says.header free.0),
-                λ i. answering false request (Create_bearer_response (no_resources old q (c.written_teid-header.ensures i)) ∷ []) 73 old,
-              ),
-            ),
-          ),
-        ),
-      );
+      meets (record { session = c.in-Some.session; stands = ap (get old.sessions) says.header ∙ (stands.session ∙ c.in-Some.is) })
+      (meets (yes c.is_session_active.ensures c.if-not-is_session_active.false)
+      (meets (yes says.alone c.if-not-request.false)
+      (meets (says.linked ∙ yes c.is_default.ensures c.if-not-is_default.false)
+      (breaks (λ free. none_free old c.args.request.now.header.0 (all_there c.args.request.now.header.0 c.args.view.now.bearers old.bearers (stands.identities (ap (λ (o : Option Session). is_some o) c.in-Some.is)) (c.in_default-choose.ensures.none (draws_there c.args.request.now.header.0 c.args.found c.args.view.now.bearers (node_of c.args.self.now) old stands free.1))) (subst (λ (t : ℕ). HasFreeIdentity old t) says.header free.0)) (λ i. answering false request (Create_bearer_response (no_resources old q (c.written_teid-header.ensures i)) ∷ []) 73 old)))));
   chosen = tt;
 }
 
@@ -94,36 +66,26 @@ returns-clause-judged c = λ node stands. record {
       let chosen = granted_there c.args.request.now.header.0 c.args.found c.args.view.now.bearers (node_of c.args.self.now) old grant stands (ap (λ (o : Option Session). is_some o) c.in-Some.is) c.in-Some-choose.ensures.identity c.in-Some-choose.ensures.drawn in
       let teid = grant.drawn.teid.0 in
       let free : IsFreeIdentity old q.header grant.identity = record { range = record { low = chosen.identity.range.least; high = chosen.identity.range.most }; unused = subst (λ (t : ℕ). (k : ℕ) (b : Bearer) → get old.bearers k ≡ Some b → b.session ≡ t → b.identity ≡ Some grant.identity → ⊥) (sym says.header) chosen.identity.unused } in
-      inr (
-        record { session = c.in-Some.session; stands = ap (get old.sessions) says.header ∙ (stands.session ∙ c.in-Some.is) },
-        inr (
-          yes c.is_session_active.ensures c.if-not-is_session_active.false,
-          inr (
-            yes says.alone c.if-not-request.false,
-            inr (
-              says.linked ∙ yes c.is_default.ensures c.if-not-is_default.false,
-              inr (
-                (record { identity = grant.identity; free = free }, chosen.drawn.left),
-                record {
-                  user = teid;
-                  identity = grant.identity;
-                  user_free = chosen.drawn.free;
-                  identity_free = free;
-                  gives = λ i. answering true request
-                      (Create_bearer_response (record {
-                        header = c.written_teid-header.ensures i;
-                        number = q.number;
-                        cause = cause_of 16;
-                        contexts = record { identity = grant.identity; cause = cause_of 16; serving_user = Some (tunnel_end 4 teid old.config.own.user); packet_user = Some q.context.user } ∷ [];
-                        recovery = Some old.counter;
-                      }) ∷ [])
-                      16
-                      (record old { drawn = teid ∷ old.drawn; bearers = insert old.bearers teid (record { remote = Some (sym says.user i).teid; session = sym says.header i; identity = Some grant.identity; kind = Dedicated; state = Active; ended = false }) });
-                },
-              ),
-            ),
-          ),
-        ),
-      );
+      meets (record { session = c.in-Some.session; stands = ap (get old.sessions) says.header ∙ (stands.session ∙ c.in-Some.is) })
+      (meets (yes c.is_session_active.ensures c.if-not-is_session_active.false)
+      (meets (yes says.alone c.if-not-request.false)
+      (meets (says.linked ∙ yes c.is_default.ensures c.if-not-is_default.false)
+      (meets (record { identity = grant.identity; free = free }, chosen.drawn.left)
+      (record {
+        user = teid;
+        identity = grant.identity;
+        user_free = chosen.drawn.free;
+        identity_free = free;
+        gives = λ i. answering true request
+            (Create_bearer_response (record {
+              header = c.written_teid-header.ensures i;
+              number = q.number;
+              cause = cause_of 16;
+              contexts = record { identity = grant.identity; cause = cause_of 16; serving_user = Some (tunnel_end 4 teid old.config.own.user); packet_user = Some q.context.user } ∷ [];
+              recovery = Some old.counter;
+            }) ∷ [])
+            16
+            (record old { drawn = teid ∷ old.drawn; bearers = insert old.bearers teid (record { remote = Some (sym says.user i).teid; session = sym says.header i; identity = Some grant.identity; kind = Dedicated; state = Active; ended = false }) });
+      })))));
   chosen = granted_there c.args.request.now.header.0 c.args.found c.args.view.now.bearers (node_of c.args.self.now) node c.in-Some-choose.grant stands (ap (λ (o : Option Session). is_some o) c.in-Some.is) c.in-Some-choose.ensures.identity c.in-Some-choose.ensures.drawn;
 }

@@ -1,4 +1,4 @@
-use Rattle.std.proofs.Common.{◌≡◌, ℕ, List, inl, inr, refl, sym, ◌∙◌, ap, subst}
+use Rattle.std.proofs.Common.{◌≡◌, ℕ, List, refl, sym, ◌∙◌, ap, subst}
 use Rattle.gtp_values.specs.Ebi.{IsEbi}
 use Rattle.gtp_values.specs.FiniteMap.{Among}
 use Rattle.gtp_machine.specs.Choice.{IsServed, IsIdentity}
@@ -12,6 +12,7 @@ use Rattle.gtp_gateway.specs.receive.CreateSessionRequest.{JudgesCreateSession, 
 use Rattle.gtp_gateway.specs.receive.RestartCounter.{node_heard}
 use Rattle.gtp_gateway.specs.Parts.{node_of}
 use Rattle.gtp_gateway.specs.GatewayState.{state_of}
+use Rattle.gtp_gateway.proofs.Rules.{meets, breaks}
 use Rattle.gtp_gateway.proofs.Columns.{yes, no}
 use Rattle.gtp_gateway.proofs.parts.Parts.judge_create_session.Goals as goal
 use Rattle.gtp_gateway.proofs.RestartCounters.{config_stays}
@@ -48,13 +49,9 @@ returns-then-not-serves c =
     let node = node_of c.args.self.now in
     subst (λ (v : CreateSessionVerdict). JudgesCreateSession r c.args.heard (state_of c.args.self.now) v) (sym c.refused-then-not-serves.ensures)
     (record {
-      judged = λ request q says. inr (
-        says.alone.0 c.if-not-request.false,
-        inr (
-          identity r q says _ c.number.ensures.value (c.in-Ok.ensures.ok.0 refl),
-          inl (λ among. no c.serves.ensures c.if-not-serves.true (served r q says c.args.heard node among), refl),
-        ),
-      );
+      judged = λ request q says. meets (says.alone.0 c.if-not-request.false)
+          (meets (identity r q says _ c.number.ensures.value (c.in-Ok.ensures.ok.0 refl))
+          (breaks (λ among. no c.serves.ensures c.if-not-serves.true (served r q says c.args.heard node among)) refl));
       is = refl;
     })
 
@@ -64,16 +61,10 @@ returns-then-not-serves_type c =
     let node = node_of c.args.self.now in
     subst (λ (v : CreateSessionVerdict). JudgesCreateSession r c.args.heard (state_of c.args.self.now) v) (sym c.refused-then-not-serves_type.ensures)
     (record {
-      judged = λ request q says. inr (
-        says.alone.0 c.if-not-request.false,
-        inr (
-          identity r q says _ c.number.ensures.value (c.in-Ok.ensures.ok.0 refl),
-          inr (
-            serves r q says c.args.heard node (yes c.serves.ensures c.if-not-serves.false),
-            inl (λ is. no c.serves_type.ensures c.if-not-serves_type.true (type_served r q says c.args.heard node is), refl),
-          ),
-        ),
-      );
+      judged = λ request q says. meets (says.alone.0 c.if-not-request.false)
+          (meets (identity r q says _ c.number.ensures.value (c.in-Ok.ensures.ok.0 refl))
+          (meets (serves r q says c.args.heard node (yes c.serves.ensures c.if-not-serves.false))
+          (breaks (λ is. no c.serves_type.ensures c.if-not-serves_type.true (type_served r q says c.args.heard node is)) refl)));
       is = refl;
     })
 
@@ -82,18 +73,10 @@ returns c =
     let r = c.args.request.now in
     let node = node_of c.args.self.now in
     record {
-      judged = λ request q says. inr (
-        says.alone.0 c.if-not-request.false,
-        inr (
-          identity r q says _ c.number.ensures.value (c.in-Ok.ensures.ok.0 refl),
-          inr (
-            serves r q says c.args.heard node (yes c.serves.ensures c.if-not-serves.false),
-            inr (
-              serves_type r q says c.args.heard node (yes c.serves_type.ensures c.if-not-serves_type.false),
-              c.judge_room.ensures.judged request q says.pdn says.access_point,
-            ),
-          ),
-        ),
-      );
+      judged = λ request q says. meets (says.alone.0 c.if-not-request.false)
+          (meets (identity r q says _ c.number.ensures.value (c.in-Ok.ensures.ok.0 refl))
+          (meets (serves r q says c.args.heard node (yes c.serves.ensures c.if-not-serves.false))
+          (meets (serves_type r q says c.args.heard node (yes c.serves_type.ensures c.if-not-serves_type.false))
+          (c.judge_room.ensures.judged request q says.pdn says.access_point))));
       is = subst (λ (n : ℕ). IsVerdict n r.pdn.0 c.judge_room.result c.args.heard (state_of c.args.self.now)) (c.in-Ok.ensures.value ∙ c.number.ensures.value) c.judge_room.ensures.is;
     }

@@ -5,10 +5,10 @@ use Rattle.gtp_values.specs.FiniteMap.{FiniteMap}
 use Rattle.gtp_machine.specs.Node.{Session, Bearer}
 use Rattle.gtp_gateway.specs.receive.RestartCounter.{node_heard}
 use Rattle.gtp_machine.proofs.Basics.Facts.{one_value}
-use Rattle.gtp_gateway.specs.Parts.{bearer_of, node_of}
+use Rattle.gtp_gateway.specs.Parts.{node_of}
 use Rattle.gtp_gateway.specs.receive.CreateSessionResponse.{JudgesCreateSessionResponse}
 use Rattle.gtp_gateway.proofs.Columns.{yes, no}
-use Rattle.gtp_gateway.proofs.CreateSessionResponses.{does_not_fit, is_refused, not_described, bearer_refused, opens, default_stands, default_blank}
+use Rattle.gtp_gateway.proofs.CreateSessionResponses.{of_session, does_not_fit, is_refused, not_described, bearer_refused, opens, default_stands, default_blank}
 use Rattle.gtp_gateway.proofs.parts.Parts.judge_create_session_response.Goals as goal
 
 pub returns-in_default-fits_create_session : goal.returns-in_default-fits_create_session
@@ -21,7 +21,7 @@ returns-then-not-accepts c =
     let n = node_heard c.args.heard (node_of c.args.self.now) in
     let k = c.in-Some-fits_create_session in
     subst (JudgesCreateSessionResponse c.args.answer.now n) (sym c.rejects.ensures)
-    (record { judged = λ a says. is_refused n c.args.answer.now a says c.in-Some.purpose c.in-Some.ensures.some k.asked k.ensures.some (no c.accepts.ensures c.if-not-accepts.true); can = tt; of = ap bearer_of k.ensures.some.is })
+    (record { judged = λ a says. is_refused n c.args.answer.now a says c.in-Some.purpose c.in-Some.ensures.some k.asked k.ensures.some (no c.accepts.ensures c.if-not-accepts.true); can = tt; of = of_session n c.args.answer.now.response.seq c.in-Some.purpose c.in-Some.ensures.some c.args.answer.now.response k.asked k.ensures.some })
 
 pub returns-in_default-described : goal.returns-in_default-described
 returns-in_default-described c =
@@ -44,7 +44,7 @@ returns-then-not-accepts-2 c =
     (record {
       judged = λ a says. bearer_refused n c.args.answer.now a says c.in-Some.purpose c.in-Some.ensures.some k.asked k.ensures.some (yes c.accepts.ensures c.if-not-accepts.false) view.result.sessions view.ensures.sessions d.described d.ensures.some (no c.accepts-2.ensures c.if-not-accepts-2.true);
       can = tt;
-      of = ap bearer_of k.ensures.some.is;
+      of = of_session n c.args.answer.now.response.seq c.in-Some.purpose c.in-Some.ensures.some c.args.answer.now.response k.asked k.ensures.some;
     })
 
 -- the default bearer of the session stands

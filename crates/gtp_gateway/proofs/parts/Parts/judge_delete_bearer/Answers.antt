@@ -8,32 +8,27 @@ use Rattle.gtp_machine.specs.Serving.{DeleteBearerTaken}
 use Rattle.gtp_gateway.specs.declared.tables.change.Change.TheVariants.{Stays, RemovesSession}
 use Rattle.gtp_gateway.specs.receive.DeleteBearerRequest.{delete_bearer_effect}
 use Rattle.gtp_gateway.specs.Parts.{node_of}
+use Rattle.gtp_gateway.proofs.Rules.{meets, breaks}
 use Rattle.gtp_gateway.proofs.Columns.{yes, no}
 use Rattle.gtp_gateway.proofs.parts.Parts.judge_delete_bearer.Goals as goal
 
 pub returns-then-is_session_pending : goal.returns-then-is_session_pending
 returns-then-is_session_pending c = λ request d says.
     let old = node_of c.args.self.now in
-    inr (
-      record { session = c.in-Some.session; stands = ap (get old.sessions) says.header ∙ (sym c.get.ensures ∙ c.in-Some.is) },
-      inl (λ opened. opened (yes c.is_session_pending.ensures c.if-is_session_pending.true), refl),
-    )
+    meets (record { session = c.in-Some.session; stands = ap (get old.sessions) says.header ∙ (sym c.get.ensures ∙ c.in-Some.is) })
+    (breaks (λ opened. opened (yes c.is_session_pending.ensures c.if-is_session_pending.true)) refl)
 
 pub returns-then-not-is_default : goal.returns-then-not-is_default
 returns-then-not-is_default c = record {
   judged = λ request d says.
       let old = node_of c.args.self.now in
-      inr (
-        record { session = c.in-Some.session; stands = ap (get old.sessions) says.header ∙ (sym c.get.ensures ∙ c.in-Some.is) },
-        inr (
-          no c.is_session_pending.ensures c.if-is_session_pending.false,
-          subst (λ (o : Option ℕ). DeleteBearerTaken request d o old c.in-Some.session (delete_bearer_effect request d (record { header = c.written_teid-header.result; cause = 64; linked = None; change = Stays }) old)) (sym (says.linked ∙ c.in-Some-linked.is))
-              (inl (
-                no c.is_default.ensures c.if-not-is_default.true,
-                λ i. answered request (Delete_bearer_response (record { header = c.written_teid-header.ensures i; number = d.number; cause = cause_of 64; linked = None; contexts = []; recovery = Some old.counter })) 64 old,
-              )),
-        ),
-      );
+      meets (record { session = c.in-Some.session; stands = ap (get old.sessions) says.header ∙ (sym c.get.ensures ∙ c.in-Some.is) })
+      (meets (no c.is_session_pending.ensures c.if-is_session_pending.false)
+      (subst (λ (o : Option ℕ). DeleteBearerTaken request d o old c.in-Some.session (delete_bearer_effect request d (record { header = c.written_teid-header.result; cause = 64; linked = None; change = Stays }) old)) (sym (says.linked ∙ c.in-Some-linked.is))
+      (inl (
+        no c.is_default.ensures c.if-not-is_default.true,
+        λ i. answered request (Delete_bearer_response (record { header = c.written_teid-header.ensures i; number = d.number; cause = cause_of 64; linked = None; contexts = []; recovery = Some old.counter })) 64 old,
+      ))));
   can = tt;
 }
 
@@ -41,16 +36,12 @@ pub returns : goal.returns
 returns c = record {
   judged = λ request d says.
       let old = node_of c.args.self.now in
-      inr (
-        record { session = c.in-Some.session; stands = ap (get old.sessions) says.header ∙ (sym c.get.ensures ∙ c.in-Some.is) },
-        inr (
-          no c.is_session_pending.ensures c.if-is_session_pending.false,
-          subst (λ (o : Option ℕ). DeleteBearerTaken request d o old c.in-Some.session (delete_bearer_effect request d (record { header = c.written_teid-header.result; cause = 16; linked = Some c.in-Some-linked.linked; change = RemovesSession c.args.request.now.header }) old)) (sym (says.linked ∙ c.in-Some-linked.is))
-              (inr (
-                yes c.is_default.ensures c.if-not-is_default.false,
-                λ i. answered request (Delete_bearer_response (record { header = c.written_teid-header.ensures i; number = d.number; cause = cause_of 16; linked = Some c.in-Some-linked.linked; contexts = []; recovery = Some old.counter })) 16 (without_session old (sym says.header i)),
-              )),
-        ),
-      );
+      meets (record { session = c.in-Some.session; stands = ap (get old.sessions) says.header ∙ (sym c.get.ensures ∙ c.in-Some.is) })
+      (meets (no c.is_session_pending.ensures c.if-is_session_pending.false)
+      (subst (λ (o : Option ℕ). DeleteBearerTaken request d o old c.in-Some.session (delete_bearer_effect request d (record { header = c.written_teid-header.result; cause = 16; linked = Some c.in-Some-linked.linked; change = RemovesSession c.args.request.now.header }) old)) (sym (says.linked ∙ c.in-Some-linked.is))
+      (inr (
+        yes c.is_default.ensures c.if-not-is_default.false,
+        λ i. answered request (Delete_bearer_response (record { header = c.written_teid-header.ensures i; number = d.number; cause = cause_of 16; linked = Some c.in-Some-linked.linked; contexts = []; recovery = Some old.counter })) 16 (without_session old (sym says.header i)),
+      ))));
   can = tt;
 }

@@ -1,4 +1,4 @@
-use Rattle.std.proofs.Common.{◌≡◌, ◌<◌, ◌≤◌, ℕ, inl, inr, refl, sym, ◌∙◌, ap, subst, arith}
+use Rattle.std.proofs.Common.{◌≡◌, ◌<◌, ◌≤◌, ℕ, refl, sym, ◌∙◌, ap, subst, arith}
 use Rattle.std.specs.FinMap.{len}
 use Rattle.gtp_values.specs.FiniteMap.{FiniteMap}
 use Rattle.gtp_values.specs.PdnAddress.{PdnAddress}
@@ -14,6 +14,7 @@ use Rattle.gtp_gateway.specs.receive.CreateSessionRequest.{JudgesRoom}
 use Rattle.gtp_gateway.specs.receive.RestartCounter.{node_heard}
 use Rattle.gtp_gateway.specs.Parts.{node_of}
 use Rattle.gtp_gateway.specs.GatewayState.{state_of}
+use Rattle.gtp_gateway.proofs.Rules.{meets, breaks}
 use Rattle.gtp_gateway.proofs.Columns.{no}
 use Rattle.gtp_gateway.proofs.CreateSessionRequests.{draws_left, still_free, lowest_given, none_given}
 use Rattle.gtp_gateway.proofs.parts.Parts.judge_room.Goals as goal
@@ -41,11 +42,9 @@ returns-in-Ok c =
     let lowest = c.in-Ok.ensures.free in
     let given = may_give left c.args.pdn.0 _ _ _ same pools c.asked_by.ensures address lowest in
     record {
-      judged = λ request q is of. inr (
-        (record { few = has_room _ _ (ap (λ (m : FiniteMap Session). len m) same) (no c.is_full.ensures c.if-is_full.false) }, draws_left c.args.heard node 2 drawn.left),
-        inr (
-          can_be_had left q.pdn address (given q.pdn is),
-          record {
+      judged = λ request q is of. meets (record { few = has_room _ _ (ap (λ (m : FiniteMap Session). len m) same) (no c.is_full.ensures c.if-is_full.false) }, draws_left c.args.heard node 2 drawn.left)
+          (meets (can_be_had left q.pdn address (given q.pdn is))
+          (record {
             control = c.in-Some.drawn.control.0;
             user = c.in-Some.drawn.user.0;
             address = address;
@@ -54,9 +53,7 @@ returns-in-Ok c =
             apart = drawn.apart;
             given = given q.pdn is;
             gives = c.judge_added.ensures.judged request q of;
-          },
-        ),
-      );
+          }));
       is = c.judge_added.ensures.is c.args.identity c.args.pdn.0 (record {
         can = drawn;
         lowest = subst (λ (m : FiniteMap Session). IsLowestGiven m node.config.pools (asked_by c.args.pdn.0) address) same
@@ -76,9 +73,7 @@ returns-in-Err c =
     let none = may_not_give left c.args.pdn.0 _ _ _ same pools c.asked_by.ensures c.in-Err.ensures.none in
     subst (λ (v : CreateSessionVerdict). JudgesRoom c.args.identity c.args.pdn.0 c.args.access_point.now c.args.heard (state_of c.args.self.now) v) (sym c.refused-in-Err.ensures)
     (record {
-      judged = λ request q is of. inr (
-        (record { few = has_room _ _ (ap (λ (m : FiniteMap Session). len m) same) (no c.is_full.ensures c.if-is_full.false) }, draws_left c.args.heard node 2 drawn.left),
-        inl (none q.pdn is, refl),
-      );
+      judged = λ request q is of. meets (record { few = has_room _ _ (ap (λ (m : FiniteMap Session). len m) same) (no c.is_full.ensures c.if-is_full.false) }, draws_left c.args.heard node 2 drawn.left)
+          (breaks (none q.pdn is) refl);
       is = refl;
     })

@@ -11,6 +11,9 @@ use Rattle.gtp_machine.specs.Step.{Step as MachineStep, TakesPair}
 use Rattle.gtp_machine.specs.declared.role.Role.{Role}
 use Rattle.gtp_machine.specs.declared.role.Role.TheVariants.{Serving, Packet}
 use Rattle.gtp_machine.specs.declared.outcome.DropReason.TheVariants.{Unexpected}
+use Rattle.gtp_reliable.specs.Held.{HeldPair}
+use Rattle.gtp_gateway.specs.declared.receive.BeforeReading.{BeforeReading}
+use Rattle.gtp_gateway.specs.declared.receive.BeforeReading.TheVariants.{New}
 use Rattle.gtp_gateway.specs.declared.step.ControlStep.{ControlStep}
 use Rattle.gtp_values.specs.declared.address.Endpoint.{Endpoint}
 use Rattle.gtp_machine.specs.declared.message_type.MessageType.TheVariants as types
@@ -137,50 +140,37 @@ take_pair-requires-clause-lie c =
     let view = c.in-Ok.view in
     (octets, lies_so octets view.message c.message-message.result.now view.second c.in-Some.second view.back c.back.result.now c.message-message.ensures (sym c.second.ensures ∙ c.in-Some.is) c.back.ensures c.in-Ok.ensures.lie)
 
+-- the pair, where the two are one and come from the peer
+found : (source : Endpoint) (octets : List ℕ) (old : GatewayState) (first second : Viewed) (back : List ℕ) (pairs : List HeldPair) (before : BeforeReading) → LieIn octets first (Some second) back → IsEntered source octets old pairs before → before ≡ New
+    → (old.role ≡ Serving) × (type_at first.message.kind ≡ Some types.CreateSessionResponse) × (type_at second.message.kind ≡ Some types.CreateBearerRequest) → TakesPair old.role old.node.config (arrival_of source octets) (datagram_reading octets)
+found source octets old first second back pairs before lie entered new are = the_pair source octets old first second back lie are.0 (subst (IsEntered source octets old pairs) new entered).peer are.1 are.2
+
 pub returns-in-Some-clause-taken : goal.returns-in-Some-clause-taken
 returns-in-Some-clause-taken c =
     let old = state_of c.args.self.now in
-    let source = c.args.source in
     let octets = c.args.octets.now in
     let view = c.in-Ok.view in
-    let first = c.message-message.result.now in
-    let second = c.in-Some.second in
-    let back = c.back.result.now in
-    let lie = lies_so octets view.message first view.second second view.back back c.message-message.ensures (sym c.second.ensures ∙ c.in-Some.is) c.back.ensures c.in-Ok.ensures.lie in
-    let fresh = subst (IsEntered source octets old c.args.self.now.held.pairs) c.in-New.is c.in_ok-step.ensures.entered in
-    let are = yes c.takes_pair.ensures c.if-not-takes_pair.false in
-    let pair = the_pair source octets old first second back lie are.0 fresh.peer are.1 are.2 in
-    IfOk-weaker c.take_pair.result _ _ (λ step taken. inr (pair, taken octets lie pair.answer pair.asked (pair_viewed source octets old first second back lie pair))) c.take_pair.ensures.taken
+    let lie = lies_so octets view.message c.message-message.result.now view.second c.in-Some.second view.back c.back.result.now c.message-message.ensures (sym c.second.ensures ∙ c.in-Some.is) c.back.ensures c.in-Ok.ensures.lie in
+    let pair = found c.args.source octets old c.message-message.result.now c.in-Some.second c.back.result.now c.args.self.now.held.pairs _ lie c.in_ok-step.ensures.entered c.in-New.is (yes c.takes_pair.ensures c.if-not-takes_pair.false) in
+    IfOk-weaker c.take_pair.result _ _ (λ step taken. inr (pair, taken octets lie pair.answer pair.asked (pair_viewed c.args.source octets old c.message-message.result.now c.in-Some.second c.back.result.now lie pair))) c.take_pair.ensures.taken
 
 pub returns-in-Some-clause-goes : goal.returns-in-Some-clause-goes
 returns-in-Some-clause-goes c =
     let old = state_of c.args.self.now in
-    let source = c.args.source in
     let octets = c.args.octets.now in
     let view = c.in-Ok.view in
-    let first = c.message-message.result.now in
-    let second = c.in-Some.second in
-    let back = c.back.result.now in
-    let lie = lies_so octets view.message first view.second second view.back back c.message-message.ensures (sym c.second.ensures ∙ c.in-Some.is) c.back.ensures c.in-Ok.ensures.lie in
-    let fresh = subst (IsEntered source octets old c.args.self.now.held.pairs) c.in-New.is c.in_ok-step.ensures.entered in
-    let are = yes c.takes_pair.ensures c.if-not-takes_pair.false in
-    let pair = the_pair source octets old first second back lie are.0 fresh.peer are.1 are.2 in
-    on_ok c.take_pair.result (λ goes. inr (pair, subst (λ (o : List ℕ). QueuesAfterMessage source o old (state_of c.take_pair.new.self)) (sym (parts_of octets lie.0 back lie.1).second) goes)) c.take_pair.ensures.goes
+    let lie = lies_so octets view.message c.message-message.result.now view.second c.in-Some.second view.back c.back.result.now c.message-message.ensures (sym c.second.ensures ∙ c.in-Some.is) c.back.ensures c.in-Ok.ensures.lie in
+    let pair = found c.args.source octets old c.message-message.result.now c.in-Some.second c.back.result.now c.args.self.now.held.pairs _ lie c.in_ok-step.ensures.entered c.in-New.is (yes c.takes_pair.ensures c.if-not-takes_pair.false) in
+    on_ok c.take_pair.result (λ goes. inr (pair, subst (λ (o : List ℕ). QueuesAfterMessage c.args.source o old (state_of c.take_pair.new.self)) (sym (parts_of octets lie.0 c.back.result.now lie.1).second) goes)) c.take_pair.ensures.goes
 
 pub returns-in-Some-clause-memory : goal.returns-in-Some-clause-memory
 returns-in-Some-clause-memory c =
     let old = state_of c.args.self.now in
-    let source = c.args.source in
     let octets = c.args.octets.now in
     let view = c.in-Ok.view in
-    let first = c.message-message.result.now in
-    let second = c.in-Some.second in
-    let back = c.back.result.now in
-    let lie = lies_so octets view.message first view.second second view.back back c.message-message.ensures (sym c.second.ensures ∙ c.in-Some.is) c.back.ensures c.in-Ok.ensures.lie in
-    let fresh = subst (IsEntered source octets old c.args.self.now.held.pairs) c.in-New.is c.in_ok-step.ensures.entered in
-    let are = yes c.takes_pair.ensures c.if-not-takes_pair.false in
-    let pair = the_pair source octets old first second back lie are.0 fresh.peer are.1 are.2 in
-    on_err_weaker c.take_pair.result (λ needs. inr (pair, needs octets lie pair.answer pair.asked (pair_viewed source octets old first second back lie pair))) c.take_pair.ensures.memory
+    let lie = lies_so octets view.message c.message-message.result.now view.second c.in-Some.second view.back c.back.result.now c.message-message.ensures (sym c.second.ensures ∙ c.in-Some.is) c.back.ensures c.in-Ok.ensures.lie in
+    let pair = found c.args.source octets old c.message-message.result.now c.in-Some.second c.back.result.now c.args.self.now.held.pairs _ lie c.in_ok-step.ensures.entered c.in-New.is (yes c.takes_pair.ensures c.if-not-takes_pair.false) in
+    on_err_weaker c.take_pair.result (λ needs. inr (pair, needs octets lie pair.answer pair.asked (pair_viewed c.args.source octets old c.message-message.result.now c.in-Some.second c.back.result.now lie pair))) c.take_pair.ensures.memory
 
 pub returns-in-Some-type_for-clause-taken : goal.returns-in-Some-type_for-clause-taken
 returns-in-Some-type_for-clause-taken c =

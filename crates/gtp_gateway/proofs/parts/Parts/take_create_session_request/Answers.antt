@@ -1,4 +1,4 @@
-use Rattle.std.proofs.Common.{◌<◌, List, length, false, true, inl, inr, refl, sym, ap, subst, [], ◌∷◌}
+use Rattle.std.proofs.Common.{◌<◌, ◌≤◌, List, length, false, true, inl, inr, refl, sym, ap, subst, [], ◌∷◌}
 use Rattle.std.proofs.lemmas.Result.{IfOk-weaker}
 use Rattle.gtp_machine.specs.Answer.{answered, making}
 use Rattle.gtp_machine.specs.Choice.{HasHeldRoom}
@@ -9,6 +9,8 @@ use Rattle.gtp_machine.specs.Packet.{SessionJudged, CreateSessionAsked, session_
 use Rattle.gtp_machine.specs.declared.outcome.DropReason.TheVariants.{HeldFull}
 use Rattle.gtp_machine.specs.declared.outcome.Outcome.TheVariants.{Dropped}
 use Rattle.gtp_gateway.specs.declared.receive.create_session_request.judge.CreateSessionVerdict.{CreateSessionVerdict}
+use Rattle.gtp_gateway.specs.declared.receive.restart_counter.Heard.{Heard}
+use Rattle.gtp_gateway.specs.declared.parts.Parts.{Parts}
 use Rattle.gtp_gateway.specs.receive.CreateSessionRequest.{create_session_effect, IsVerdict}
 use Rattle.gtp_gateway.specs.receive.RestartCounter.{node_heard}
 use Rattle.gtp_gateway.specs.Parts.{arrival_of, node_of}
@@ -22,6 +24,10 @@ use Rattle.gtp_gateway.proofs.Choosings.{unmade, lowest_session}
 use Rattle.gtp_gateway.specs.declared.step.ControlStep.{ControlStep}
 use Rattle.gtp_gateway.proofs.parts.Parts.take_create_session_request.Goals as goal
 use Rattle.gtp_gateway.proofs.RestartCounters.{held_stays, config_stays}
+
+-- there is room for one more answer, whatever was heard
+room_left : (g : Parts) (heard : Heard) → (4096 ≤ length g.held.pairs → ⊥) → HasHeldRoom (node_heard heard (node_of g))
+room_left g heard few = record { few = subst (λ (held : List Held). length held < 4096) (sym (held_stays heard (node_of g))) (held_few g.held.pairs few) }
 
 pub returns-then-is_full-clause-taken : goal.returns-then-is_full-clause-taken
 returns-then-is_full-clause-taken c = λ q says.
@@ -38,7 +44,7 @@ returns-in-Refused-clause-taken c =
     let request = arrival_of c.args.source c.args.octets.now in
     let r = c.args.request.now in
     let cause = c.in-Refused.cause in
-    let room : HasHeldRoom left = record { few = subst (λ (held : List Held). length held < 4096) (sym (held_stays c.args.heard old.node)) (held_few c.args.self.now.held.pairs (no c.is_full.ensures.full c.if-is_full.false)) } in
+    let room = room_left c.args.self.now c.args.heard (no c.is_full.ensures.full c.if-is_full.false) in
     IfOk-weaker c.refuse_session.result _ _ (λ step a q says.
     answered_so (CreateSessionAsked request q) c.args.source c.args.octets.now _ cause.value false left left old step (state_of c.refuse_session.new.self) (config_stays c.args.heard old.node) a
     (inr (
@@ -55,7 +61,7 @@ returns-in-Granted-clause-taken c =
     let request = arrival_of c.args.source c.args.octets.now in
     let r = c.args.request.now in
     let g = c.in-Granted.grant in
-    let room : HasHeldRoom left = record { few = subst (λ (held : List Held). length held < 4096) (sym (held_stays c.args.heard old.node)) (held_few c.args.self.now.held.pairs (no c.is_full.ensures.full c.if-is_full.false)) } in
+    let room = room_left c.args.self.now c.args.heard (no c.is_full.ensures.full c.if-is_full.false) in
     let chosen = subst (λ (v : CreateSessionVerdict). IsVerdict r.default.identity r.pdn.0 v c.args.heard old) c.in-Granted.is c.judge_create_session.ensures.is in
     IfOk-weaker c.grant_session.result _ _ (λ step a q says.
     answered_so (CreateSessionAsked request q) c.args.source c.args.octets.now _ (session_cause r.pdn.0 g.address) true _ left old step (state_of c.grant_session.new.self) (config_stays c.args.heard old.node) a
@@ -74,7 +80,7 @@ returns-in-GrantedWith-clause-taken c =
     let r = c.args.request.now in
     let g = c.in-GrantedWith.grant in
     let x = c.in-GrantedWith.added in
-    let room : HasHeldRoom left = record { few = subst (λ (held : List Held). length held < 4096) (sym (held_stays c.args.heard old.node)) (held_few c.args.self.now.held.pairs (no c.is_full.ensures.full c.if-is_full.false)) } in
+    let room = room_left c.args.self.now c.args.heard (no c.is_full.ensures.full c.if-is_full.false) in
     let chosen = subst (λ (v : CreateSessionVerdict). IsVerdict r.default.identity r.pdn.0 v c.args.heard old) c.in-GrantedWith.is c.judge_create_session.ensures.is in
     IfOk-weaker c.grant_with.result _ _ (λ step a q says.
     answered_so (CreateSessionAsked request q) c.args.source c.args.octets.now _ (session_cause r.pdn.0 g.address) true _ left old step (state_of c.grant_with.new.self) (config_stays c.args.heard old.node) a
@@ -86,10 +92,7 @@ returns-in-GrantedWith-clause-taken c =
     c.grant_with.ensures.granted
 
 pub returns-in-GrantedWith-clause-memory : goal.returns-in-GrantedWith-clause-memory
-returns-in-GrantedWith-clause-memory c =
-    let old = state_of c.args.self.now in
-    let left = node_heard c.args.heard old.node in
-    on_err c.grant_with.result (λ arrival q. create_session_asked arrival q left (record { few = subst (λ (held : List Held). length held < 4096) (sym (held_stays c.args.heard old.node)) (held_few c.args.self.now.held.pairs (no c.is_full.ensures.full c.if-is_full.false)) }))
+returns-in-GrantedWith-clause-memory c = on_err c.grant_with.result (λ arrival q. create_session_asked arrival q _ (room_left c.args.self.now c.args.heard (no c.is_full.ensures.full c.if-is_full.false)))
 
 pub returns-in-GrantedWith-clause-choices : goal.returns-in-GrantedWith-clause-choices
 returns-in-GrantedWith-clause-choices c =
@@ -99,16 +102,10 @@ returns-in-GrantedWith-clause-choices c =
     IfOk-weaker c.grant_with.result _ _ (λ step a made. lowest_session r.default.identity r.pdn.0 r c.in-GrantedWith.grant c.args.heard old (node_of c.grant_with.new.self) chosen.0 (ap (λ (n : Node). n.sessions) a.becomes)) c.grant_with.ensures.granted
 
 pub returns-in-Refused-clause-memory : goal.returns-in-Refused-clause-memory
-returns-in-Refused-clause-memory c =
-    let old = state_of c.args.self.now in
-    let left = node_heard c.args.heard old.node in
-    on_err c.refuse_session.result (λ arrival q. create_session_asked arrival q left (record { few = subst (λ (held : List Held). length held < 4096) (sym (held_stays c.args.heard old.node)) (held_few c.args.self.now.held.pairs (no c.is_full.ensures.full c.if-is_full.false)) }))
+returns-in-Refused-clause-memory c = on_err c.refuse_session.result (λ arrival q. create_session_asked arrival q _ (room_left c.args.self.now c.args.heard (no c.is_full.ensures.full c.if-is_full.false)))
 
 pub returns-in-Granted-clause-memory : goal.returns-in-Granted-clause-memory
-returns-in-Granted-clause-memory c =
-    let old = state_of c.args.self.now in
-    let left = node_heard c.args.heard old.node in
-    on_err c.grant_session.result (λ arrival q. create_session_asked arrival q left (record { few = subst (λ (held : List Held). length held < 4096) (sym (held_stays c.args.heard old.node)) (held_few c.args.self.now.held.pairs (no c.is_full.ensures.full c.if-is_full.false)) }))
+returns-in-Granted-clause-memory c = on_err c.grant_session.result (λ arrival q. create_session_asked arrival q _ (room_left c.args.self.now c.args.heard (no c.is_full.ensures.full c.if-is_full.false)))
 
 pub returns-in-Refused-clause-choices : goal.returns-in-Refused-clause-choices
 returns-in-Refused-clause-choices c = IfOk-weaker c.refuse_session.result _ _ (λ step a. unmade step.report.made (ap (λ (s : ControlStep). s.report.made) a.is)) c.refuse_session.ensures.refused

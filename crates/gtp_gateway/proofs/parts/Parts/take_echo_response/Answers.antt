@@ -4,7 +4,8 @@ use Rattle.gtp_machine.specs.Removal.{finished_about}
 use Rattle.gtp_machine.specs.declared.outcome.DropReason.TheVariants.{NoPending, Mismatch}
 use Rattle.gtp_machine.specs.declared.outcome.Outcome.TheVariants.{Alive}
 use Rattle.gtp_gateway.specs.command.SendRequest.{about}
-use Rattle.gtp_gateway.specs.Parts.{node_of, session_of, bearer_of}
+use Rattle.gtp_gateway.specs.Parts.{node_of}
+use Rattle.gtp_gateway.specs.command.Purpose.{session_of, bearer_of}
 use Rattle.gtp_gateway.specs.GatewayState.{state_of}
 use Rattle.gtp_gateway.proofs.Columns.{yes, no}
 use Rattle.gtp_gateway.proofs.Pendings.{waits, waits_at, none_waits_at, echo_here, echo_there}
