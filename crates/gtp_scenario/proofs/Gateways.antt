@@ -19,7 +19,7 @@ use Rattle.gtp_scenario.specs.Texts.{apn_of, address_of}
 use Rattle.gtp_scenario.specs.Heads.{PacketHead, address_at, addresses_at, counter_at, access_points_in, access_points_at, pool_at, prefixes_at, pools_at, time_at, timers_at, serving_of, packet_of, set_up, template_of, configured, with_this, with_each, with_those, with_templates_at, setup_of, events_at}
 use Rattle.gtp_scenario.specs.Keys.{key_text, may_be_absent, is_met, is_met_by, scenario_keys, serving_keys, packet_keys, template_keys}
 use Rattle.gtp_scenario.specs.Reasons.{fits, names_one_of}
-use Rattle.gtp_scenario.specs.reading.Faultless.{is_template, are_templates, IsPacket, IsPacketAt, IsServingAt}
+use Rattle.gtp_scenario.specs.reading.Faultless.{is_template, are_templates, AreTemplatesOf, IsPacket, IsPacketAt, IsServingAt}
 use Rattle.gtp_scenario.proofs.Whole.{chain, pinned, gated, mapped, joined, some_of, is_some_by, by_some, needed, by_text, optional, parts, met_in, tft_met}
 
 -- ---- both gateways
@@ -36,7 +36,7 @@ addresses_met : (d : Data) → is_met d keys.Control ≡ true → is_met d keys.
 unfolding addresses_at
 addresses_met d control user = chain (address_at (codes "control") d) _ (control_met d control) (λ a. chain (address_at (codes "user") d) _ (user_met d user) (λ b. refl))
 
-counter_met : (d : Data) → is_met d keys.Counter ≡ true → is_some (counter_at d) ≡ true
+pub counter_met : (d : Data) → is_met d keys.Counter ≡ true → is_some (counter_at d) ≡ true
 unfolding counter_at
 counter_met d met = joined (get (codes "counter") d) whole_number (within 0 255) (needed keys.Counter d (get (codes "counter") d) (λ v. whole_number v >>= within 0 255) refl (λ v. refl) met)
 
@@ -48,7 +48,7 @@ serving_read d h =
 
 -- ---- the packet gateway
 
-access_points_met : (d : Data) → is_met d keys.Apns ≡ true → is_some (access_points_at d) ≡ true
+pub access_points_met : (d : Data) → is_met d keys.Apns ≡ true → is_some (access_points_at d) ≡ true
 unfolding access_points_at
 access_points_met d met =
     joined (get (codes "apns") d) as_array (λ items. cond (nat_le (count_of items) 16) (access_points_in items) None)
@@ -65,7 +65,7 @@ pub packet_is : (d : Data) (own : Addresses) (counter : ℕ) (names : List (List
 unfolding packet_of pools_at
 packet_is d own counter names v4 v6 only a b c e f = rw (only, a, b, c, e, f) refl
 
-packet_read : (d : Data) → IsPacket d → IsPacketRead d
+packet_read : (d : Data) → IsPacket packet_keys d → IsPacketRead d
 packet_read d is =
     let met = met_in packet_keys d is.keys in
     let only = (parts packet_keys d is.keys).only in
@@ -118,15 +118,15 @@ each_read names (item d items) s h same =
     let one = with_one names d s b.left same in
     pinned (with_this d s) one.next (with_each items) one.read (each_read names items one.next b.right one.same)
 
-templates_read : (d : Data) (s : Settings) (names : List (List ℕ)) → IsPacket d → access_points_at d ≡ Some names → s.config.access_points ≡ names → is_some (with_templates_at d s) ≡ true
+pub templates_read : (d : Data) (s : Settings) (names : List (List ℕ)) → is_met d keys.Templates ≡ true → AreTemplatesOf d → access_points_at d ≡ Some names → s.config.access_points ≡ names → is_some (with_templates_at d s) ≡ true
 unfolding with_templates_at
-templates_read d s names is of same = by (get (codes "templates") d) refl (met_in packet_keys d is.keys 8 keys.Templates refl)
+templates_read d s names said each of same = by (get (codes "templates") d) refl said
   where
     by : (o : Option Data) → get (codes "templates") d ≡ o → is_met_by d keys.Templates o ≡ true → is_some (with_those o s) ≡ true
     by None at met = refl
     by (Some v) at met =
         let items = some_of (as_array v) met in
-        pinned (as_array v) items.0 _ items.1 (each_read names items.0 s (is.templates items.0 names (ap (λ o. o >>= as_array) at ∙ items.1) of) same)
+        pinned (as_array v) items.0 _ items.1 (each_read names items.0 s (each items.0 names (ap (λ o. o >>= as_array) at ∙ items.1) of) same)
 
 -- ---- the keys of a scenario, in two orders
 
@@ -165,14 +165,14 @@ only_both (object ms) = all_both ms
 
 -- ---- heads
 
-timers_met : (d : Data) → is_met d keys.T3Response ≡ true → is_met d keys.N3Requests ≡ true → is_met d keys.Hold ≡ true → is_some (timers_at d) ≡ true
+pub timers_met : (d : Data) → is_met d keys.T3Response ≡ true → is_met d keys.N3Requests ≡ true → is_met d keys.Hold ≡ true → is_some (timers_at d) ≡ true
 unfolding timers_at
 timers_met d t3 n3 hold =
     chain (time_at (codes "t3") 3 1 1000 d) _ (optional keys.T3Response d (get (codes "t3") d) 3 1 1000 refl (λ v. refl) t3)
     (λ a. chain (time_at (codes "n3") 3 0 100 d) _ (optional keys.N3Requests d (get (codes "n3") d) 3 0 100 refl (λ v. refl) n3)
     (λ b. chain (time_at (codes "hold") 60 1 100000 d) _ (optional keys.Hold d (get (codes "hold") d) 60 1 100000 refl (λ v. refl) hold) (λ c. refl)))
 
-there : (key : Key) (d : Data) (o : Option Data) → may_be_absent d key ≡ false → is_met_by d key o ≡ true → is_some o ≡ true
+pub there : (key : Key) (d : Data) (o : Option Data) → may_be_absent d key ≡ false → is_met_by d key o ≡ true → is_some o ≡ true
 there key d None never met = sym never ∙ met
 there key d (Some v) never met = refl
 
@@ -189,7 +189,7 @@ setup_read d h serving_is packet_is =
     (λ t. chain (get (codes "serving") d >>= serving_of) _ (pinned (get (codes "serving") d) serving.0 serving_of serving.1 (serving_read serving.0 (serving_is serving.0 serving.1)))
     (λ s. pinned (get (codes "packet") d) packet.0 _ packet.1
     (pinned (packet_of packet.0) p.head _ p.read
-    (chain (with_templates_at packet.0 (set_up t s p.head).packet) _ (templates_read packet.0 (set_up t s p.head).packet p.head.access_points is p.names refl) (λ x. refl))))))
+    (chain (with_templates_at packet.0 (set_up t s p.head).packet) _ (templates_read packet.0 (set_up t s p.head).packet p.head.access_points (met_in packet_keys packet.0 is.keys 8 keys.Templates refl) is.templates p.names refl) (λ x. refl))))))
 
 events_met : (d : Data) → is_met d keys.Events ≡ true → is_some (events_at d) ≡ true
 unfolding events_at

@@ -15,11 +15,13 @@ use Rattle.gtp_scenario.specs.declared.reason.key.Key.TheVariants as keys
 use Rattle.gtp_scenario.specs.declared.reason.wanted.Wanted.TheVariants as wanted
 use Rattle.gtp_scenario.specs.Steps.{◌>>=◌}
 use Rattle.gtp_scenario.specs.Json.{is_among, all_among, has_only}
-use Rattle.gtp_scenario.specs.Keys.{key_text, is_good_text, is_met, is_met_by, is_unmet}
+use Rattle.gtp_scenario.specs.Events.{role_of}
+use Rattle.gtp_scenario.specs.Keys.{key_text, is_good_text, may_be_absent, is_met, is_met_by, is_unmet}
 use Rattle.gtp_scenario.specs.Reasons.{IsUnknown, IsMissing, IsBad, fits}
 use Rattle.gtp_scenario.specs.Trees.{data_of, members_said, view, unless_empty}
 use Rattle.gtp_scenario.proofs.Tokens.{json_is}
 use Rattle.gtp_scenario.proofs.Trees.{get_said}
+use Rattle.gtp_scenario.proofs.Whole.{by_text}
 
 -- ---- objects
 
@@ -121,7 +123,7 @@ all_met (key ∷ known) d none = by (is_met d key) refl none (all_met known d)
 pub fits_where : (known : List Key) (d : Data) → is_some (as_object d) ≡ true → (is_some (as_object d) ≡ true → has_only (map key_text known) d ≡ true) → find (is_unmet d) known ≡ None → fits known d ≡ true
 fits_where known d object only none = rw (only object) (all_met known d none)
 
--- ---- entries without a word
+-- ---- a key whose value says nothing
 
 pub bad_word : (d : Data) → (get (codes "do") d >>= as_str) ≡ None → is_some (get (codes "do") d) ≡ true → IsBad d keys.Do
 bad_word d none some = by (get (codes "do") d) refl none some
@@ -130,11 +132,18 @@ bad_word d none some = by (get (codes "do") d) refl none some
     by None is none some = absurd cc
     by (Some v) is none some = record { value = v; there = is; bad = ap (λ o. option_map_or (is_good_text wanted.Text) o false) none }
 
-pub no_word : (d : Data) → is_some (get (codes "do") d) ≡ false → IsMissing d keys.Do
-no_word d none = by (get (codes "do") d) refl none
+pub bad_role : (d : Data) → ((get (codes "role") d >>= as_str) >>= role_of) ≡ None → is_some (get (codes "role") d) ≡ true → IsBad d keys.Role
+bad_role d none some = by (get (codes "role") d) refl none some
   where
-    by : (o : Option Data) → get (codes "do") d ≡ o → is_some o ≡ false → IsMissing d keys.Do
-    by None is none = record { absent = is; needed = refl }
+    by : (o : Option Data) → get (codes "role") d ≡ o → ((o >>= as_str) >>= role_of) ≡ None → is_some o ≡ true → IsBad d keys.Role
+    by None is none some = absurd cc
+    by (Some v) is none some = record { value = v; there = is; bad = by_text role_of (as_str v) ∙ ap is_some none }
+
+pub no_word : (key : Key) (d : Data) → may_be_absent d key ≡ false → is_some (get (key_text key) d) ≡ false → IsMissing d key
+no_word key d never none = by (get (key_text key) d) refl none
+  where
+    by : (o : Option Data) → get (key_text key) d ≡ o → is_some o ≡ false → IsMissing d key
+    by None is none = record { absent = is; needed = never }
     by (Some v) is none = absurd cc
 
 -- ---- options

@@ -29,9 +29,7 @@ no_json octets none = rw none refl
 
 -- what is said of the data is said of the octets
 pub so : (octets : List ℕ) (d : Data) (reason : Reason) → json_of octets ≡ Some d → IsSaid d reason → IsSo octets reason
-so octets d reasons.TooLong json said = absurd said
-so octets d (reasons.NotText valid) json said = absurd said
-so octets d (reasons.NotJson line column) json said = absurd said
+so octets d (reasons.Json flaw) json said = absurd said
 so octets d (reasons.Head flaw) json said = (d, json, said)
 so octets d (reasons.Event place flaw) json said = (d, json, said)
 

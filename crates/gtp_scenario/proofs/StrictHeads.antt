@@ -285,7 +285,7 @@ scenario_fits d g events =
 same_value : (o : Option Data) (a b : Data) → o ≡ Some a → o ≡ Some b → a ≡ b
 same_value o a b h k = (let both : Some a ≡ Some b = sym h ∙ k in cc)
 
-packet_never : (d : Data) (p : PacketHead) (s : Settings) (flaw : PacketFlaw) → packet_of d ≡ Some p → s.config.access_points ≡ p.access_points → is_some (with_templates_at d s) ≡ true → IsPacketFlaw d flaw → ⊥
+packet_never : (d : Data) (p : PacketHead) (s : Settings) (flaw : PacketFlaw) → packet_of d ≡ Some p → s.config.access_points ≡ p.access_points → is_some (with_templates_at d s) ≡ true → IsPacketFlaw packet_keys d flaw → ⊥
 unfolding with_templates_at
 packet_never d p s (packet.Keys flaw) read points list is = true≢false (sym ((packet_parts d p read).fits s list) ∙ flaw_unfit packet_keys d flaw is)
 packet_never d p s packet.PastLastAddress read points list is = true≢false (sym (packet_parts d p read).pool ∙ ap is_some is.1)
@@ -308,4 +308,4 @@ head_never d (head.Serving flaw) is setup events =
 head_never d (head.Packet flaw) is setup events =
     let g = gateways_of d setup in
     let same = same_value (get (codes "packet") d) is.0 g.packet is.1 g.packet_is in
-    packet_never g.packet g.head g.set flaw g.packet_read g.points g.templates (subst (λ e. IsPacketFlaw e flaw) same is.2)
+    packet_never g.packet g.head g.set flaw g.packet_read g.points g.templates (subst (λ e. IsPacketFlaw packet_keys e flaw) same is.2)

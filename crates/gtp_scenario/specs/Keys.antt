@@ -1,5 +1,5 @@
 -- The keys of the objects of a scenario, and what stands at them.
-use Rattle.std.specs.Prelude.{ℕ, List, [], ◌∷◌, length, Bool, true, false, not, nat_le, codes, bytes_eq, if◌then◌else◌, Option, Some, None, is_some, is_none}
+use Rattle.std.specs.Prelude.{ℕ, List, [], ◌∷◌, length, Bool, true, false, not, nat_le, codes, bytes_eq, ◌||◌, if◌then◌else◌, Option, Some, None, is_some, is_none}
 use Rattle.std.specs.Option.{option_map_or}
 use Rattle.serde_json.specs.Data.{Data}
 use Rattle.serde_json.specs.Find.{get, as_str, as_array, as_object}
@@ -46,6 +46,10 @@ key_text keys.Node = codes "node"
 key_text keys.Payload = codes "payload"
 key_text keys.Datagram = codes "datagram"
 key_text keys.Length = codes "length"
+key_text keys.Role = codes "role"
+key_text keys.ControlAddress = codes "control"
+key_text keys.UserAddress = codes "user"
+key_text keys.Peer = codes "peer"
 
 -- the keys of each object, in order
 abbrev pub scenario_keys : List Key
@@ -59,6 +63,19 @@ packet_keys = keys.Control ∷ keys.User ∷ keys.Counter ∷ keys.Apns ∷ keys
 
 abbrev pub template_keys : List Key
 template_keys = keys.Apn ∷ keys.Tft ∷ []
+
+-- the keys of a gateway by itself
+abbrev pub serving_gateway_keys : List Key
+serving_gateway_keys =
+    keys.Role ∷ keys.ControlAddress ∷ keys.UserAddress ∷ keys.Peer ∷ keys.Counter ∷ keys.T3Response ∷ keys.N3Requests ∷ keys.Hold ∷ []
+
+abbrev pub packet_gateway_keys : List Key
+packet_gateway_keys =
+    keys.Role ∷ keys.ControlAddress ∷ keys.UserAddress ∷ keys.Peer ∷ keys.Counter ∷ keys.T3Response ∷ keys.N3Requests ∷ keys.Hold ∷
+    keys.Apns ∷ keys.Pool ∷ keys.Count ∷ keys.Pool6 ∷ keys.Count6 ∷ keys.Templates ∷ []
+
+abbrev pub peer_keys : List Key
+peer_keys = keys.ControlAddress ∷ keys.UserAddress ∷ []
 
 abbrev pub event_keys : EventKind → List Key
 event_keys kinds.CreateSession = keys.Do ∷ keys.Expect ∷ keys.Imsi ∷ keys.Apn ∷ keys.Ebi ∷ keys.Pdn ∷ []
@@ -122,12 +139,17 @@ wanted_of keys.Node = wanted.Gateway
 wanted_of keys.Payload = wanted.Octets
 wanted_of keys.Datagram = wanted.Number
 wanted_of keys.Length = wanted.Number
+wanted_of keys.Role = wanted.Gateway
+wanted_of keys.ControlAddress = wanted.AddressOfEither
+wanted_of keys.UserAddress = wanted.AddressOfEither
+wanted_of keys.Peer = wanted.Object
 
 -- a text is such a value
 abbrev pub is_good_text : Wanted → List ℕ → Bool
 is_good_text wanted.Text text = true
 is_good_text wanted.Address text = is_some (address_of text)
 is_good_text wanted.Address6 text = is_some (ipv6_of text)
+is_good_text wanted.AddressOfEither text = is_some (address_of text) || is_some (ipv6_of text)
 is_good_text wanted.AccessPoint text = is_some (apn_of text)
 is_good_text wanted.Imsi text = is_some (imsi_of text)
 is_good_text wanted.Teid text = is_some (teid_of text)

@@ -1,8 +1,10 @@
 -- When what is said of refused octets is so.
-use Rattle.std.specs.Prelude.{◌≡◌, ℕ, zero, suc, ◌+◌, ◌<◌, List, length, Bool, true, false, ◌&&◌, find, map, codes, string_bytes, Some, None, is_some}
+use Rattle.std.specs.Prelude.{◌≡◌, ℕ, zero, suc, ◌+◌, ◌<◌, List, length, Bool, true, false, ◌&&◌, find, map, codes, string_bytes, Option, Some, None, is_some}
 use Rattle.std.specs.List.{list_all}
 use Rattle.std.specs.Option.{option_map_or}
 use Rattle.std.specs.Str.{IsUtf8, IsValidUpTo}
+use Rattle.gtp_machine.specs.declared.role.Role.{Role}
+use Rattle.gtp_machine.specs.declared.role.Role.TheVariants.{Serving, Packet}
 use Rattle.serde_json.specs.Data.{Data, Items, no_items, item}
 use Rattle.serde_json.specs.Find.{get, get_item, as_array, as_object}
 use Rattle.serde_json.specs.Read.{read}
@@ -18,17 +20,21 @@ use Rattle.gtp_scenario.specs.declared.reason.packet.PacketFlaw.{PacketFlaw}
 use Rattle.gtp_scenario.specs.declared.reason.packet.PacketFlaw.TheVariants as packet
 use Rattle.gtp_scenario.specs.declared.reason.head.HeadFlaw.{HeadFlaw}
 use Rattle.gtp_scenario.specs.declared.reason.head.HeadFlaw.TheVariants as head
+use Rattle.gtp_scenario.specs.declared.reason.gateway.GatewayFlaw.{GatewayFlaw}
+use Rattle.gtp_scenario.specs.declared.reason.gateway.GatewayFlaw.TheVariants as gateway
 use Rattle.gtp_scenario.specs.declared.reason.event.EventFlaw.{EventFlaw}
 use Rattle.gtp_scenario.specs.declared.reason.event.EventFlaw.TheVariants as event
+use Rattle.gtp_scenario.specs.declared.reason.not_json.JsonFlaw.{JsonFlaw}
+use Rattle.gtp_scenario.specs.declared.reason.not_json.JsonFlaw.TheVariants as json
 use Rattle.gtp_scenario.specs.declared.reason.Reason.{Reason}
 use Rattle.gtp_scenario.specs.declared.reason.Reason.TheVariants as reasons
 use Rattle.gtp_scenario.specs.Steps.{◌>>=◌}
 use Rattle.gtp_scenario.specs.Json.{text_at, is_among, has_only}
 use Rattle.gtp_scenario.specs.Texts.{apn_of}
-use Rattle.gtp_scenario.specs.Events.{event_named}
+use Rattle.gtp_scenario.specs.Events.{event_named, role_of}
 use Rattle.gtp_scenario.specs.Entries.{Entry, entry_of}
 use Rattle.gtp_scenario.specs.Heads.{access_points_at, pool_at, prefixes_at, events_at}
-use Rattle.gtp_scenario.specs.Keys.{key_text, wanted_of, is_good, may_be_absent, is_met, is_unmet, kind_of, event_keys, scenario_keys, serving_keys, packet_keys, template_keys}
+use Rattle.gtp_scenario.specs.Keys.{key_text, wanted_of, is_good, may_be_absent, is_met, is_unmet, kind_of, event_keys, scenario_keys, serving_keys, packet_keys, template_keys, serving_gateway_keys, packet_gateway_keys, peer_keys}
 use Rattle.gtp_scenario.specs.Scenarios.{json_of, most_octets, most_events}
 
 -- ---- objects
@@ -60,6 +66,13 @@ IsFlaw known d (flaws.Unknown text) = IsUnknown known d (string_bytes text)
 IsFlaw known d (flaws.Missing key) = IsFirst known d key × IsMissing d key
 IsFlaw known d (flaws.Bad key) = IsFirst known d key × IsBad d key
 
+-- what is wrong with an object at this key, whatever its other keys are
+abbrev pub IsFlawOfKey : Key → Data → ObjectFlaw → Type 0
+IsFlawOfKey one d flaws.NoObject = as_object d ≡ None
+IsFlawOfKey one d (flaws.Unknown text) = ⊥
+IsFlawOfKey one d (flaws.Missing key) = (key ≡ one) × IsMissing d key
+IsFlawOfKey one d (flaws.Bad key) = (key ≡ one) × IsBad d key
+
 -- an object with no keys but these, and nothing is wrong at one of them
 abbrev pub fits : List Key → Data → Bool
 fits known d = has_only (map key_text known) d && list_all (is_met d) known
@@ -88,12 +101,12 @@ pub record IsTemplateOf (d : Data) (place : ℕ) (flaw : TemplateFlaw) : Type 0 
   pub list : (get (codes "templates") d >>= as_array) ≡ Some items
   pub at : IsTemplateAt names items place flaw
 
--- what is wrong with the packet gateway; a pool is looked at where nothing is wrong with its keys
-abbrev pub IsPacketFlaw : Data → PacketFlaw → Type 0
-IsPacketFlaw d (packet.Keys flaw) = IsFlaw packet_keys d flaw
-IsPacketFlaw d packet.PastLastAddress = (fits packet_keys d ≡ true) × (pool_at d ≡ None)
-IsPacketFlaw d packet.PastLastPrefix = (fits packet_keys d ≡ true) × (prefixes_at d ≡ None)
-IsPacketFlaw d (packet.Template place flaw) = IsTemplateOf d place flaw
+-- what is wrong with a packet gateway that is to have these keys; a pool is looked at where nothing is wrong with them
+abbrev pub IsPacketFlaw : List Key → Data → PacketFlaw → Type 0
+IsPacketFlaw known d (packet.Keys flaw) = IsFlaw known d flaw
+IsPacketFlaw known d packet.PastLastAddress = (fits known d ≡ true) × (pool_at d ≡ None)
+IsPacketFlaw known d packet.PastLastPrefix = (fits known d ≡ true) × (prefixes_at d ≡ None)
+IsPacketFlaw known d (packet.Template place flaw) = IsTemplateOf d place flaw
 
 -- what is wrong with the object that is the value of a key
 abbrev pub IsFlawAt : {F : Type 0} → (Data → F → Type 0) → List ℕ → Data → F → Type 0
@@ -102,7 +115,19 @@ IsFlawAt IsFlawIn key d flaw = (e : Data) × (get key d ≡ Some e) × IsFlawIn 
 abbrev pub IsHeadFlaw : Data → HeadFlaw → Type 0
 IsHeadFlaw d (head.Scenario flaw) = IsFlaw scenario_keys d flaw
 IsHeadFlaw d (head.Serving flaw) = IsFlawAt (IsFlaw serving_keys) (codes "serving") d flaw
-IsHeadFlaw d (head.Packet flaw) = IsFlawAt IsPacketFlaw (codes "packet") d flaw
+IsHeadFlaw d (head.Packet flaw) = IsFlawAt (IsPacketFlaw packet_keys) (codes "packet") d flaw
+
+-- ---- a gateway by itself
+
+-- the gateway that a head says to be
+abbrev pub role_at : Data → Option Role
+role_at d = text_at (codes "role") d >>= role_of
+
+abbrev pub IsGatewayFlaw : Data → GatewayFlaw → Type 0
+IsGatewayFlaw d (gateway.Role flaw) = IsFlawOfKey keys.Role d flaw
+IsGatewayFlaw d (gateway.Serving flaw) = (role_at d ≡ Some Serving) × IsFlaw serving_gateway_keys d flaw
+IsGatewayFlaw d (gateway.Packet flaw) = (role_at d ≡ Some Packet) × IsPacketFlaw packet_gateway_keys d flaw
+IsGatewayFlaw d (gateway.Peer flaw) = IsFlawAt (IsFlaw peer_keys) (codes "peer") d flaw
 
 -- ---- events
 
@@ -122,10 +147,7 @@ events_up_to (suc place) (item d items) = times_of d + events_up_to place items
 
 -- what is wrong with an entry that has no word
 abbrev pub IsWordless : Data → ObjectFlaw → Type 0
-IsWordless d flaws.NoObject = as_object d ≡ None
-IsWordless d (flaws.Unknown text) = ⊥
-IsWordless d (flaws.Missing key) = (key ≡ keys.Do) × IsMissing d key
-IsWordless d (flaws.Bad key) = (key ≡ keys.Do) × IsBad d key
+IsWordless d flaw = IsFlawOfKey keys.Do d flaw
 
 -- what is wrong with an entry itself
 abbrev pub IsEntryFlaw : Data → EventFlaw → Type 0
@@ -150,24 +172,24 @@ pub record IsEventAt (d : Data) (place : ℕ) (flaw : EventFlaw) : Type 0 where
 
 -- what is said of data is so
 abbrev pub IsSaid : Data → Reason → Type 0
-IsSaid d reasons.TooLong = ⊥
-IsSaid d (reasons.NotText valid) = ⊥
-IsSaid d (reasons.NotJson line column) = ⊥
+IsSaid d (reasons.Json flaw) = ⊥
 IsSaid d (reasons.Head flaw) = IsHeadFlaw d flaw
 IsSaid d (reasons.Event place flaw) = IsEventAt d place flaw
 
+-- why octets are no JSON
+abbrev pub IsJsonFlaw : List ℕ → JsonFlaw → Type 0
+IsJsonFlaw octets json.TooLong = most_octets < length octets
+IsJsonFlaw octets (json.NotText valid) = (¬ IsUtf8 octets) × IsValidUpTo octets valid
+IsJsonFlaw octets (json.NotJson line column) = IsUtf8 octets × (read octets ≡ None)
+
 -- what is said of octets is so
 abbrev pub IsSo : List ℕ → Reason → Type 0
-IsSo octets reasons.TooLong = most_octets < length octets
-IsSo octets (reasons.NotText valid) = (¬ IsUtf8 octets) × IsValidUpTo octets valid
-IsSo octets (reasons.NotJson line column) = IsUtf8 octets × (read octets ≡ None)
+IsSo octets (reasons.Json flaw) = IsJsonFlaw octets flaw
 IsSo octets (reasons.Head flaw) = (d : Data) × (json_of octets ≡ Some d) × IsHeadFlaw d flaw
 IsSo octets (reasons.Event place flaw) = (d : Data) × (json_of octets ≡ Some d) × IsEventAt d place flaw
 
 -- the refusal that a reason explains
 abbrev pub refusal_of : Reason → Refusal
-refusal_of reasons.TooLong = refusals.Json
-refusal_of (reasons.NotText valid) = refusals.Json
-refusal_of (reasons.NotJson line column) = refusals.Json
+refusal_of (reasons.Json flaw) = refusals.Json
 refusal_of (reasons.Head flaw) = refusals.Head
 refusal_of (reasons.Event place flaw) = refusals.Event place

@@ -2,9 +2,11 @@
 
 pub(crate) mod event;
 pub(crate) mod flaw;
+pub(crate) mod gateway;
 pub(crate) mod head;
 pub(crate) mod key;
 pub(crate) mod kind;
+pub(crate) mod not_json;
 pub(crate) mod packet;
 mod said;
 pub(crate) mod template;
@@ -23,50 +25,23 @@ use crate::head::events_at;
 use crate::members::Items;
 use crate::reason::event::{EventFlaw, entry_flaw};
 use crate::reason::head::{HeadFlaw, head_flaw};
-use crate::scenario::{MOST_OCTETS, json_of, read_scenario};
+use crate::reason::not_json::{JsonFlaw, json_flaw};
+use crate::scenario::{json_of, read_scenario};
 use crate::tree::Tree;
 use gtp_values::Memory;
 use json::Scratch;
-use serde_json::Value;
 use std::alloc::Global;
 
 /// Why octets are no scenario. `Display` gives a line of English, without characters that a terminal acts on: a key or
 /// a word of the scenario is cut to 64 octets.
 #[derive(Debug, Drop)]
 pub enum Reason {
-    /// They are more than 16,777,216 octets.
-    TooLong,
-    /// They are not UTF-8 from this octet on, counted from 0.
-    NotText(usize),
-    /// They are no JSON. The place, counted from 1, is where `serde_json` stops reading.
-    NotJson { line: usize, column: usize },
+    /// They are no JSON.
+    Json(JsonFlaw),
     /// Something is wrong beside the entries of `events`.
     Head(HeadFlaw),
     /// Something is wrong with the entry of `events` at this place, counted from 0.
     Event(usize, EventFlaw),
-}
-
-/// Why octets are no JSON.
-fn json_reason(alloc: Global, octets: &[u8]) -> Result<Reason, Memory>
-    requires { json_of octets.now ≡ None }
-    ensures refusal { IfOk result (λ reason. refusal_of reason ≡ Refusal.Json) }
-    ensures so { IfOk result (IsSo octets.now) }
-{
-    if octets.len() > MOST_OCTETS {
-        return Ok(Reason::TooLong);
-    }
-    let text = match str::from_utf8(octets) {
-        Ok(text) => text,
-        Err(error) => return Ok(Reason::NotText(error.valid_up_to())),
-    };
-    match Value::from_str(alloc, text) {
-        Ok(_) => unreachable!(),
-        Err(error) if error.is_memory() => Err(Memory),
-        Err(error) => Ok(Reason::NotJson {
-            line: error.line(),
-            column: error.column(),
-        }),
-    }
 }
 
 /// The item at a place of a list.
@@ -121,7 +96,7 @@ fn reason_for(alloc: Global, octets: &[u8], refusal: Refusal) -> Result<Reason, 
     let mut scratch = Scratch::new(alloc);
     match json_of(alloc, octets, &mut scratch) {
         Ok(tape) => data_reason(alloc, &Tree::root(&tape), refusal),
-        Err(Fault::Wrong) => json_reason(alloc, octets),
+        Err(Fault::Wrong) => Ok(Reason::Json(json_flaw(alloc, octets)?)),
         Err(Fault::Memory) => Err(Memory),
     }
 }

@@ -1,4 +1,5 @@
 pub mod Heads
+pub mod Reasons
 pub mod Views
 pub mod Asked
 pub mod Requests

@@ -159,26 +159,32 @@ fn answer_lines<R: BufRead, W: Write>(
 }
 
 /// Reads the first line, and starts the gateway that it says.
-fn start<R: BufRead>(alloc: Global, reader: &mut Counted<R>) -> Result<(Role, Gateway), ServeFault>
+fn start<R: BufRead>(
+    alloc: Global,
+    reader: &mut Counted<R>,
+    head_line: &mut Vec<u8>,
+) -> Result<(Role, Gateway), ServeFault>
     requires { failures_of reader.old < 2 ^ 64 - 1 }
     ensures started { IfOk result (λ r. Known (λ octets left. IsStarted octets left r.0 r.1)
         (R.remaining (inner_of reader.old)) (R.remaining (inner_of reader.new))) }
     ensures role { IfOk result (λ r. r.0 ≡ r.1.role) }
     ensures bad { result ≡ Err ServeFault.BadHead →
         IfSome (R.remaining (inner_of reader.old)) HasNoHead }
+    ensures held { result ≡ Err ServeFault.BadHead →
+        IfSome (R.remaining (inner_of reader.old)) (λ octets.
+        head_line.new.items ≡ take 1048577 (take_through 10 octets)) }
     ensures long { result ≡ Err ServeFault.TooLong →
         IfSome (R.remaining (inner_of reader.old)) (λ octets. 2 ^ 64 - 1 ≤ length octets) }
     ensures reads { TellsReads result reader.old reader.new }
     ensures kind { IfErr result (λ fault. fault ≢ ServeFault.Write × fault ≢ ServeFault.Closed) }
 {
-    let mut line = Vec::new(alloc);
-    if let Err(fault) = next_line(reader, &mut line) {
+    if let Err(fault) = next_line(reader, head_line) {
         return Err(fault);
     }
-    if line.len() > MOST_OCTETS {
+    if head_line.len() > MOST_OCTETS {
         return Err(ServeFault::BadHead);
     }
-    let head = match head_in(alloc, &line) {
+    let head = match head_in(alloc, head_line) {
         Ok(head) => head,
         Err(Fault::Wrong) => return Err(ServeFault::BadHead),
         Err(Fault::Memory) => return Err(ServeFault::Memory),
@@ -198,7 +204,8 @@ fn start<R: BufRead>(alloc: Global, reader: &mut Counted<R>) -> Result<(Role, Ga
 /// outcome of the gateway, with what is `sent`, the packet that was `accepted`, the sequence numbers of the requests that it
 /// `gave_up`, and the octets of those of which it `forgot` the answers.
 ///
-/// `BadHead` if the first line says no gateway: nothing was written. `Read` if a read failed, `Write` if a write did, `Closed` if
+/// `BadHead` if the first line says no gateway: nothing was written, and `head_line` is that line, or its first 1,048,577 octets, of
+/// which `head_reason` says what is wrong. `Read` if a read failed, `Write` if a write did, `Closed` if
 /// the reader of the output closed it, `Memory` if an allocation was refused for the first line, for holding a line or for an
 /// answer, `TooLong` if there are 2^64 - 1 octets or more: except after `Write` and `Closed`, what was written is the answers to
 /// the first lines.
@@ -206,6 +213,7 @@ pub fn serve<R: BufRead, W: Write>(
     alloc: Global,
     reader: &mut Counted<R>,
     writer: &mut Counted<W>,
+    head_line: &mut Vec<u8>,
 ) -> Result<(), ServeFault>
     requires reads { failures_of reader.old < 2 ^ 64 - 1 }
     requires writes { failures_of writer.old < 2 ^ 64 - 1 }
@@ -213,6 +221,9 @@ pub fn serve<R: BufRead, W: Write>(
         IsServed octets (W.contents (inner_of writer.old)) (W.contents (inner_of writer.new)))) }
     ensures bad { result ≡ Err ServeFault.BadHead → (writer.new ≡ writer.old)
         × IfSome (R.remaining (inner_of reader.old)) HasNoHead }
+    ensures held { result ≡ Err ServeFault.BadHead →
+        IfSome (R.remaining (inner_of reader.old)) (λ octets.
+        head_line.new.items ≡ take 1048577 (take_through 10 octets)) }
     ensures first { IfErr result (λ fault. fault ≢ ServeFault.Write → fault ≢ ServeFault.Closed →
         IfSome (R.remaining (inner_of reader.old)) (λ octets. IsFirstServed octets
         (W.contents (inner_of writer.old)) (W.contents (inner_of writer.new)))) }
@@ -221,14 +232,14 @@ pub fn serve<R: BufRead, W: Write>(
     ensures reads { TellsReads result reader.old reader.new }
     ensures writes { TellsWrites result writer.old writer.new }
 {
-    let (role, mut gateway) = match start(alloc, reader) {
+    let (role, mut gateway) = match start(alloc, reader, head_line) {
         Ok(started) => started,
         Err(fault) => return Err(fault),
     };
-    let Ok(line) = word_line(alloc, "started") else {
+    let Ok(started) = word_line(alloc, "started") else {
         return Err(ServeFault::Memory);
     };
-    if let Err(fault) = write_line(writer, &line) {
+    if let Err(fault) = write_line(writer, &started) {
         return Err(fault);
     }
     answer_lines(alloc, role, &mut gateway, reader, writer)

@@ -17,13 +17,12 @@ const VERSION: &str = "0.1.0";
 const NOTES: &str = "\
 Examples:
   gtpshow decode 40010009000001000300010007
-  gtpshow decode --all - < FILE
   gtpshow capture --brief examples/captures/attach.pcap
   gtpshow replay examples/scenarios/attach.json
+  gtpshow explain CODE
 
 Exit status: 0 shown, or replayed as expected; 1 a fault was shown, or an event came to something
-else; 2 bad words, hexadecimal, capture or scenario; 3 no memory, or a failed read or write
-gtpshow explain CODE says what a code or a cause means (H1 .., U1 .., G1 .., X1 .., N1 .., 16 ..)";
+else; 2 bad words, hexadecimal, capture or scenario; 3 no memory, or a failed read or write";
 
 const SCENARIO: &str = "\
 A scenario:

@@ -4,6 +4,7 @@ use crate::command::{Failure, command};
 use gtp_capture::begins_as_capture;
 use gtp_lines::{Plane, decode_lines};
 use gtp_scenario::reason_of;
+use gtp_serve::head_reason;
 use hex::FromHexError;
 use std::alloc::Global;
 use std::rt::{Env, Files};
@@ -69,6 +70,19 @@ pub fn hint_of_scenario<R: Eprint>(
     }
 }
 
+/// Says why the first line of standard input says no gateway.
+pub fn hint_of_gateway<R: Eprint>(rt: &R, alloc: Global, line: &[u8]) -> io::Result<()> {
+    if line.iter().all(u8::is_ascii_whitespace) {
+        return eprintln!(rt;
+            "gtpshow: the first line of standard input has to say a gateway: 'gateway --help' shows one"
+        );
+    }
+    match head_reason(alloc, line) {
+        Ok(Some(reason)) => eprintln!(rt; "gtpshow: the first line of standard input: {reason}"),
+        _ => Ok(()),
+    }
+}
+
 /// Says that no code is called so.
 fn hint_of_code<R: Eprint>(rt: &R, word: &str) -> io::Result<()> {
     eprintln!(rt; "gtpshow: no code is called {word}: 'explain' without a word shows all")
@@ -102,11 +116,6 @@ pub fn hint<R: Eprint + Env + Files + AllocGlobal>(rt: &R, failure: Failure) -> 
     match failure {
         Failure::BadHex => hint_of_hex(rt, alloc, word),
         Failure::BadCode => hint_of_code(rt, word),
-        Failure::BadGateway => {
-            eprintln!(rt;
-                "gtpshow: the first line of standard input has to say a gateway: 'gateway --help' shows one"
-            )
-        }
         Failure::Read | Failure::TooLong => hint_of_read(rt, word),
         Failure::BadCapture if word == "-" => {
             eprintln!(rt; "gtpshow: standard input does not begin as a capture does (pcap, pcapng)")

@@ -2,7 +2,7 @@
 
 ghost use Rattle.std.specs.Prelude.{◌≡◌, codes, IfOk, IsSome, MatchOption};
 ghost use Rattle.gtp_scenario.specs.Heads.{setup_of, events_at};
-ghost use Rattle.gtp_scenario.specs.Keys.{serving_keys};
+ghost use Rattle.gtp_scenario.specs.Keys.{serving_keys, packet_keys};
 ghost use Rattle.gtp_scenario.specs.Reasons.{IsFlaw, IsPacketFlaw, IsFlawAt, IsHeadFlaw};
 ghost use Rattle.gtp_scenario.specs.reading.Faultless.{IsServingAt, IsPacketAt};
 ghost use Rattle.gtp_scenario.specs.Trees.{view};
@@ -10,7 +10,7 @@ ghost use Rattle.gtp_scenario.specs.Trees.{view};
 use crate::members::value_at;
 use crate::reason::flaw::{ObjectFlaw, flaw_of};
 use crate::reason::key::Key;
-use crate::reason::packet::{PacketFlaw, packet_flaw};
+use crate::reason::packet::{PACKET_KEYS, PacketFlaw, packet_flaw};
 use crate::tree::Tree;
 use gtp_values::Memory;
 use std::alloc::Global;
@@ -51,10 +51,10 @@ fn serving_flaw(alloc: Global, value: &Tree<'_, '_>) -> Result<Option<ObjectFlaw
 
 fn packet_flaw_at(alloc: Global, value: &Tree<'_, '_>) -> Result<Option<PacketFlaw>, Memory>
     ensures { IfOk result (λ flaw. MatchOption flaw (IsPacketAt (view value.now))
-        (IsFlawAt IsPacketFlaw (codes "packet") (view value.now))) }
+        (IsFlawAt (IsPacketFlaw packet_keys) (codes "packet") (view value.now))) }
 {
     match value_at(value, "packet") {
-        Some(packet) => packet_flaw(alloc, &packet),
+        Some(packet) => packet_flaw(alloc, &PACKET_KEYS, &packet),
         None => Ok(None),
     }
 }

@@ -8,7 +8,7 @@ use crate::members::has;
 use crate::reason::wanted::Wanted;
 use crate::tree::Tree;
 
-/// A key of an object of a scenario.
+/// A key of an object of a scenario, or of the head of a gateway by itself.
 #[derive(Clone, Copy, Debug, PartialEq, Eq)]
 pub enum Key {
     T3Response,
@@ -39,6 +39,13 @@ pub enum Key {
     Payload,
     Datagram,
     Length,
+    /// Which gateway a gateway by itself is.
+    Role,
+    /// Its `control`, of either IP version.
+    ControlAddress,
+    /// Its `user`, of either IP version.
+    UserAddress,
+    Peer,
 }
 
 impl Key {
@@ -75,6 +82,10 @@ impl Key {
             Key::Payload => "payload",
             Key::Datagram => "datagram",
             Key::Length => "length",
+            Key::Role => "role",
+            Key::ControlAddress => "control",
+            Key::UserAddress => "user",
+            Key::Peer => "peer",
         }
     }
 
@@ -92,7 +103,7 @@ impl Key {
             Key::Ebi => Wanted::Within(5, 15),
             Key::Pdn => Wanted::Within(0, 7),
             Key::Datagram | Key::Length => Wanted::Number,
-            Key::Serving | Key::Packet => Wanted::Object,
+            Key::Serving | Key::Packet | Key::Peer => Wanted::Object,
             Key::Events | Key::Templates => Wanted::List,
             Key::Do | Key::Expect => Wanted::Text,
             Key::Control | Key::User | Key::Pool => Wanted::Address,
@@ -102,7 +113,8 @@ impl Key {
             Key::Tft => Wanted::Tft,
             Key::Imsi => Wanted::Imsi,
             Key::Teid => Wanted::Teid,
-            Key::Node => Wanted::Gateway,
+            Key::Node | Key::Role => Wanted::Gateway,
+            Key::ControlAddress | Key::UserAddress => Wanted::AddressOfEither,
             Key::Payload => Wanted::Octets,
         }
     }

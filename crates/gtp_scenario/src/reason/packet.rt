@@ -1,8 +1,7 @@
-//! What is wrong with the packet gateway of a scenario.
+//! What is wrong with a packet gateway.
 
 ghost use Rattle.std.specs.Prelude.{◌≡◌, true, IfOk, IsSome, MatchOption};
-ghost use Rattle.gtp_scenario.specs.Keys.{packet_keys};
-ghost use Rattle.gtp_scenario.specs.Reasons.{IsPacketFlaw};
+ghost use Rattle.gtp_scenario.specs.Reasons.{IsPacketFlaw, IsTemplateOf};
 ghost use Rattle.gtp_scenario.specs.reading.Faultless.{AreTemplatesOf, IsPacket};
 ghost use Rattle.gtp_scenario.specs.Trees.{view};
 
@@ -16,8 +15,8 @@ use crate::tree::Tree;
 use gtp_values::Memory;
 use std::alloc::Global;
 
-/// Its keys, in order.
-const KEYS: [Key; 9] = [
+/// Its keys in a scenario, in order.
+pub(crate) const PACKET_KEYS: [Key; 9] = [
     Key::Control,
     Key::User,
     Key::Counter,
@@ -29,7 +28,7 @@ const KEYS: [Key; 9] = [
     Key::Templates,
 ];
 
-/// What is wrong with the packet gateway: the first of these that applies.
+/// What is wrong with a packet gateway: the first of these that applies.
 #[derive(Debug, Drop)]
 pub enum PacketFlaw {
     /// Something is wrong with its keys.
@@ -43,9 +42,12 @@ pub enum PacketFlaw {
 }
 
 /// What is wrong with the templates, where the keys are as they have to be.
-fn templates_flaw(alloc: Global, value: &Tree<'_, '_>) -> Result<Option<PacketFlaw>, Memory>
-    ensures { IfOk result (λ flaw. MatchOption flaw (AreTemplatesOf (view value.now))
-        (IsPacketFlaw (view value.now))) }
+fn templates_flaw(
+    alloc: Global,
+    value: &Tree<'_, '_>,
+) -> Result<Option<(usize, TemplateFlaw)>, Memory>
+    ensures { IfOk result (λ found. MatchOption found (AreTemplatesOf (view value.now))
+        (λ f. IsTemplateOf (view value.now) f.0 f.1)) }
 {
     let Some(templates) = value_at(value, "templates") else {
         return Ok(None);
@@ -58,18 +60,19 @@ fn templates_flaw(alloc: Global, value: &Tree<'_, '_>) -> Result<Option<PacketFl
         Err(Fault::Wrong) => return Ok(None),
         Err(Fault::Memory) => return Err(Memory),
     };
-    match first_template(alloc, names.as_slice(), values)? {
-        Some((place, flaw)) => Ok(Some(PacketFlaw::Template(place, flaw))),
-        None => Ok(None),
-    }
+    first_template(alloc, names.as_slice(), values)
 }
 
-/// What is wrong with the packet gateway.
-pub(crate) fn packet_flaw(alloc: Global, value: &Tree<'_, '_>) -> Result<Option<PacketFlaw>, Memory>
-    ensures { IfOk result (λ flaw. MatchOption flaw (IsPacket (view value.now))
-        (IsPacketFlaw (view value.now))) }
+/// What is wrong with a packet gateway that is to have these keys.
+pub(crate) fn packet_flaw(
+    alloc: Global,
+    keys: &[Key],
+    value: &Tree<'_, '_>,
+) -> Result<Option<PacketFlaw>, Memory>
+    ensures { IfOk result (λ flaw. MatchOption flaw (IsPacket keys.now (view value.now))
+        (IsPacketFlaw keys.now (view value.now))) }
 {
-    if let Some(flaw) = flaw_of(alloc, &KEYS, value)? {
+    if let Some(flaw) = flaw_of(alloc, keys, value)? {
         return Ok(Some(PacketFlaw::Keys(flaw)));
     }
     if pool_at(value).is_none() {
@@ -78,5 +81,8 @@ pub(crate) fn packet_flaw(alloc: Global, value: &Tree<'_, '_>) -> Result<Option<
     if prefixes_at(value).is_none() {
         return Ok(Some(PacketFlaw::PastLastPrefix));
     }
-    templates_flaw(alloc, value)
+    match templates_flaw(alloc, value)? {
+        Some((place, flaw)) => Ok(Some(PacketFlaw::Template(place, flaw))),
+        None => Ok(None),
+    }
 }

@@ -3,8 +3,10 @@
 use crate::reason::Reason;
 use crate::reason::event::EventFlaw;
 use crate::reason::flaw::ObjectFlaw;
+use crate::reason::gateway::GatewayFlaw;
 use crate::reason::head::HeadFlaw;
 use crate::reason::key::Key;
+use crate::reason::not_json::JsonFlaw;
 use crate::reason::packet::PacketFlaw;
 use crate::reason::template::TemplateFlaw;
 use crate::reason::wanted::Wanted;
@@ -71,6 +73,9 @@ impl fmt::Display for Wanted {
             Wanted::Within(low, high) => write!(f, "a number from {low} to {high} is wanted"),
             Wanted::Address => f.write_str("an IPv4 address is wanted"),
             Wanted::Address6 => f.write_str("32 hexadecimal digits are wanted"),
+            Wanted::AddressOfEither => {
+                f.write_str("an IPv4 address or 32 hexadecimal digits are wanted")
+            }
             Wanted::AccessPoint => f.write_str("an access point name is wanted"),
             Wanted::AccessPoints => {
                 f.write_str("a list of at most 16 access point names is wanted")
@@ -86,13 +91,32 @@ impl fmt::Display for Wanted {
     }
 }
 
-/// Where an object stands in a scenario.
+/// Where a packet gateway stands: by itself, or in a scenario.
+#[derive(Clone, Copy)]
+enum PacketPlace {
+    Alone,
+    InScenario,
+}
+
+/// What a key of the packet gateway begins with.
+impl fmt::Display for PacketPlace {
+    fn fmt<W: fmt::Write>(&self, f: &mut fmt::Formatter<W>) -> fmt::Result {
+        match self {
+            PacketPlace::Alone => Ok(()),
+            PacketPlace::InScenario => f.write_str("packet."),
+        }
+    }
+}
+
+/// Where an object stands in a scenario, or in the head of a gateway.
 #[derive(Clone, Copy)]
 enum Place {
     Whole,
     Serving,
     Packet,
-    Template(usize),
+    Peer,
+    /// A template of the packet gateway at this place.
+    Template(PacketPlace, usize),
 }
 
 /// What a key of the object begins with.
@@ -102,7 +126,8 @@ impl fmt::Display for Place {
             Place::Whole => Ok(()),
             Place::Serving => f.write_str("serving."),
             Place::Packet => f.write_str("packet."),
-            Place::Template(place) => write!(f, "packet.templates[{place}]."),
+            Place::Peer => f.write_str("peer."),
+            Place::Template(packet, place) => write!(f, "{packet}templates[{place}]."),
         }
     }
 }
@@ -120,8 +145,8 @@ impl fmt::Display for Said<'_> {
         let place = self.place;
         match self.flaw {
             ObjectFlaw::NoObject => match place {
-                Place::Template(place) => {
-                    write!(f, "packet.templates[{place}]: {}", Wanted::Object)
+                Place::Template(packet, place) => {
+                    write!(f, "{packet}templates[{place}]: {}", Wanted::Object)
                 }
                 _ => write!(f, "{}", Wanted::Object),
             },
@@ -139,61 +164,51 @@ impl fmt::Display for Said<'_> {
     }
 }
 
-/// What is wrong with an object of the head.
-fn write_head<W: fmt::Write>(
+/// What is wrong with an object at this place.
+fn write_flaw<W: fmt::Write>(
     f: &mut fmt::Formatter<W>,
     place: Place,
-    flaw: &ObjectFlaw,
-) -> fmt::Result {
-    let said = Said {
-        place,
-        owner: "a scenario",
-        flaw,
-    };
-    write!(f, "{said}")
-}
-
-/// What is wrong with an object of the list of events.
-fn write_event<W: fmt::Write>(
-    f: &mut fmt::Formatter<W>,
     owner: &'static str,
     flaw: &ObjectFlaw,
 ) -> fmt::Result {
-    let said = Said {
-        place: Place::Whole,
-        owner,
-        flaw,
-    };
+    let said = Said { place, owner, flaw };
     write!(f, "{said}")
+}
+
+/// What is wrong with a packet gateway by itself, or in a scenario.
+fn write_packet<W: fmt::Write>(
+    f: &mut fmt::Formatter<W>,
+    packet: PacketPlace,
+    flaw: &PacketFlaw,
+) -> fmt::Result {
+    let (place, owner) = match packet {
+        PacketPlace::Alone => (Place::Whole, "a packet gateway"),
+        PacketPlace::InScenario => (Place::Packet, "a scenario"),
+    };
+    match flaw {
+        PacketFlaw::Keys(flaw) => write_flaw(f, place, owner, flaw),
+        PacketFlaw::PastLastAddress => {
+            write!(f, "{packet}count: the addresses go past 255.255.255.255")
+        }
+        PacketFlaw::PastLastPrefix => {
+            write!(f, "{packet}count6: the prefixes go past ffffffffffffffff")
+        }
+        PacketFlaw::Template(place, TemplateFlaw::Keys(flaw)) => {
+            write_flaw(f, Place::Template(packet, *place), owner, flaw)
+        }
+        PacketFlaw::Template(place, TemplateFlaw::NoAccessPoint) => write!(
+            f,
+            "{packet}templates[{place}].apn: one of {packet}apns is wanted"
+        ),
+    }
 }
 
 impl fmt::Display for HeadFlaw {
     fn fmt<W: fmt::Write>(&self, f: &mut fmt::Formatter<W>) -> fmt::Result {
         match self {
-            HeadFlaw::Scenario(flaw) => write_head(f, Place::Whole, flaw),
-            HeadFlaw::Serving(flaw) => write_head(f, Place::Serving, flaw),
-            HeadFlaw::Packet(flaw) => write!(f, "{flaw}"),
-        }
-    }
-}
-
-impl fmt::Display for PacketFlaw {
-    fn fmt<W: fmt::Write>(&self, f: &mut fmt::Formatter<W>) -> fmt::Result {
-        match self {
-            PacketFlaw::Keys(flaw) => write_head(f, Place::Packet, flaw),
-            PacketFlaw::PastLastAddress => {
-                f.write_str("packet.count: the addresses go past 255.255.255.255")
-            }
-            PacketFlaw::PastLastPrefix => {
-                f.write_str("packet.count6: the prefixes go past ffffffffffffffff")
-            }
-            PacketFlaw::Template(place, TemplateFlaw::Keys(flaw)) => {
-                write_head(f, Place::Template(*place), flaw)
-            }
-            PacketFlaw::Template(place, TemplateFlaw::NoAccessPoint) => write!(
-                f,
-                "packet.templates[{place}].apn: one of packet.apns is wanted"
-            ),
+            HeadFlaw::Scenario(flaw) => write_flaw(f, Place::Whole, "a scenario", flaw),
+            HeadFlaw::Serving(flaw) => write_flaw(f, Place::Serving, "a scenario", flaw),
+            HeadFlaw::Packet(flaw) => write_packet(f, PacketPlace::InScenario, flaw),
         }
     }
 }
@@ -201,12 +216,36 @@ impl fmt::Display for PacketFlaw {
 impl fmt::Display for EventFlaw {
     fn fmt<W: fmt::Write>(&self, f: &mut fmt::Formatter<W>) -> fmt::Result {
         match self {
-            EventFlaw::Entry(flaw) => write_event(f, "an event", flaw),
+            EventFlaw::Entry(flaw) => write_flaw(f, Place::Whole, "an event", flaw),
             EventFlaw::NoEvent(word) => {
                 write!(f, "do: no event is called {}", Quoted(word.as_str()))
             }
-            EventFlaw::Keys(kind, flaw) => write_event(f, kind.word(), flaw),
+            EventFlaw::Keys(kind, flaw) => write_flaw(f, Place::Whole, kind.word(), flaw),
             EventFlaw::TooMany => f.write_str("more than 100000 events"),
+        }
+    }
+}
+
+impl fmt::Display for JsonFlaw {
+    fn fmt<W: fmt::Write>(&self, f: &mut fmt::Formatter<W>) -> fmt::Result {
+        match self {
+            JsonFlaw::TooLong => f.write_str("more than 16777216 octets"),
+            JsonFlaw::NotText(valid) => write!(f, "not UTF-8 from octet {valid}"),
+            JsonFlaw::NotJson { line, column } => {
+                write!(f, "line {line}, column {column}: invalid JSON")
+            }
+        }
+    }
+}
+
+/// What is wrong with the head of a gateway by itself, as a line of English.
+impl fmt::Display for GatewayFlaw {
+    fn fmt<W: fmt::Write>(&self, f: &mut fmt::Formatter<W>) -> fmt::Result {
+        match self {
+            GatewayFlaw::Role(flaw) => write_flaw(f, Place::Whole, "a gateway", flaw),
+            GatewayFlaw::Serving(flaw) => write_flaw(f, Place::Whole, "a serving gateway", flaw),
+            GatewayFlaw::Packet(flaw) => write_packet(f, PacketPlace::Alone, flaw),
+            GatewayFlaw::Peer(flaw) => write_flaw(f, Place::Peer, "a peer", flaw),
         }
     }
 }
@@ -214,11 +253,7 @@ impl fmt::Display for EventFlaw {
 impl fmt::Display for Reason {
     fn fmt<W: fmt::Write>(&self, f: &mut fmt::Formatter<W>) -> fmt::Result {
         match self {
-            Reason::TooLong => f.write_str("more than 16777216 octets"),
-            Reason::NotText(valid) => write!(f, "not UTF-8 from octet {valid}"),
-            Reason::NotJson { line, column } => {
-                write!(f, "line {line}, column {column}: invalid JSON")
-            }
+            Reason::Json(flaw) => write!(f, "{flaw}"),
             Reason::Head(flaw) => write!(f, "{flaw}"),
             Reason::Event(_, flaw) => write!(f, "{flaw}"),
         }

@@ -32,6 +32,8 @@ pub enum Wanted {
     Address,
     /// An IPv6 address, in 32 hexadecimal digits.
     Address6,
+    /// An IPv4 address, or an IPv6 address in 32 hexadecimal digits.
+    AddressOfEither,
     AccessPoint,
     /// A list of at most 16 access points.
     AccessPoints,
@@ -106,6 +108,7 @@ fn is_wanted_text(wanted: Wanted, text: &str) -> bool
         Wanted::Text => true,
         Wanted::Address => address_of(text).is_some(),
         Wanted::Address6 => ipv6_of(text).is_some(),
+        Wanted::AddressOfEither => address_of(text).is_some() || ipv6_of(text).is_some(),
         Wanted::AccessPoint => apn_of(text).is_some(),
         Wanted::Imsi => imsi_of(text).is_some(),
         Wanted::Teid => teid_of(text).is_some(),

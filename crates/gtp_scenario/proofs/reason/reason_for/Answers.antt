@@ -1,6 +1,5 @@
-use Rattle.std.proofs.Common.{◌≡◌, Some, IfOk, sym, ap, subst, ◌∙◌}
+use Rattle.std.proofs.Common.{◌≡◌, Some, sym, ap, subst, ◌∙◌}
 use Rattle.gtp_scenario.specs.declared.fault.Refusal.TheVariants as refusals
-use Rattle.gtp_scenario.specs.Reasons.{refusal_of}
 use Rattle.gtp_scenario.specs.Scenarios.{json_of}
 use Rattle.gtp_scenario.specs.Steps.{IsNone}
 use Rattle.gtp_scenario.specs.Trees.{view}
@@ -16,4 +15,4 @@ returns-in-Err-Wrong-clause-refusal c =
     let none = subst (λ fault. IsNone fault (json_of c.args.octets.now)) c.in-Err-Wrong.field-0-is c.in-Err-Wrong.ensures in
     let both = sym (no_json c.args.octets.now none) ∙ c.requires in
     let same : refusals.Json ≡ c.args.refusal = cc in
-    subst (λ r. IfOk c.json_reason.result (λ reason. refusal_of reason ≡ r)) same c.json_reason.ensures.refusal
+    same

@@ -1,4 +1,5 @@
 use Rattle.std.proofs.Common.{refl, sym, ◌∙◌}
+use Rattle.gtp_scenario.specs.declared.reason.key.Key.TheVariants as keys
 use Rattle.gtp_scenario.specs.Trees.{view}
 use Rattle.gtp_scenario.proofs.Objects.{bad_word, no_word}
 use Rattle.gtp_scenario.proofs.reason.event.wordless.Goals as goal
@@ -7,4 +8,4 @@ pub returns-then-has : goal.returns-then-has
 returns-then-has c = (refl, bad_word (view c.args.value.now) c.requires (sym c.has.ensures ∙ c.if-has.true))
 
 pub returns-else-has : goal.returns-else-has
-returns-else-has c = (refl, no_word (view c.args.value.now) (sym c.has.ensures ∙ c.if-has.false))
+returns-else-has c = (refl, no_word keys.Do (view c.args.value.now) refl (sym c.has.ensures ∙ c.if-has.false))

@@ -22,6 +22,6 @@ returns-clause-some c =
     let at = slice_get_read datagrams _ i d refl within c.index-datagram.ensures in
     let receiver = c.side-receiver.result.now in
     let of_octets = subst (λ (l : List ℕ). IsCount (arrival_of d.sent.from l) (half_of receiver).made count) (c.last_message-request.ensures ∙ ap last_octets c.as_slice.ensures.value) c.contexts_made.ensures in
-    let at_receiver = subst (λ (h : Half). IsCount (arrival_of d.sent.from (last_octets d.sent.octets.items)) h.made count) (c.side-receiver.ensures ∙ ap (half_in v) c.other_than.ensures) of_octets in
+    let at_receiver = subst (λ (h : Half). IsCount (arrival_of d.sent.from (last_octets d.sent.octets.items)) h.made count) (c.side-receiver.ensures ∙ ap (half_in v) c.other.ensures) of_octets in
     let counts = subst (λ (b : By Datagram). IsCount (as_it_came b) (half_in v (other b.role)).made count) (sym (found_at datagrams i d found at)) at_receiver in
     subst (λ n. IsMade v n count) is.0 (record { found = found; counts = counts })

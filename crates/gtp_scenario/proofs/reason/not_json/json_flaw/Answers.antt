@@ -1,7 +1,7 @@
 use Rattle.std.proofs.Common.{◌≡◌, None, sym, ap, ◌∙◌, arith}
 use Rattle.serde_json.specs.Read.{read}
 use Rattle.gtp_scenario.proofs.Front.{json_is}
-use Rattle.gtp_scenario.proofs.reason.json_reason.Goals as goal
+use Rattle.gtp_scenario.proofs.reason.not_json.json_flaw.Goals as goal
 
 pub unreachable-requires : goal.unreachable-requires
 unreachable-requires c =
