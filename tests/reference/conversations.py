@@ -4,10 +4,10 @@ cut, added or sent from elsewhere, messages of every kind that fit no request, p
 import random
 
 from decoding import ROWS
-from gateways import (AMBR, APN, BOTH, CAUSE, CHARGING_ID, CONTEXT, CREATE_BEARER, CREATE_SESSION, DELETE_BEARER, DELETE_SESSION, EBI,
-                      FTEID, IMSI, IPV4, IPV6, PACKET, PAA, PDN_TYPE, QUALITY, RAT, RATES, RECOVERY, SELECTION, SERVING, SERVING_NETWORK,
-                      TFT, Address, allocation, announced, cause_of, control, element, end_of, error_indication, name_of, number_of, packed,
-                      user)
+from gateways import (AMBR, APN, BOTH, CAUSE, CHARGING_ID, CONTEXT, CREATE_BEARER, CREATE_SESSION, DELETE_BEARER, DELETE_SESSION, EBI, FTEID, IMSI,
+                      IPV4, IPV6, PAA, PACKET, PDN_TYPE, QUALITY, RAT, RATES, RECOVERY, S5S8_PGW_GTP_C, S5S8_PGW_GTP_U, S5S8_SGW_GTP_C,
+                      S5S8_SGW_GTP_U, SELECTION, SERVING, SERVING_NETWORK, TFT, Address, allocation, announced, cause_of, control, element, end_of,
+                      error_indication, name_of, number_of, packed, user)
 from served import answer, octets_of, station
 
 V4, V6 = {SERVING: "10.0.0.1", PACKET: "10.0.0.2"}, {SERVING: "20010db8" + 22 * "0" + "01", PACKET: "20010db8" + 22 * "0" + "02"}
@@ -111,12 +111,12 @@ class Conversation:
 
     def session_asked(self):
         identity, pdn = self.identity(), self.rng.choice([IPV4, IPV4, IPV6, BOTH, 0, 5])
-        context = element(CONTEXT, 0, self.shuffled(number_of(EBI, identity), QUALITY, self.peer_end(2, 4)))
+        context = element(CONTEXT, 0, self.shuffled(number_of(EBI, identity), QUALITY, self.peer_end(2, S5S8_SGW_GTP_U)))
         contexts = context * (2 if self.rng.random() < 0.05 else 1)
         imsi = "".join(self.rng.choice("0123456789") for _ in range(self.rng.choice([6, 14, 15, 15])))
         name = self.rng.choice(NAMES + ["other"])
         return control(CREATE_SESSION, self.rng.choice([0, 0, 7]), self.next_number(), self.shuffled(
-            element(IMSI, 0, packed(imsi)), number_of(RAT, 6), element(SERVING_NETWORK, 0, bytes.fromhex("00f110")), self.peer_end(0, 6),
+            element(IMSI, 0, packed(imsi)), number_of(RAT, 6), element(SERVING_NETWORK, 0, bytes.fromhex("00f110")), self.peer_end(0, S5S8_SGW_GTP_C),
             element(APN, 0, name_of(name)), number_of(SELECTION, 0), number_of(PDN_TYPE, pdn), self.allocation(IPV4), RATES, contexts,
             self.recovery()))
 
@@ -130,7 +130,7 @@ class Conversation:
         session = self.session()
         known = self.gateway.sessions.get(session)
         linked = known.identity if known and self.rng.random() < 0.9 else self.identity()
-        rows = number_of(EBI, 0), element(TFT, 0, self.rng.randbytes(3)), self.peer_end(1, 5), QUALITY, number_of(CHARGING_ID, 9, 4)
+        rows = number_of(EBI, 0), element(TFT, 0, self.rng.randbytes(3)), self.peer_end(1, S5S8_PGW_GTP_U), QUALITY, number_of(CHARGING_ID, 9, 4)
         contexts = element(CONTEXT, 0, self.shuffled(*rows)) * (2 if self.rng.random() < 0.05 else 1)
         return control(CREATE_BEARER, session, self.next_number(), self.shuffled(number_of(EBI, linked), contexts))
 
@@ -167,13 +167,13 @@ class Conversation:
         if kind == 1:
             return control(2, None, number, self.recovery())
         if kind == CREATE_SESSION:
-            rows = number_of(EBI, identity), self.cause(), self.peer_end(2, 5), QUALITY, number_of(CHARGING_ID, 1, 4)
+            rows = number_of(EBI, identity), self.cause(), self.peer_end(2, S5S8_PGW_GTP_U), QUALITY, number_of(CHARGING_ID, 1, 4)
             contexts = element(CONTEXT, 0, self.shuffled(*rows)) * (2 if rng.random() < 0.05 else 1)
-            rows = self.cause(), self.peer_end(1, 7), self.allocation(rng.choice([IPV4, IPV6, BOTH])), RATES, contexts, self.recovery()
+            rows = self.cause(), self.peer_end(1, S5S8_PGW_GTP_C), self.allocation(rng.choice([IPV4, IPV6, BOTH])), RATES, contexts, self.recovery()
         elif kind == CREATE_BEARER:
             bearer = pending.bearer if pending and pending.bearer is not None and rng.random() < 0.95 else self.bearer()
-            mine = end_of(3, 5, bearer, octets_of(V4[self.role]))
-            rows = number_of(EBI, rng.choice([6, 7, 8, 5, 0])), self.cause(), self.peer_end(2, 4), mine
+            mine = end_of(3, S5S8_PGW_GTP_U, bearer, octets_of(V4[self.role]))
+            rows = number_of(EBI, rng.choice([6, 7, 8, 5, 0])), self.cause(), self.peer_end(2, S5S8_SGW_GTP_U), mine
             contexts = element(CONTEXT, 0, self.shuffled(*rows)) * (2 if rng.random() < 0.05 else 1)
             rows = self.cause(), contexts, self.recovery()
         elif kind == DELETE_SESSION:

@@ -25,6 +25,9 @@ CONTEXT_NOT_FOUND, INVALID_LENGTH, MANDATORY_IE_INCORRECT, MANDATORY_IE_MISSING 
 NO_RESOURCES_AVAILABLE, MISSING_OR_UNKNOWN_APN, PREFERRED_PDN_TYPE_NOT_SUPPORTED = 73, 78, 83
 ALL_DYNAMIC_ADDRESSES_ARE_OCCUPIED, REQUEST_REJECTED, CONDITIONAL_IE_MISSING = 84, 94, 103
 
+# Interface types of F-TEIDs (table 8.22-1).
+S5S8_SGW_GTP_U, S5S8_PGW_GTP_U, S5S8_SGW_GTP_C, S5S8_PGW_GTP_C = 4, 5, 6, 7
+
 MOST_SESSIONS, MOST_PENDING, MOST_HELD, MOST_PAYLOAD, MOST_RESTARTS = 1000, 256, 4096, 65000, 127
 
 
@@ -37,7 +40,7 @@ def accepts(cause):
 
 
 def age(known, new):
-    """Whether a restart counter is the same, later or earlier (clause 7.7.0 leaves the window to us)."""
+    """Whether a restart counter is the same, later or earlier (TS 23.007, clause 18, leaves the window to us)."""
     ahead = (new - known) % 256
     return "same" if ahead == 0 else "later" if ahead < 128 else "earlier"
 
@@ -432,9 +435,9 @@ class Gateway:
         session, bearer = self.draw(), self.draw()
         self.sessions[session] = Session(imsi, apn, identity, PENDING)
         self.bearers[bearer] = Bearer(session, True, PENDING, identity)
-        context = number_of(EBI, identity) + QUALITY + end_of(2, 4, bearer, self.setup.user)
+        context = number_of(EBI, identity) + QUALITY + end_of(2, S5S8_SGW_GTP_U, bearer, self.setup.user)
         body = element(IMSI, 0, packed(imsi)) + number_of(RAT, 6) + element(SERVING_NETWORK, 0, bytes.fromhex("00f110"))
-        body += end_of(0, 6, session, self.setup.control) + element(APN, 0, name_of(apn)) + number_of(SELECTION, 0)
+        body += end_of(0, S5S8_SGW_GTP_C, session, self.setup.control) + element(APN, 0, name_of(apn)) + number_of(SELECTION, 0)
         body += number_of(PDN_TYPE, pdn) + allocation_asked(pdn) + RATES
         body += element(CONTEXT, 0, context) + number_of(RECOVERY, self.counter)
         told = self.ask(CREATE_SESSION, 0, body, session, bearer)
@@ -456,7 +459,7 @@ class Gateway:
     def begin_bearer(self, teid, tft):
         session, bearer = self.sessions[teid], self.draw()
         self.bearers[bearer] = Bearer(teid, False, PENDING)
-        context = number_of(EBI, 0) + element(TFT, 0, tft) + end_of(1, 5, bearer, self.setup.user)
+        context = number_of(EBI, 0) + element(TFT, 0, tft) + end_of(1, S5S8_PGW_GTP_U, bearer, self.setup.user)
         context += QUALITY + number_of(CHARGING_ID, bearer, 4)
         body = number_of(EBI, session.identity) + element(CONTEXT, 0, context)
         told = self.ask(CREATE_BEARER, session.remote, body, teid, bearer)
@@ -599,9 +602,9 @@ class Gateway:
         imsi = unpacked(first(found, IMSI, 0))
         self.sessions[session] = Session(imsi, apn, identity, ACTIVE, header, address)
         self.bearers[bearer] = Bearer(session, True, ACTIVE, identity, teid_in(first(context, FTEID, 2)))
-        made = number_of(EBI, identity) + cause_of(REQUEST_ACCEPTED) + end_of(2, 5, bearer, self.setup.user)
+        made = number_of(EBI, identity) + cause_of(REQUEST_ACCEPTED) + end_of(2, S5S8_PGW_GTP_U, bearer, self.setup.user)
         made += quality_again(first(context, QOS, 0)) + number_of(CHARGING_ID, bearer, 4)
-        rows = end_of(1, 7, session, self.setup.control) + allocation(address, PREFIX)
+        rows = end_of(1, S5S8_PGW_GTP_C, session, self.setup.control) + allocation(address, PREFIX)
         rates = first(found, AMBR, 0)
         rows += (b"" if rates is None else element(AMBR, 0, rates[:8])) + element(CONTEXT, 0, made)
         cause = REQUEST_ACCEPTED if address.kind == pdn else NEW_PDN_TYPE_DUE_TO_NETWORK_PREFERENCE
@@ -642,7 +645,7 @@ class Gateway:
             return session.remote, NO_RESOURCES_AVAILABLE, element(CONTEXT, 0, refused)
         bearer = self.draw()
         self.bearers[bearer] = Bearer(message.teid, False, ACTIVE, identity, teid_in(asked))
-        made = number_of(EBI, identity) + cause_of(REQUEST_ACCEPTED) + end_of(2, 4, bearer, self.setup.user)
+        made = number_of(EBI, identity) + cause_of(REQUEST_ACCEPTED) + end_of(2, S5S8_SGW_GTP_U, bearer, self.setup.user)
         made += end_again(3, asked)
         return session.remote, REQUEST_ACCEPTED, element(CONTEXT, 0, made)
 

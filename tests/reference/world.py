@@ -3,7 +3,7 @@
 from dataclasses import dataclass
 from ipaddress import ip_address
 
-from gateways import ACTIVE, MOST_RESTARTS, PACKET, SERVING, Gateway, Refused, Setup, Told, last_message
+from gateways import ACTIVE, DELETE_BEARER, DELETE_SESSION, MOST_RESTARTS, PACKET, SERVING, Gateway, Refused, Setup, Told, last_message
 
 
 OF_THE_PACKET_GATEWAY = ("create_bearer", "delete_bearer", "release_session", "end_marker")
@@ -67,10 +67,10 @@ class World:
         return self.gateways[node].create_session(event["imsi"], event["apn"], event["ebi"], event.get("pdn", 1))
 
     def delete_session(self, event, node):
-        return self.gateways[node].end_session(int(event["teid"], 16), 36)
+        return self.gateways[node].end_session(int(event["teid"], 16), DELETE_SESSION)
 
     def release_session(self, event, node):
-        return self.gateways[node].end_session(int(event["teid"], 16), 99)
+        return self.gateways[node].end_session(int(event["teid"], 16), DELETE_BEARER)
 
     def create_bearer(self, event, node):
         return self.gateways[node].create_bearer(int(event["teid"], 16), bytes.fromhex(event["tft"]))
