@@ -1,4 +1,5 @@
 pub mod Carried
+pub mod Carrying
 pub mod Dropping
 pub mod Naming
 pub mod Texts

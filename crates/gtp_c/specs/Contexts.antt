@@ -1,5 +1,5 @@
 -- What C is told of sessions and bearers.
-use Rattle.std.specs.Prelude.{◌≡◌, ℕ, List, [], ◌∷◌, drop, Option, Some, None, unwrap_or, is_some, IsSomeAnd}
+use Rattle.std.specs.Prelude.{◌≡◌, ◌≢◌, ◌↔◌, ℕ, List, [], ◌∷◌, drop, Option, Some, None, unwrap_or, is_some, IsSomeAnd}
 use Rattle.std.specs.FinMap as map
 use Rattle.gtp_tables.specs.declared.context.Bearer.{Bearer}
 use Rattle.gtp_tables.specs.declared.context.Kind.{Kind}
@@ -9,7 +9,7 @@ use Rattle.gtp_tables.specs.declared.context.State.{State}
 use Rattle.gtp_tables.specs.declared.context.State.TheVariants.{Pending, Active, Closing}
 use Rattle.gtp_values.specs.PdnAddress.{PdnAddress}
 use Rattle.gtp_values.specs.declared.identifiers.Teid.{Teid}
-use Rattle.gtp_c.specs.Told.{flag}
+use Rattle.gtp_c.specs.Common.{flag, IsOneOf}
 use Rattle.gtp_c.specs.Values.{AddressIs, IdentityIs, NameIs}
 use Rattle.gtp_c.specs.declared.desk.Desk.{Desk}
 use Rattle.gtp_c.specs.declared.rows.BearerRow.{BearerRow}
@@ -112,3 +112,13 @@ SessionsEnd place v = IsSomeAnd v (λ d. drop place (map.entries d.gateway.node.
 
 abbrev pub BearersEnd : ℕ → Option Desk → Type 0
 BearersEnd place v = IsSomeAnd v (λ d. drop place (map.entries d.gateway.node.bearers) ≡ [])
+
+-- A look-up by the gateway behind a handle, which changes nothing: 0 where what there is is told, 4 where there is none, and 7 exactly where there is no gateway;
+-- and no other status. After any but 0 C's row is as it was.
+pub record IsLookedUp {Row : Type 0} (Has : Row → Option Desk → Type 0) (Lacks : Option Desk → Type 0) (before row : Row) (old new : Option Desk) (status : ℕ) : Type 0 where
+  pub found : status ≡ 0 → Has row old
+  pub none : status ≡ 4 → Lacks old
+  pub untold : status ≢ 0 → row ≡ before
+  pub kept : new ≡ old
+  pub empty : (status ≡ 7) ↔ (old ≡ None)
+  pub known : IsOneOf (0 ∷ 4 ∷ 7 ∷ []) status

@@ -7,7 +7,7 @@ use Rattle.gtp_user.specs.declared.fault.UserFault.{UserFault}
 use Rattle.gtp_user.specs.declared.fault.UserFault.TheVariants as user
 use Rattle.gtp_v2.specs.declared.fault.V2Fault.{V2Fault}
 use Rattle.gtp_v2.specs.declared.fault.V2Fault.TheVariants as control
-use Rattle.gtp_c.specs.Told.{flag}
+use Rattle.gtp_c.specs.Common.{flag}
 use Rattle.gtp_c.specs.declared.fault.Fault.{Fault}
 
 -- nothing but a number

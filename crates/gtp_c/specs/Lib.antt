@@ -1,4 +1,6 @@
 pub mod Behind
+pub mod Commands
+pub mod Common
 pub mod Contexts
 pub mod Ends
 pub mod Faults

@@ -1,11 +1,12 @@
 -- What C is told of a datagram that is read in place.
-use Rattle.std.specs.Prelude.{◌≡◌, ℕ, ◌+◌, List, drop, length, Option, Some, is_some, is_none, option_map, unwrap_or}
+use Rattle.std.specs.Prelude.{◌≡◌, ℕ, ◌+◌, ◌-◌, List, drop, length, Option, Some, is_some, is_none, option_map, unwrap_or}
 use Rattle.std.specs.Borrow.{Bor}
 use Rattle.gtp_ie.specs.View.{element_of}
 use Rattle.gtp_ie.specs.declared.view.ElementView.{ElementView}
 use Rattle.gtp_ie.specs.Element.{Element, elements_of, first_of, front_of, list_of}
 use Rattle.gtp_user.specs.Chain.{chain_encoding, first_kind}
 use Rattle.gtp_user.specs.Datagram.{IsUserMessage, IsUserFault}
+use Rattle.gtp_user.specs.Encoding.{kind_of}
 use Rattle.gtp_user.specs.Message as user
 use Rattle.gtp_user.specs.declared.fault.UserFault.{UserFault}
 use Rattle.gtp_v2.specs.Message.{raw_of}
@@ -14,11 +15,12 @@ use Rattle.gtp_v2.specs.Viewed.{ViewedDatagram, place_of}
 use Rattle.gtp_v2.specs.declared.fault.V2Fault.{V2Fault}
 use Rattle.gtp_c.specs.Ends.{ip_at}
 use Rattle.gtp_c.specs.Faults.{control_told, user_told}
-use Rattle.gtp_c.specs.Told.{flag}
+use Rattle.gtp_c.specs.Common.{flag}
 use Rattle.gtp_c.specs.declared.control.Head.{Head}
 use Rattle.gtp_c.specs.declared.elements.Element as found
 use Rattle.gtp_c.specs.declared.ends.Address.{Address}
 use Rattle.gtp_c.specs.declared.fault.Fault.{Fault}
+use Rattle.gtp_c.specs.declared.user.Carried.{Carried}
 use Rattle.gtp_c.specs.declared.user.UserHead.{UserHead}
 
 -- the head of a datagram's first message
@@ -79,16 +81,6 @@ pub record IsFirst (octets : List ℕ) (place kind instance : ℕ) (told : found
 
 -- ---- the user plane
 
--- the type of a message
-abbrev pub user_kind : user.Content → ℕ
-user_kind user.EchoRequest = 1
-user_kind user.EchoResponse = 2
-user_kind (user.ErrorIndication teid peer) = 26
-user_kind (user.Notification types) = 31
-user_kind (user.EndMarker teid) = 254
-user_kind (user.Packet teid payload) = 255
-user_kind (user.Other kind teid octets) = kind
-
 -- the TEID that it carries
 abbrev pub user_teid : user.Content → ℕ
 user_teid (user.ErrorIndication teid peer) = teid
@@ -97,7 +89,7 @@ user_teid (user.Packet teid payload) = teid
 user_teid (user.Other kind teid octets) = teid
 user_teid content = 0
 
--- how many octets it carries, at the end of the datagram
+-- how many octets it carries
 abbrev pub user_length : user.Content → ℕ
 user_length (user.Notification types) = length types
 user_length (user.Packet teid payload) = length payload
@@ -109,8 +101,14 @@ abbrev pub IsPeer : user.Content → Address → Type 0
 IsPeer (user.ErrorIndication teid peer) a = ip_at a ≡ Some peer
 IsPeer content a = a.version ≡ 0
 
+-- what a message carries
+pub record IsCarried (content : user.Content) (told : Carried) : Type 0 where
+  pub teid : told.teid ≡ user_teid content
+  pub payload : told.payload_len ≡ user_length content
+  pub peer : IsPeer content told.peer
+
 pub record IsUserTold (m : user.MessageValue) (told : UserHead) : Type 0 where
-  pub kind : told.kind ≡ user_kind m.content
+  pub kind : told.kind ≡ kind_of m.content
   pub teid : told.teid ≡ user_teid m.content
   pub payload : told.payload_len ≡ user_length m.content
   pub peer : IsPeer m.content told.peer
@@ -121,11 +119,22 @@ pub record IsUserTold (m : user.MessageValue) (told : UserHead) : Type 0 where
   pub extension : told.extension ≡ first_kind m.ext
   pub extensions : told.extensions_len ≡ length (chain_encoding m.ext)
 
+-- these are the last of the octets
+abbrev pub AreLast : List ℕ → List ℕ → Type 0
+AreLast payload octets = drop (length octets - length payload) octets ≡ payload
+
+-- the packet of a G-PDU, and what a message of a type carries that has no form of its own, are the last octets of the datagram
+abbrev pub LiesAtEnd : user.Content → List ℕ → Type 0
+LiesAtEnd (user.Packet teid payload) octets = AreLast payload octets
+LiesAtEnd (user.Other kind teid payload) octets = AreLast payload octets
+LiesAtEnd content octets = Unit {0}
+
 -- the octets spell this message of the user plane
 pub record IsUserRead (octets : List ℕ) (told : UserHead) : Type 0 where
   pub message : user.MessageValue
   pub spelled : IsUserMessage octets message
   pub is : IsUserTold message told
+  pub lies : LiesAtEnd message.content octets
 
 pub record IsUserFaulty (octets : List ℕ) (fault : Fault) : Type 0 where
   pub first : UserFault

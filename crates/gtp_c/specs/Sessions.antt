@@ -1,5 +1,5 @@
 -- Which session or bearer C's values ask for.
-use Rattle.std.specs.Prelude.{◌≡◌, ℕ, ◌==◌, ◌<◌, ◌^◌, List, if◌then◌else◌, drop, get_or, map, take}
+use Rattle.std.specs.Prelude.{◌≡◌, ◌≢◌, ℕ, ◌==◌, ◌<◌, ◌^◌, List, Option, IsSomeAnd, if◌then◌else◌, drop, get_or, map, take}
 use Rattle.gtp_values.specs.Apn.{apn_text, IsApnText}
 use Rattle.gtp_values.specs.Ebi.{IsEbi}
 use Rattle.gtp_values.specs.Imsi.{value_of_digit, IsImsiText}
@@ -10,7 +10,8 @@ use Rattle.gtp_tables.specs.declared.context.Subscriber.{Subscriber}
 use Rattle.gtp_gateway.specs.declared.command.create_session.SessionSpec.{SessionSpec}
 use Rattle.gtp_machine.specs.Input.{Create_session}
 use Rattle.gtp_gateway.specs.command.CreateSession.{specification}
-use Rattle.gtp_c.specs.Statuses.{CommandMayRunOut}
+use Rattle.gtp_c.specs.Handles.{Goes, Stays}
+use Rattle.gtp_c.specs.Statuses.{HasStatus, command_statuses, CommandMayRunOut}
 use Rattle.gtp_c.specs.Steps.{HasBegun, IsRefused}
 use Rattle.gtp_c.specs.declared.desk.Desk.{Desk}
 use Rattle.gtp_c.specs.declared.told.Told.{Told}
@@ -83,3 +84,12 @@ pub record CreationMayRunOut (c : Session) (imsi access_point : List ℕ) (d : D
   pub spec : SessionSpec
   pub is : IsSpecified c imsi access_point spec
   pub may : CommandMayRunOut (Create_session (specification spec)) d
+
+-- A session is asked for with C's values, which may be bad: as of any command (`IsCommanded`).
+pub record IsSessionAsked (c : Session) (imsi access_point : List ℕ) (before told : Told) (old new : Option Desk) (status : ℕ) : Type 0 where
+  pub done : status ≡ 0 → Goes (Creates c imsi access_point told) old new
+  pub refused : status ≡ 6 → Goes (IsCreationRefused c imsi access_point told) old new
+  pub kept : status ≢ 0 → Stays old new
+  pub untold : status ≢ 0 → status ≢ 6 → told ≡ before
+  pub has : HasStatus command_statuses (¬ IsGoodSession c imsi access_point) old status
+  pub memory : status ≡ 2 → IsSomeAnd old (CreationMayRunOut c imsi access_point)

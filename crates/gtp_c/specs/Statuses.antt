@@ -9,14 +9,10 @@ use Rattle.gtp_machine.specs.Step.{Step as MachineStep}
 use Rattle.gtp_machine.specs.declared.outcome.Refusal.{Refusal}
 use Rattle.gtp_gateway.specs.receive.Received.{MayRunOut}
 use Rattle.gtp_gateway.specs.Tick.{IsIdle}
+use Rattle.gtp_c.specs.Common.{IsOneOf}
 use Rattle.gtp_c.specs.Ends.{endpoint_at, plane_at}
 use Rattle.gtp_c.specs.declared.desk.Desk.{Desk}
 use Rattle.gtp_c.specs.declared.ends.End.{End}
-
--- the status is one of these
-abbrev pub IsOneOf : List ℕ → ℕ → Type 0
-IsOneOf [] status = ⊥
-IsOneOf (s ∷ ss) status = (status ≡ s) ⊎ IsOneOf ss status
 
 -- more than 4,096 datagrams wait
 abbrev pub IsFull : Desk → Type 0

@@ -1,5 +1,5 @@
 -- What C is told of a step, in numbers.
-use Rattle.std.specs.Prelude.{ℕ, Bool, true, false, Option, Some, None, is_some, length}
+use Rattle.std.specs.Prelude.{ℕ, Option, Some, None, is_some, length}
 use Rattle.gtp_machine.specs.declared.outcome.Refusal.{Refusal}
 use Rattle.gtp_machine.specs.declared.outcome.DropReason.{DropReason}
 use Rattle.gtp_machine.specs.declared.outcome.Outcome.{Outcome}
@@ -11,6 +11,7 @@ use Rattle.gtp_values.specs.declared.identifiers.Teid.{Teid}
 use Rattle.gtp_gateway.specs.declared.sent.Begun as commands
 use Rattle.gtp_gateway.specs.declared.step.Accepted as packets
 use Rattle.gtp_gateway.specs.declared.step.Step.{Step}
+use Rattle.gtp_c.specs.Common.{flag}
 use Rattle.gtp_c.specs.declared.coming.Coming.{Coming}
 use Rattle.gtp_c.specs.declared.told.Told.{Told}
 
@@ -77,10 +78,6 @@ outcome_told o = record { kind = outcome_number o; cause = cause_number o; fault
 abbrev pub second_told : Option Outcome → Coming
 second_told None = record { kind = 0; cause = 0; fault = 0 }
 second_told (Some o) = outcome_told o
-
-abbrev pub flag : Bool → ℕ
-flag true = 1
-flag false = 0
 
 abbrev pub bearer_in : Option packets.Accepted → ℕ
 bearer_in None = 0

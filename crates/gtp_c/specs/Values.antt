@@ -1,6 +1,6 @@
 -- What C is told of the values of elements.
-use Rattle.std.specs.Prelude.{◌≡◌, ℕ, List, length, take, Option, Some, None}
-use Rattle.gtp_ie.specs.Spelling.{Spells}
+use Rattle.std.specs.Prelude.{◌≡◌, ◌≢◌, ◌↔◌, ℕ, List, [], ◌∷◌, length, take, Option, Some, None}
+use Rattle.gtp_ie.specs.Spelling.{Spells, IsShort, IsBad}
 use Rattle.gtp_ie.specs.Value.{Value, OfRecovery, OfEbi, OfRat, OfChargingId, OfPdnType, OfPti, OfSelection}
 use Rattle.gtp_values.specs.Plmn.{Network}
 use Rattle.gtp_values.specs.TunnelEnd.{TunnelEnd}
@@ -10,8 +10,8 @@ use Rattle.gtp_values.specs.declared.paa.Paa.{Paa}
 use Rattle.gtp_values.specs.declared.paa.Paa.TheVariants.{V4, V6, V4V6, Other}
 use Rattle.gtp_values.specs.declared.qos.Ambr.{Ambr}
 use Rattle.gtp_values.specs.declared.qos.Qos.{Qos}
+use Rattle.gtp_c.specs.Common.{flag, IsOneOf}
 use Rattle.gtp_c.specs.Sessions.{network_in, quality_at}
-use Rattle.gtp_c.specs.Told.{flag}
 use Rattle.gtp_c.specs.declared.session.Quality.{Quality}
 use Rattle.gtp_c.specs.declared.values.Allocation.{Allocation}
 use Rattle.gtp_c.specs.declared.values.CauseSaid.{CauseSaid}
@@ -26,6 +26,15 @@ pub record Says {X Y : Type 0} (kind : ℕ) (of : X → Value) (Is : X → Y →
   pub value : X
   pub spelled : Spells kind body (of value)
   pub is : Is value told
+
+-- A reading of the body of an element of this type: 0 where C is told what it spells; 10 exactly where it is below the least length, and 11 exactly where it is
+-- long enough and spells nothing, and then C's struct is as it was; and no other status.
+pub record IsTold {X Y : Type 0} (kind : ℕ) (of : X → Value) (Is : X → Y → Type 0) (body : List ℕ) (old new : Y) (status : ℕ) : Type 0 where
+  pub value : status ≡ 0 → Says kind of Is body new
+  pub kept : status ≢ 0 → new ≡ old
+  pub short : (status ≡ 10) ↔ IsShort kind body
+  pub bad : (status ≡ 11) ↔ IsBad kind body
+  pub known : IsOneOf (0 ∷ 10 ∷ 11 ∷ []) status
 
 -- the digits, as many as there are
 pub record IdentityIs (digits : List ℕ) (told : Identity) : Type 0 where
@@ -87,6 +96,6 @@ NumberIs (OfPti n) told = told ≡ n
 NumberIs (OfSelection n) told = told ≡ n
 NumberIs value told = ⊥
 
--- the body of an element of this type spells a number, and C is told that one
-abbrev pub SaysNumber : ℕ → List ℕ → ℕ → Type 0
-SaysNumber kind body told = Says kind (λ v. v) NumberIs body told
+-- a reading of the body of an element of this type, which spells a number
+abbrev pub IsNumberTold : ℕ → List ℕ → ℕ → ℕ → ℕ → Type 0
+IsNumberTold kind body old new status = IsTold kind (λ v. v) NumberIs body old new status

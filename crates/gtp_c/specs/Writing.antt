@@ -1,18 +1,24 @@
 -- What is written to a caller's buffer.
-use Rattle.std.specs.Prelude.{◌≡◌, ◌≢◌, ◌⊎◌, ℕ, ◌+◌, ◌<◌, ◌≤◌, ◌==◌, List, [], ◌∷◌, ◌++◌, if◌then◌else◌, length, take, Option, Some, None}
+use Rattle.std.specs.Prelude.{◌≡◌, ◌≢◌, ◌⊎◌, ◌↔◌, ℕ, ◌+◌, ◌<◌, ◌≤◌, ◌==◌, List, [], ◌∷◌, ◌++◌, if◌then◌else◌, length, take, Option, Some, None}
 use Rattle.gtp_v2.specs.Encoding.{headed_encoding}
 use Rattle.gtp_values.specs.Numbers.{two, three, four}
+use Rattle.gtp_c.specs.Common.{IsOneOf}
 use Rattle.gtp_c.specs.declared.control.Head.{Head}
 
--- the text stands at a place of the buffer, with all before it as it was, and has so many octets
-pub record IsWritten (place : ℕ) (text old new : List ℕ) (size : ℕ) : Type 0 where
-  pub octets : take (place + length text) new ≡ take place old ++ text
-  pub size_is : size ≡ length text
+-- the text stands at a place of the buffer, with all before it as it was
+abbrev pub StandsAt : ℕ → List ℕ → List ℕ → List ℕ → Type 0
+StandsAt place text old new = take (place + length text) new ≡ take place old ++ text
 
--- the text has so many octets, and there is not so much room behind the place
-pub record Needs (place : ℕ) (text : List ℕ) (room size : ℕ) : Type 0 where
-  pub short : room < place + length text
-  pub size_is : size ≡ length text
+-- The text is to be written at a place of the buffer, by values that may be bad: 0 where it stands there, 5 where there is less room behind the place, and then the
+-- size is that of the text; 1 exactly for a bad value, and then the size is as it was; and no other status. After any but 0 the buffer is as it was.
+pub record IsWritten (Bad : Type 0) (place : ℕ) (text old new : List ℕ) (before size status : ℕ) : Type 0 where
+  pub written : status ≡ 0 → StandsAt place text old new
+  pub small : status ≡ 5 → length old < place + length text
+  pub kept : status ≢ 0 → new ≡ old
+  pub told : status ≢ 1 → size ≡ length text
+  pub untold : status ≡ 1 → size ≡ before
+  pub bad : (status ≡ 1) ↔ Bad
+  pub known : IsOneOf (0 ∷ 1 ∷ 5 ∷ []) status
 
 -- a G-PDU with this TEID and packet, without options (TS 29.281 5.1): version 1, protocol type GTP, type 255, the length of what follows the first eight octets
 abbrev pub packet_encoding : ℕ → List ℕ → List ℕ

@@ -1,22 +1,40 @@
 //! Commands to a gateway behind a handle. Each answers 0 with `told` filled, or 6 with `told` saying which rule refuses it; and else
 //! nothing happened.
 
-ghost use Rattle.std.specs.Prelude.{◌≡◌, ◌≢◌, ◌≤◌, length, IsSomeAnd};
+ghost use Rattle.std.specs.Prelude.{◌≤◌, length};
 ghost use Rattle.gtp_values.specs.Ebi.{IsEbi};
 ghost use Rattle.gtp_machine.specs.Input.{Delete_session, Create_bearer, Delete_bearer};
 ghost use Rattle.gtp_machine.specs.Input.{Release_session, Mark_end, Send_echo, Send_user};
-ghost use Rattle.gtp_c.specs.Handles.{Goes, Stays};
-ghost use Rattle.gtp_c.specs.Sessions.{quality_at, Creates, IsCreationRefused};
-ghost use Rattle.gtp_c.specs.Sessions.{IsGoodQuality, IsGoodSession, CreationMayRunOut};
-ghost use Rattle.gtp_c.specs.Statuses.{HasStatus, command_statuses, CommandMayRunOut};
-ghost use Rattle.gtp_c.specs.Steps.{HasBegun, IsRefused};
+ghost use Rattle.gtp_c.specs.Commands.{IsCommanded};
+ghost use Rattle.gtp_c.specs.Sessions.{quality_at, IsGoodQuality, IsSessionAsked};
 
 use crate::handle::Handle;
 use crate::session::{Quality, Session};
-use crate::status::{BAD_VALUE, EMPTY};
+use crate::status::{BAD_VALUE, DONE, EMPTY};
 use crate::told::Told;
 use gtp_gateway::{Ebi, Teid, Tft};
 use std::alloc::Global;
+
+/// The number of what a request comes to.
+const BEGUN: u8 = 1;
+
+/// The number of what a packet or an End Marker comes to.
+const GONE_OUT: u8 = 2;
+
+/// A command to the gateway behind a handle that is full, which has this number where it is carried out: once there is room for a
+/// datagram more.
+macro_rules! command {
+    ($handle:ident, $told:ident, $number:ident, $gateway:ident => $called:expr) => {{
+        let desk = $handle.hidden.behind();
+        let status = desk.room_for(1);
+        if status != DONE {
+            return status;
+        }
+        let $gateway = &mut desk.gateway;
+        let begun = $called;
+        desk.settle(begun, $number, $told)
+    }};
+}
 
 /// Asks for a session: a command of the serving gateway.
 #[unsafe(no_mangle)]
@@ -28,16 +46,8 @@ pub extern "C" fn gtp_gateway_create_session(
     access_point: &[u8],
     told: &mut Told,
 ) -> u8
-    ensures done { result ≡ 0 → Goes (Creates session.now imsi.now access_point.now told.new)
-        handle.old.hidden.value handle.new.hidden.value }
-    ensures refused { result ≡ 6 →
-        Goes (IsCreationRefused session.now imsi.now access_point.now told.new)
-        handle.old.hidden.value handle.new.hidden.value }
-    ensures kept { result ≢ 0 → Stays handle.old.hidden.value handle.new.hidden.value }
-    ensures status { HasStatus command_statuses (¬ IsGoodSession session.now imsi.now access_point.now)
-        handle.old.hidden.value result }
-    ensures memory { result ≡ 2 → IsSomeAnd handle.old.hidden.value
-        (CreationMayRunOut session.now imsi.now access_point.now) }
+    ensures { IsSessionAsked session.now imsi.now access_point.now told.old told.new
+        handle.old.hidden.value handle.new.hidden.value result }
 {
     if handle.count == 0 {
         return EMPTY;
@@ -45,7 +55,7 @@ pub extern "C" fn gtp_gateway_create_session(
     let Some(spec) = session.specification(imsi, access_point) else {
         return BAD_VALUE;
     };
-    handle.hidden.behind().create_session(alloc, &spec, told)
+    command!(handle, told, BEGUN, gateway => gateway.create_session(alloc, &spec))
 }
 
 /// Ends a session: a command of the serving gateway.
@@ -56,23 +66,13 @@ pub extern "C" fn gtp_gateway_delete_session(
     session: u32,
     told: &mut Told,
 ) -> u8
-    ensures done { result ≡ 0 → Goes (HasBegun (Delete_session session) told.new)
-        handle.old.hidden.value handle.new.hidden.value }
-    ensures refused { result ≡ 6 → Goes (IsRefused (Delete_session session) told.new)
-        handle.old.hidden.value handle.new.hidden.value }
-    ensures kept { result ≢ 0 → Stays handle.old.hidden.value handle.new.hidden.value }
-    ensures status { HasStatus command_statuses ⊥
-        handle.old.hidden.value result }
-    ensures memory { result ≡ 2 → IsSomeAnd handle.old.hidden.value
-        (CommandMayRunOut (Delete_session session)) }
+    ensures { IsCommanded (Delete_session session) ⊥ told.old told.new
+        handle.old.hidden.value handle.new.hidden.value result }
 {
     if handle.count == 0 {
         return EMPTY;
     }
-    handle
-        .hidden
-        .behind()
-        .delete_session(alloc, Teid(session), told)
+    command!(handle, told, BEGUN, gateway => gateway.delete_session(alloc, Teid(session)))
 }
 
 /// Asks for a dedicated bearer of a session, with these octets of a traffic flow template: a command of the packet gateway.
@@ -85,17 +85,8 @@ pub extern "C" fn gtp_gateway_create_bearer(
     tft: &[u8],
     told: &mut Told,
 ) -> u8
-    ensures done { result ≡ 0 →
-        Goes (HasBegun (Create_bearer session tft.now (quality_at quality.now)) told.new)
-        handle.old.hidden.value handle.new.hidden.value }
-    ensures refused { result ≡ 6 →
-        Goes (IsRefused (Create_bearer session tft.now (quality_at quality.now)) told.new)
-        handle.old.hidden.value handle.new.hidden.value }
-    ensures kept { result ≢ 0 → Stays handle.old.hidden.value handle.new.hidden.value }
-    ensures status { HasStatus command_statuses (¬ (IsGoodQuality quality.now × (length tft.now ≤ 255)))
-        handle.old.hidden.value result }
-    ensures memory { result ≡ 2 → IsSomeAnd handle.old.hidden.value
-        (CommandMayRunOut (Create_bearer session tft.now (quality_at quality.now))) }
+    ensures { IsCommanded (Create_bearer session tft.now (quality_at quality.now)) (¬ (IsGoodQuality quality.now × (length tft.now ≤ 255))) told.old told.new
+        handle.old.hidden.value handle.new.hidden.value result }
 {
     if handle.count == 0 {
         return EMPTY;
@@ -106,10 +97,7 @@ pub extern "C" fn gtp_gateway_create_bearer(
     let Ok(tft) = Tft::try_new(tft) else {
         return BAD_VALUE;
     };
-    handle
-        .hidden
-        .behind()
-        .create_bearer(alloc, Teid(session), &tft, &qos, told)
+    command!(handle, told, BEGUN, gateway => gateway.create_bearer(alloc, Teid(session), &tft, &qos))
 }
 
 /// Ends a dedicated bearer of a session: a command of the packet gateway.
@@ -121,15 +109,8 @@ pub extern "C" fn gtp_gateway_delete_bearer(
     identity: u8,
     told: &mut Told,
 ) -> u8
-    ensures done { result ≡ 0 → Goes (HasBegun (Delete_bearer session identity) told.new)
-        handle.old.hidden.value handle.new.hidden.value }
-    ensures refused { result ≡ 6 → Goes (IsRefused (Delete_bearer session identity) told.new)
-        handle.old.hidden.value handle.new.hidden.value }
-    ensures kept { result ≢ 0 → Stays handle.old.hidden.value handle.new.hidden.value }
-    ensures status { HasStatus command_statuses (¬ IsEbi identity)
-        handle.old.hidden.value result }
-    ensures memory { result ≡ 2 → IsSomeAnd handle.old.hidden.value
-        (CommandMayRunOut (Delete_bearer session identity)) }
+    ensures { IsCommanded (Delete_bearer session identity) (¬ IsEbi identity) told.old told.new
+        handle.old.hidden.value handle.new.hidden.value result }
 {
     if handle.count == 0 {
         return EMPTY;
@@ -137,10 +118,7 @@ pub extern "C" fn gtp_gateway_delete_bearer(
     let Ok(identity) = Ebi::try_new(identity) else {
         return BAD_VALUE;
     };
-    handle
-        .hidden
-        .behind()
-        .delete_bearer(alloc, Teid(session), identity, told)
+    command!(handle, told, BEGUN, gateway => gateway.delete_bearer(alloc, Teid(session), identity))
 }
 
 /// Ends a session: a command of the packet gateway.
@@ -151,23 +129,13 @@ pub extern "C" fn gtp_gateway_release_session(
     session: u32,
     told: &mut Told,
 ) -> u8
-    ensures done { result ≡ 0 → Goes (HasBegun (Release_session session) told.new)
-        handle.old.hidden.value handle.new.hidden.value }
-    ensures refused { result ≡ 6 → Goes (IsRefused (Release_session session) told.new)
-        handle.old.hidden.value handle.new.hidden.value }
-    ensures kept { result ≢ 0 → Stays handle.old.hidden.value handle.new.hidden.value }
-    ensures status { HasStatus command_statuses ⊥
-        handle.old.hidden.value result }
-    ensures memory { result ≡ 2 → IsSomeAnd handle.old.hidden.value
-        (CommandMayRunOut (Release_session session)) }
+    ensures { IsCommanded (Release_session session) ⊥ told.old told.new
+        handle.old.hidden.value handle.new.hidden.value result }
 {
     if handle.count == 0 {
         return EMPTY;
     }
-    handle
-        .hidden
-        .behind()
-        .release_session(alloc, Teid(session), told)
+    command!(handle, told, BEGUN, gateway => gateway.release_session(alloc, Teid(session)))
 }
 
 /// Sends an End Marker on a bearer, once for each: a command of the packet gateway.
@@ -178,20 +146,13 @@ pub extern "C" fn gtp_gateway_end_marker(
     bearer: u32,
     told: &mut Told,
 ) -> u8
-    ensures done { result ≡ 0 → Goes (HasBegun (Mark_end bearer) told.new)
-        handle.old.hidden.value handle.new.hidden.value }
-    ensures refused { result ≡ 6 → Goes (IsRefused (Mark_end bearer) told.new)
-        handle.old.hidden.value handle.new.hidden.value }
-    ensures kept { result ≢ 0 → Stays handle.old.hidden.value handle.new.hidden.value }
-    ensures status { HasStatus command_statuses ⊥
-        handle.old.hidden.value result }
-    ensures memory { result ≡ 2 → IsSomeAnd handle.old.hidden.value
-        (CommandMayRunOut (Mark_end bearer)) }
+    ensures { IsCommanded (Mark_end bearer) ⊥ told.old told.new
+        handle.old.hidden.value handle.new.hidden.value result }
 {
     if handle.count == 0 {
         return EMPTY;
     }
-    handle.hidden.behind().end_marker(alloc, Teid(bearer), told)
+    command!(handle, told, GONE_OUT, gateway => gateway.end_marker(alloc, Teid(bearer)))
 }
 
 /// Sends a packet on a bearer, of at most 65,000 octets.
@@ -203,40 +164,23 @@ pub extern "C" fn gtp_gateway_send_user(
     payload: &[u8],
     told: &mut Told,
 ) -> u8
-    ensures done { result ≡ 0 → Goes (HasBegun (Send_user bearer payload.now) told.new)
-        handle.old.hidden.value handle.new.hidden.value }
-    ensures refused { result ≡ 6 → Goes (IsRefused (Send_user bearer payload.now) told.new)
-        handle.old.hidden.value handle.new.hidden.value }
-    ensures kept { result ≢ 0 → Stays handle.old.hidden.value handle.new.hidden.value }
-    ensures status { HasStatus command_statuses ⊥
-        handle.old.hidden.value result }
-    ensures memory { result ≡ 2 → IsSomeAnd handle.old.hidden.value
-        (CommandMayRunOut (Send_user bearer payload.now)) }
+    ensures { IsCommanded (Send_user bearer payload.now) ⊥ told.old told.new
+        handle.old.hidden.value handle.new.hidden.value result }
 {
     if handle.count == 0 {
         return EMPTY;
     }
-    handle
-        .hidden
-        .behind()
-        .send_user(alloc, Teid(bearer), payload, told)
+    command!(handle, told, GONE_OUT, gateway => gateway.send_user(alloc, Teid(bearer), payload))
 }
 
 /// Asks whether the peer is alive.
 #[unsafe(no_mangle)]
 pub extern "C" fn gtp_gateway_echo(alloc: Global, handle: &mut Handle, told: &mut Told) -> u8
-    ensures done { result ≡ 0 → Goes (HasBegun Send_echo told.new)
-        handle.old.hidden.value handle.new.hidden.value }
-    ensures refused { result ≡ 6 → Goes (IsRefused Send_echo told.new)
-        handle.old.hidden.value handle.new.hidden.value }
-    ensures kept { result ≢ 0 → Stays handle.old.hidden.value handle.new.hidden.value }
-    ensures status { HasStatus command_statuses ⊥
-        handle.old.hidden.value result }
-    ensures memory { result ≡ 2 → IsSomeAnd handle.old.hidden.value
-        (CommandMayRunOut Send_echo) }
+    ensures { IsCommanded Send_echo ⊥ told.old told.new
+        handle.old.hidden.value handle.new.hidden.value result }
 {
     if handle.count == 0 {
         return EMPTY;
     }
-    handle.hidden.behind().echo(alloc, told)
+    command!(handle, told, BEGUN, gateway => gateway.echo(alloc))
 }

@@ -69,6 +69,9 @@ pub extern "C" fn gtp_control_read(octets: &[u8], head: &mut Head, fault: &mut F
     ensures only { (d : DatagramValue) → IsDatagram octets.now d → result ≡ 0 }
     // The first fault is told.
     ensures fault { result ≢ 0 → IsFaulty octets.now fault.new }
+    // What does not belong to the answer is as it was.
+    ensures no_head { result ≢ 0 → head.new ≡ head.old }
+    ensures no_fault { result ≡ 0 → fault.new ≡ fault.old }
     ensures known { result ≢ 0 → result ≡ 9 }
 {
     match view(octets) {

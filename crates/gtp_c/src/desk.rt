@@ -2,12 +2,14 @@
 
 ghost use Rattle.std.specs.Prelude.{◌≡◌, ◌≢◌, ◌↔◌, ◌+◌, ◌≤◌, ◌++◌, [], ◌∷◌, length, option_to_list};
 ghost use Rattle.std.specs.VecDeque.{deque_len, deque_capacity};
-ghost use Rattle.gtp_c.specs.Statuses.{IsOneOf, IsFull, LacksRoom, ReceiveMayRunOut, TickMayRunOut};
+ghost use Rattle.gtp_c.specs.Commands.{IsSettled};
+ghost use Rattle.gtp_c.specs.Common.{IsOneOf};
+ghost use Rattle.gtp_c.specs.Statuses.{IsFull, LacksRoom, ReceiveMayRunOut, TickMayRunOut};
 ghost use Rattle.gtp_c.specs.Steps.{Keeps, HasReceived, HasTicked};
 
-use crate::status::{DONE, FULL, NO_MEMORY};
+use crate::status::{DONE, FULL, NO_MEMORY, REFUSED};
 use crate::told::Told;
-use gtp_gateway::{Endpoint, Gateway, Plane, Sent};
+use gtp_gateway::{Begun, CommandFault, Endpoint, Gateway, Plane, Sent};
 use std::alloc::Global;
 use std::collections::VecDeque;
 
@@ -133,6 +135,31 @@ impl Desk {
                 DONE
             }
             Err(_) => NO_MEMORY,
+        }
+    }
+
+    /// What a command sends waits, for which room was made, and what it came to is told.
+    pub(crate) fn settle(
+        &mut self,
+        begun: Result<Begun, CommandFault>,
+        number: u8,
+        told: &mut Told,
+    ) -> u8
+        requires { deque_len self.old.waiting + 1 ≤ deque_capacity self.old.waiting }
+        ensures { IsSettled begun number told.old told.new self.old self.new result }
+    {
+        match begun {
+            Ok(begun) => {
+                let report = Told::of_begun(number, &begun, 0);
+                self.waiting.push_back_reserved(begun.out);
+                *told = report.with_waiting(self.waiting.len());
+                DONE
+            }
+            Err(CommandFault::Refused(why)) => {
+                *told = Told::of_refusal(why, self.waiting.len());
+                REFUSED
+            }
+            Err(CommandFault::Memory) => NO_MEMORY,
         }
     }
 }

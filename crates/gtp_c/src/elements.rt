@@ -1,9 +1,9 @@
 //! Elements, in the place where they lie.
 
-ghost use Rattle.std.specs.Prelude.{◌≡◌, ◌↔◌, ◌+◌, ◌<◌, ◌^◌, [], ◌∷◌, None, IsErr, drop, length};
+ghost use Rattle.std.specs.Prelude.{◌≡◌, ◌≢◌, ◌↔◌, ◌+◌, ◌<◌, ◌^◌, [], ◌∷◌, None, IsErr, drop, length};
 ghost use Rattle.gtp_ie.specs.Element.{elements_of, first_of, front_of, list_of};
 ghost use Rattle.gtp_ie.specs.View.{element_of};
-ghost use Rattle.gtp_c.specs.Statuses.{IsOneOf};
+ghost use Rattle.gtp_c.specs.Common.{IsOneOf};
 ghost use Rattle.gtp_c.specs.Reading.{IsElement, IsFirst, IsFound, IsFront};
 
 use crate::status::{BAD_VALUE, DONE, FAULTY, NONE};
@@ -70,6 +70,7 @@ pub extern "C" fn gtp_element_next(octets: &[u8], place: u64, element: &mut Elem
     ensures none { result ≡ 9 → front_of place (drop place octets.now) ≡ None }
     ensures end { (result ≡ 4) ↔ (place ≡ length octets.now) }
     ensures past { (result ≡ 1) ↔ (length octets.now < place) }
+    ensures kept { result ≢ 0 → element.new ≡ element.old }
     ensures known { IsOneOf (0 ∷ 1 ∷ 4 ∷ 9 ∷ []) result }
 {
     let place = place as usize;
@@ -104,6 +105,7 @@ pub extern "C" fn gtp_element_first(
         → first_of kind instance (list_of (elements_of place (drop place octets.now))) ≡ None }
     ensures faulty { (result ≡ 9) ↔ IsErr (elements_of place (drop place octets.now)) }
     ensures past { (result ≡ 1) ↔ (length octets.now < place) }
+    ensures kept { result ≢ 0 → element.new ≡ element.old }
     ensures known { IsOneOf (0 ∷ 1 ∷ 4 ∷ 9 ∷ []) result }
 {
     let place = place as usize;

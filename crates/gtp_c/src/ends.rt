@@ -44,6 +44,16 @@ impl Address {
         }
     }
 
+    /// No address.
+    pub(crate) fn none() -> Address
+        ensures { result.version ≡ 0 }
+    {
+        Address {
+            version: 0,
+            octets: [0; 16],
+        }
+    }
+
     /// An address, as C has it.
     pub(crate) fn of(ip: Ip) -> Address
         ensures { ip_at result ≡ Some ip }

@@ -3,7 +3,8 @@
 ghost use Rattle.std.specs.Prelude.{◌≡◌, ◌≢◌, ◌↔◌, [], ◌∷◌, None, IsSome, IsSomeAnd, length};
 ghost use Rattle.gtp_c.specs.Handles.{Goes, Stays};
 ghost use Rattle.gtp_c.specs.Setups.{Starts, IsGoodSetup, new_statuses};
-ghost use Rattle.gtp_c.specs.Statuses.{HasStatus, IsOneOf, step_statuses, IsBadArrival};
+ghost use Rattle.gtp_c.specs.Common.{IsOneOf};
+ghost use Rattle.gtp_c.specs.Statuses.{HasStatus, step_statuses, IsBadArrival};
 ghost use Rattle.gtp_c.specs.Statuses.{ComingMayRunOut, TickMayRunOut};
 ghost use Rattle.gtp_c.specs.Steps.{HasTicked, Hands, IsTooSmall, Comes, NothingWaits};
 

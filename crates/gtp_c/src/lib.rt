@@ -5,7 +5,6 @@
 mod behind;
 mod coming;
 mod commanding;
-mod commands;
 mod contexts;
 mod control;
 mod desk;
@@ -16,7 +15,6 @@ mod gateway;
 mod handle;
 mod loose;
 mod names;
-mod numbers;
 mod place;
 mod rows;
 mod saying;

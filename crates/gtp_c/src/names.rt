@@ -4,7 +4,7 @@ ghost use Rattle.std.specs.Prelude.{◌≡◌, ◌≤◌, length, IfOk, IfErr, O
 ghost use Rattle.gtp_values.specs.Apn.{IsApnText};
 ghost use Rattle.gtp_c.specs.Names.{AreNames, AreGoodNames, IsCut, IsPut, word_length as spec_word_length};
 ghost use Rattle.gtp_c.specs.Setups.{no_gateway};
-ghost use Rattle.gtp_c.specs.Statuses.{IsOneOf};
+ghost use Rattle.gtp_c.specs.Common.{IsOneOf};
 
 use crate::session::access_point_of;
 use crate::status::{BAD_VALUE, NO_MEMORY};

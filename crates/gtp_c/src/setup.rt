@@ -3,7 +3,7 @@
 ghost use Rattle.std.specs.Prelude.{◌≡◌, ◌↔◌, ◌≤◌, IfOk, IfErr, OnOk, IsErrOf, IfSome, IsSome};
 ghost use Rattle.gtp_c.specs.Setups.{role_at, AreAddresses, IsConfigured, IsStarted, timers_at};
 ghost use Rattle.gtp_c.specs.Setups.{HasAddresses, IsGoodConfig, IsGoodSetup, no_gateway};
-ghost use Rattle.gtp_c.specs.Statuses.{IsOneOf};
+ghost use Rattle.gtp_c.specs.Common.{IsOneOf};
 
 use crate::ends::Address;
 use crate::names::access_points_of;

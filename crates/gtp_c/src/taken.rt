@@ -1,7 +1,7 @@
 //! Datagrams that are taken, to be sent.
 
 ghost use Rattle.std.specs.Prelude.{◌≡◌, ◌≢◌, ◌↔◌, ◌<◌, [], ◌∷◌, length, take};
-ghost use Rattle.gtp_c.specs.Statuses.{IsOneOf};
+ghost use Rattle.gtp_c.specs.Common.{IsOneOf};
 ghost use Rattle.gtp_c.specs.Steps.{Says, Hands, IsTooSmall, NothingWaits};
 
 use crate::desk::Desk;

@@ -1,7 +1,8 @@
 //! What a step came to, in numbers.
 
 ghost use Rattle.std.specs.Prelude.{◌≡◌};
-ghost use Rattle.gtp_c.specs.Told.{flag, plain_told, step_told, begun_told, refused_told, tick_told};
+ghost use Rattle.gtp_c.specs.Common.{flag};
+ghost use Rattle.gtp_c.specs.Told.{plain_told, step_told, begun_told, refused_told, tick_told};
 
 use crate::coming::Coming;
 use gtp_gateway::{Begun, Outcome, Refusal, Step};

@@ -2,15 +2,14 @@
 
 ghost use Rattle.std.specs.Prelude.{◌≡◌, ◌≢◌};
 ghost use Rattle.gtp_user.specs.Datagram.{IsUserMessage};
-ghost use Rattle.gtp_user.specs.Message.{MessageValue, message_value};
-ghost use Rattle.gtp_c.specs.Reading.{IsUserRead, IsUserFaulty, IsUserTold, user_kind, user_teid};
+ghost use Rattle.gtp_user.specs.Message.{MessageValue, content_of};
+ghost use Rattle.gtp_c.specs.Reading.{IsUserRead, IsUserFaulty, IsUserTold, IsCarried, user_teid};
 ghost use Rattle.gtp_c.specs.Reading.{user_length, IsPeer};
-ghost use Rattle.gtp_user.specs.Message.{content_of};
 
 use crate::ends::Address;
 use crate::fault::Fault;
 use crate::status::{DONE, FAULTY};
-use gtp_user::{UserBody, UserMessage, decode};
+use gtp_user::{UserBody, UserView, view};
 
 /// What a message of the user plane says, and how many octets it carries.
 #[repr(C)]
@@ -32,21 +31,6 @@ pub struct UserHead {
     pub extension: u8,
     /// The address of an Error Indication; its version is 0 for none.
     pub peer: Address,
-}
-
-/// The type of a message.
-fn kind_of(body: &UserBody<'_>) -> u8
-    ensures { result ≡ user_kind (content_of body.now) }
-{
-    match *body {
-        UserBody::EchoRequest => 1,
-        UserBody::EchoResponse => 2,
-        UserBody::ErrorIndication { .. } => 26,
-        UserBody::Notification { .. } => 31,
-        UserBody::EndMarker { .. } => 254,
-        UserBody::Packet { .. } => 255,
-        UserBody::Other { kind, .. } => kind,
-    }
 }
 
 /// The TEID that a message carries; 0 for none.
@@ -83,36 +67,84 @@ fn peer_of(body: &UserBody<'_>) -> Address
 {
     match *body {
         UserBody::ErrorIndication { peer, .. } => Address::of(peer),
-        _ => Address {
-            version: 0,
-            octets: [0; 16],
-        },
+        _ => Address::none(),
+    }
+}
+
+/// What a message carries, but for what its header and its chain say.
+#[derive(Clone, Copy)]
+struct Carried {
+    teid: u32,
+    payload_len: u64,
+    peer: Address,
+}
+
+/// What a message carries.
+fn carried_by(body: &UserBody<'_>) -> Carried
+    ensures { IsCarried (content_of body.now) result }
+{
+    Carried {
+        teid: teid_of(body),
+        payload_len: length_of(body),
+        peer: peer_of(body),
     }
 }
 
 impl UserHead {
-    fn of(message: &UserMessage<'_>) -> UserHead
-        ensures { IsUserTold (message_value message.now) result }
+    /// Of a message that carries this.
+    #[inline(always)]
+    fn of(view: &UserView<'_>, carried: Carried) -> UserHead
+        requires { IsCarried view.now.content carried }
+        ensures { IsUserTold view.now result }
     {
-        let (has_seq, seq) = match message.seq {
+        let (has_seq, seq) = match view.seq() {
             Some(seq) => (1, seq),
             None => (0, 0),
         };
-        let (has_npdu, npdu) = match message.npdu {
+        let (has_npdu, npdu) = match view.npdu() {
             Some(npdu) => (1, npdu),
             None => (0, 0),
         };
+        let extensions = view.extensions();
         UserHead {
-            payload_len: length_of(&message.body),
-            extensions_len: message.ext.octets().len() as u64,
-            teid: teid_of(&message.body),
+            payload_len: carried.payload_len,
+            extensions_len: extensions.octets().len() as u64,
+            teid: carried.teid,
             seq,
             has_seq,
             has_npdu,
             npdu,
-            kind: kind_of(&message.body),
-            extension: message.ext.first_kind(),
-            peer: peer_of(&message.body),
+            kind: view.kind(),
+            extension: extensions.first_kind(),
+            peer: carried.peer,
+        }
+    }
+
+    /// Of a message that is no G-PDU. It is told out of line, so that a G-PDU needs no room for it.
+    #[cold]
+    #[inline(never)]
+    fn put_other(&mut self, view: &UserView<'_>)
+        ensures { IsUserTold view.now self.new }
+    {
+        *self = UserHead::of(view, carried_by(&view.to_message().body));
+    }
+
+    /// Of a message.
+    #[inline(always)]
+    #[tactic(auto, using(crate::proofs::Carrying::packet_carried))]
+    fn put(&mut self, view: &UserView<'_>)
+        ensures { IsUserTold view.now self.new }
+    {
+        match view.packet() {
+            Some((teid, payload)) => {
+                let carried = Carried {
+                    teid: teid.0,
+                    payload_len: payload.len() as u64,
+                    peer: Address::none(),
+                };
+                *self = UserHead::of(view, carried);
+            }
+            None => self.put_other(view),
         }
     }
 }
@@ -126,11 +158,14 @@ pub extern "C" fn gtp_user_read(octets: &[u8], head: &mut UserHead, fault: &mut 
     ensures only { (m : MessageValue) → IsUserMessage octets.now m → result ≡ 0 }
     // The first fault is told.
     ensures fault { result ≢ 0 → IsUserFaulty octets.now fault.new }
+    // What does not belong to the answer is as it was.
+    ensures no_head { result ≢ 0 → head.new ≡ head.old }
+    ensures no_fault { result ≡ 0 → fault.new ≡ fault.old }
     ensures known { result ≢ 0 → result ≡ 9 }
 {
-    match decode(octets) {
-        Ok(message) => {
-            *head = UserHead::of(&message);
+    match view(octets) {
+        Ok(view) => {
+            head.put(&view);
             DONE
         }
         Err(first) => {

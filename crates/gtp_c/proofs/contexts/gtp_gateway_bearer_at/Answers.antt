@@ -1,10 +1,16 @@
-use Rattle.std.proofs.Common.{subst}
+use Rattle.std.proofs.Common.{rules, subst}
 use Rattle.std.specs.Prelude.{Option}
 use Rattle.gtp_c.specs.Contexts.{BearerAt}
 use Rattle.gtp_c.specs.declared.desk.Desk.{Desk}
 use Rattle.gtp_c.proofs.contexts.gtp_gateway_bearer_at.Goals as goal
 
-pub returns-in-Some-clause-found : goal.returns-in-Some-clause-found
-returns-in-Some-clause-found c =
-    λ _. subst (λ (v : Option Desk). BearerAt c.args.place c.of.result v) c.behind-desk.ensures.value
-    (record { entry = (c.in-Some.teid, c.in-Some.bearer); found = c.in-Some.ensures; is = c.of.ensures })
+pub returns-in-Some : goal.returns-in-Some
+returns-in-Some c =
+    record {
+      found = λ _. subst (λ (v : Option Desk). BearerAt c.args.place c.of.result v) c.behind-gateway.ensures.value (record { entry = (c.in-Some.teid, c.in-Some.bearer); found = c.in-Some.ensures; is = c.of.ensures });
+      none = search rules;
+      untold = search rules;
+      kept = search rules;
+      empty = search rules;
+      known = search rules;
+    }

@@ -1,0 +1,11 @@
+use Rattle.std.proofs.Common.{rules}
+use Rattle.gtp_machine.specs.Input.{Release_session}
+use Rattle.gtp_c.proofs.Carried.{always, behind, carried_out, has_room}
+use Rattle.gtp_c.proofs.commanding.gtp_gateway_release_session.Goals as goal
+
+pub returns : goal.returns
+returns c =
+    behind c.behind-desk.ensures.value
+    (carried_out (Release_session c.args.session) ⊥ (λ bad. bad) c.behind-desk.result.now c.room_for-status.new.self c.args.told.now c.room_for-status.ensures.kept
+    c.settle.new.self c.settle.new.told c.release_session-begun.new.self c.release_session-begun.result c.settle.result c.settle.ensures (has_room c.room_for-status.result (search rules) c.room_for-status.ensures.full)
+    c.release_session-begun.ensures.done c.release_session-begun.ensures.next (always c.release_session-begun.result tt) c.release_session-begun.ensures.refused c.release_session-begun.ensures.err)
