@@ -9,7 +9,8 @@ use Rattle.gtp_user.specs.Datagram.{IsUserMessage, Carries}
 use Rattle.gtp_user.specs.Headed.{Headed}
 use Rattle.gtp_user.specs.Header.{IsHeaded}
 use Rattle.gtp_user.specs.Message.{Content, EchoRequest, EchoResponse, ErrorIndication, Notification, EndMarker, Packet, Other, MessageValue, packet_in}
-use Rattle.gtp_c.specs.Reading.{AreLast, LiesAtEnd, IsCarried}
+use Rattle.gtp_c.specs.Common.{AreLast}
+use Rattle.gtp_c.specs.Reading.{LiesAtEnd, IsCarried}
 use Rattle.gtp_c.specs.declared.user.Carried.{Carried}
 
 -- the head tells what a G-PDU carries

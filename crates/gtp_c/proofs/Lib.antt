@@ -1,3 +1,4 @@
+pub mod Accepting
 pub mod Carried
 pub mod Carrying
 pub mod Dropping

@@ -1,5 +1,5 @@
 -- What several definitions share.
-use Rattle.std.specs.Prelude.{◌≡◌, ◌⊎◌, ℕ, Bool, true, false, List, [], ◌∷◌}
+use Rattle.std.specs.Prelude.{◌≡◌, ◌⊎◌, ℕ, ◌-◌, Bool, true, false, List, [], ◌∷◌, drop, length}
 
 -- 1 where it holds
 abbrev pub flag : Bool → ℕ
@@ -10,3 +10,7 @@ flag false = 0
 abbrev pub IsOneOf : List ℕ → ℕ → Type 0
 IsOneOf [] n = ⊥
 IsOneOf (one ∷ more) n = (n ≡ one) ⊎ IsOneOf more n
+
+-- these are the last of the octets
+abbrev pub AreLast : List ℕ → List ℕ → Type 0
+AreLast payload octets = drop (length octets - length payload) octets ≡ payload

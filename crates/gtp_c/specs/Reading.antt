@@ -1,5 +1,5 @@
 -- What C is told of a datagram that is read in place.
-use Rattle.std.specs.Prelude.{◌≡◌, ℕ, ◌+◌, ◌-◌, List, drop, length, Option, Some, is_some, is_none, option_map, unwrap_or}
+use Rattle.std.specs.Prelude.{◌≡◌, ℕ, ◌+◌, List, drop, length, Option, Some, is_some, is_none, option_map, unwrap_or}
 use Rattle.std.specs.Borrow.{Bor}
 use Rattle.gtp_ie.specs.View.{element_of}
 use Rattle.gtp_ie.specs.declared.view.ElementView.{ElementView}
@@ -15,7 +15,7 @@ use Rattle.gtp_v2.specs.Viewed.{ViewedDatagram, place_of}
 use Rattle.gtp_v2.specs.declared.fault.V2Fault.{V2Fault}
 use Rattle.gtp_c.specs.Ends.{ip_at}
 use Rattle.gtp_c.specs.Faults.{control_told, user_told}
-use Rattle.gtp_c.specs.Common.{flag}
+use Rattle.gtp_c.specs.Common.{AreLast, flag}
 use Rattle.gtp_c.specs.declared.control.Head.{Head}
 use Rattle.gtp_c.specs.declared.elements.Element as found
 use Rattle.gtp_c.specs.declared.ends.Address.{Address}
@@ -118,10 +118,6 @@ pub record IsUserTold (m : user.MessageValue) (told : UserHead) : Type 0 where
   pub npdu : told.npdu ≡ unwrap_or m.npdu 0
   pub extension : told.extension ≡ first_kind m.ext
   pub extensions : told.extensions_len ≡ length (chain_encoding m.ext)
-
--- these are the last of the octets
-abbrev pub AreLast : List ℕ → List ℕ → Type 0
-AreLast payload octets = drop (length octets - length payload) octets ≡ payload
 
 -- the packet of a G-PDU, and what a message of a type carries that has no form of its own, are the last octets of the datagram
 abbrev pub LiesAtEnd : user.Content → List ℕ → Type 0

@@ -1,9 +1,9 @@
 -- What happens to a gateway and to the datagrams that wait to be taken.
-use Rattle.std.specs.Prelude.{◌≡◌, ℕ, List, [], ◌∷◌, ◌++◌, ◌<◌, drop, take, length, Some, None, slice_index_or, option_to_list}
+use Rattle.std.specs.Prelude.{◌≡◌, ℕ, List, [], ◌∷◌, ◌++◌, ◌<◌, drop, take, length, Option, Some, None, slice_index_or, option_to_list}
 use Rattle.std.specs.VecDeque.{deque_len}
 use Rattle.gtp_values.specs.declared.address.Endpoint.{Endpoint}
 use Rattle.gtp_machine.specs.Input.{Command, Mark_end, Send_user, Commanded, refused}
-use Rattle.gtp_machine.specs.Message.{Plane}
+use Rattle.gtp_machine.specs.Message.{Plane, Control, User}
 use Rattle.gtp_machine.specs.Step.{Step as MachineStep}
 use Rattle.gtp_machine.specs.declared.outcome.Refusal.{Refusal}
 use Rattle.gtp_gateway.specs.command.Command.{IsCarriedOut, SendsRequestNext}
@@ -13,8 +13,10 @@ use Rattle.gtp_gateway.specs.GatewayState.{GatewayState}
 use Rattle.gtp_gateway.specs.Tick.{IsTicked, QueuesAfterTick}
 use Rattle.gtp_gateway.specs.declared.sent.Begun.{Begun}
 use Rattle.gtp_gateway.specs.declared.sent.Sent.{Sent}
+use Rattle.gtp_gateway.specs.declared.step.Accepted.{Accepted}
 use Rattle.gtp_gateway.specs.declared.step.Step.{Step}
 use Rattle.gtp_gateway.specs.declared.tick.Ticked.{Ticked}
+use Rattle.gtp_c.specs.Common.{AreLast}
 use Rattle.gtp_c.specs.Ends.{endpoint_at, plane_at}
 use Rattle.gtp_c.specs.Told.{step_told, begun_told, refused_told, tick_told}
 use Rattle.gtp_c.specs.declared.desk.Desk.{Desk}
@@ -26,12 +28,23 @@ use Rattle.gtp_c.specs.declared.told.Told.{Told}
 abbrev pub Keeps : Desk → Desk → Type 0
 Keeps old new = (new.gateway ≡ old.gateway) × (new.waiting.items ≡ old.waiting.items)
 
+-- the packet that was accepted is the last octets of the datagram
+abbrev pub IsPayload : Option Accepted → List ℕ → Type 0
+IsPayload None octets = Unit {0}
+IsPayload (Some accepted) octets = AreLast accepted.payload.now octets
+
+-- the same on the user plane; no packet comes on the other
+abbrev pub IsPayloadOf : Plane → Option Accepted → List ℕ → Type 0
+IsPayloadOf Control accepted octets = Unit {0}
+IsPayloadOf User accepted octets = IsPayload accepted octets
+
 -- a datagram was received: that is a step of the machine, what it sends waits behind all that waited, and what it came to is told
 pub record HasReceived (plane : Plane) (source : Endpoint) (octets : List ℕ) (told : Told) (old new : Desk) : Type 0 where
   pub step : Step
   pub received : IsReceived plane source octets old.gateway step new.gateway
   pub queues : QueuesAfterReceive plane source octets step old.gateway new.gateway
   pub choices : ChoosesLowest step.report.made old.gateway.role old.gateway.node new.gateway.node
+  pub payload : IsPayloadOf plane step.accepted octets
   pub waiting : new.waiting.items ≡ old.waiting.items ++ option_to_list step.out
   pub tells : told ≡ step_told step (deque_len new.waiting)
 

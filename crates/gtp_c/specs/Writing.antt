@@ -20,6 +20,10 @@ pub record IsWritten (Bad : Type 0) (place : ℕ) (text old new : List ℕ) (bef
   pub bad : (status ≡ 1) ↔ Bad
   pub known : IsOneOf (0 ∷ 1 ∷ 5 ∷ []) status
 
+-- 0.1.0
+abbrev pub version : List ℕ
+version = 48 ∷ 46 ∷ 49 ∷ 46 ∷ 48 ∷ []
+
 -- a G-PDU with this TEID and packet, without options (TS 29.281 5.1): version 1, protocol type GTP, type 255, the length of what follows the first eight octets
 abbrev pub packet_encoding : ℕ → List ℕ → List ℕ
 packet_encoding teid packet = 48 ∷ 255 ∷ two (length packet) (four teid packet)

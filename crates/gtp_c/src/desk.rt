@@ -82,6 +82,7 @@ impl Desk {
     }
 
     /// A datagram came.
+    #[tactic(auto, using(crate::proofs::Accepting::is_payload))]
     pub(crate) fn receive(
         &mut self,
         alloc: Global,
@@ -94,6 +95,7 @@ impl Desk {
             → HasReceived plane source octets.now told.new self.old self.new }
         ensures kept { result ≢ 0 → Keeps self.old self.new }
         ensures full { (result ≡ 3) ↔ IsFull self.old }
+        ensures untold { result ≢ 0 → told.new ≡ told.old }
         ensures memory { result ≡ 2 → ReceiveMayRunOut plane source octets.now self.old }
         ensures known { IsOneOf (0 ∷ 2 ∷ 3 ∷ []) result }
     {
@@ -117,6 +119,7 @@ impl Desk {
         ensures done { result ≡ 0 → HasTicked told.new self.old self.new }
         ensures kept { result ≢ 0 → Keeps self.old self.new }
         ensures full { (result ≡ 3) ↔ IsFull self.old }
+        ensures untold { result ≢ 0 → told.new ≡ told.old }
         ensures memory { result ≡ 2 → TickMayRunOut self.old }
         ensures known { IsOneOf (0 ∷ 2 ∷ 3 ∷ []) result }
     {

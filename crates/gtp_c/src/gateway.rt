@@ -78,6 +78,7 @@ pub extern "C" fn gtp_gateway_receive(
     ensures kept { result ≢ 0 → Stays handle.old.hidden.value handle.new.hidden.value }
     ensures status { HasStatus step_statuses (IsBadArrival plane source.now)
         handle.old.hidden.value result }
+    ensures untold { result ≢ 0 → told.new ≡ told.old }
     ensures memory { result ≡ 2 → IsSomeAnd handle.old.hidden.value
         (ComingMayRunOut plane source.now octets.now) }
 {
@@ -103,6 +104,7 @@ pub extern "C" fn gtp_gateway_tick(alloc: Global, handle: &mut Handle, told: &mu
         handle.old.hidden.value handle.new.hidden.value }
     ensures kept { result ≢ 0 → Stays handle.old.hidden.value handle.new.hidden.value }
     ensures status { HasStatus step_statuses ⊥ handle.old.hidden.value result }
+    ensures untold { result ≢ 0 → told.new ≡ told.old }
     ensures memory { result ≡ 2 → IsSomeAnd handle.old.hidden.value TickMayRunOut }
 {
     if handle.count == 0 {
@@ -124,6 +126,7 @@ pub extern "C" fn gtp_gateway_take(
     ensures small { result ≡ 5 → Goes (IsTooSmall (length buffer.old) datagram.new)
         handle.old.hidden.value handle.new.hidden.value }
     ensures buffer { result ≢ 0 → buffer.new ≡ buffer.old }
+    ensures untold { result ≢ 0 → result ≢ 5 → datagram.new ≡ datagram.old }
     ensures kept { result ≢ 0 → handle.new.hidden.value ≡ handle.old.hidden.value }
     ensures empty { (result ≡ 7) ↔ (handle.old.hidden.value ≡ None) }
     ensures none { (result ≡ 4) ↔ IsSomeAnd handle.old.hidden.value NothingWaits }

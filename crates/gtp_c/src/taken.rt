@@ -56,6 +56,7 @@ impl Desk {
         ensures small { result ≡ 5
             → IsTooSmall (length buffer.old) datagram.new self.old self.new }
         ensures buffer { result ≢ 0 → buffer.new ≡ buffer.old }
+        ensures untold { result ≢ 0 → result ≢ 5 → datagram.new ≡ datagram.old }
         ensures kept { result ≢ 0 → self.new ≡ self.old }
         ensures none { (result ≡ 4) ↔ NothingWaits self.old }
         ensures known { IsOneOf (0 ∷ 4 ∷ 5 ∷ []) result }

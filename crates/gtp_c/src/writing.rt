@@ -3,7 +3,7 @@
 ghost use Rattle.std.specs.Prelude.{◌≡◌, ◌⊎◌, ◌+◌, ◌<◌, ◌≤◌, ◌^◌, ◌++◌, length, take};
 ghost use Rattle.gtp_ie.specs.Text.{element_encoding};
 ghost use Rattle.gtp_c.specs.Writing.{IsWritten, IsBadMessage, packet_encoding, message_encoding};
-ghost use Rattle.gtp_c.specs.Writing.{headed_plain, headed_by_teid};
+ghost use Rattle.gtp_c.specs.Writing.{headed_plain, headed_by_teid, version};
 
 use crate::control::Head;
 use crate::status::{BAD_VALUE, DONE, TOO_SMALL};
@@ -37,6 +37,15 @@ fn write_parts(buffer: &mut [u8], place: usize, head: &[u8], body: &[u8], size: 
     }
     put_parts(buffer, place, head, body);
     DONE
+}
+
+/// Writes the version of the library, three numbers with points between them: 0, and `size` says how many octets it has; 5 where
+/// they do not fit, and `size` says how many they are.
+#[unsafe(no_mangle)]
+pub extern "C" fn gtp_version(buffer: &mut [u8], size: &mut u64) -> u8
+    ensures { IsWritten ⊥ 0 version buffer.old buffer.new size.old size.new result }
+{
+    write_parts(buffer, 0, b"0.1.0", &[], size)
 }
 
 /// Writes an element with spare bits 0 (TS 29.274 8.2) at a place of the buffer: 0, and `size` says how many octets it has; 5 where
