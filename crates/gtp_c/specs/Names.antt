@@ -1,5 +1,5 @@
 -- The access points of a text.
-use Rattle.std.specs.Prelude.{◌≡◌, ℕ, ◌==◌, List, [], ◌∷◌, ◌++◌, Option, Some, None, map}
+use Rattle.std.specs.Prelude.{◌≡◌, ℕ, ◌≤◌, ◌==◌, length, List, [], ◌∷◌, ◌++◌, Option, Some, None, map}
 use Rattle.std.specs.Borrow.{Bor}
 use Rattle.std.specs.List.{AllByRecursion, position_or_len, slice_split}
 use Rattle.gtp_values.specs.Apn.{apn_text, IsApnText}
@@ -20,6 +20,10 @@ AreNames text names = map apn_text names ≡ names_in text
 -- each word of the text is that of a name
 abbrev pub AreGoodNames : List ℕ → Type 0
 AreGoodNames text = AllByRecursion IsApnText (names_in text)
+
+-- and they are at most 16
+abbrev pub AreFewNames : List ℕ → Type 0
+AreFewNames text = AreGoodNames text × (length (names_in text) ≤ 16)
 
 -- how many octets stand before the first comma
 abbrev pub word_length : List ℕ → ℕ

@@ -52,6 +52,7 @@ pub extern "C" fn gtp_gateway_new(
     ensures open { (result ≡ 8) ↔ (IsSome handle.old.hidden.value) }
     ensures good { result ≡ 0 → IsGoodSetup setup.now access_points.now }
     ensures bad { result ≡ 1 → ¬ IsGoodSetup setup.now access_points.now }
+    ensures memory { result ≡ 2 → IsGoodSetup setup.now access_points.now }
     ensures known { IsOneOf new_statuses result }
 {
     if handle.count != 0 {

@@ -1,8 +1,8 @@
 //! The access points of a text, with commas between them.
 
-ghost use Rattle.std.specs.Prelude.{◌≡◌, ◌≤◌, length, IfOk, IfErr, OnOk, OnErr, IsErrOf};
+ghost use Rattle.std.specs.Prelude.{◌≡◌, ◌↔◌, ◌≤◌, length, IfOk, IfErr, OnOk, OnErr, IsErrOf, IsTrue};
 ghost use Rattle.gtp_values.specs.Apn.{IsApnText};
-ghost use Rattle.gtp_c.specs.Names.{AreNames, AreGoodNames, IsCut, IsPut, word_length as spec_word_length};
+ghost use Rattle.gtp_c.specs.Names.{AreNames, AreGoodNames, AreFewNames, IsCut, IsPut, word_length as spec_word_length};
 ghost use Rattle.gtp_c.specs.Setups.{no_gateway};
 ghost use Rattle.gtp_c.specs.Common.{IsOneOf};
 
@@ -10,6 +10,9 @@ use crate::session::access_point_of;
 use crate::status::{BAD_VALUE, NO_MEMORY};
 use gtp_gateway::Apn;
 use std::alloc::Global;
+
+/// So many access points a gateway is set up with at most.
+const MOST_NAMES: usize = 16;
 
 /// How many octets stand before the first comma.
 fn word_length(octets: &[u8]) -> usize
@@ -68,5 +71,30 @@ pub(crate) fn access_points_of(alloc: Global, octets: &[u8]) -> Result<Vec<Apn>,
             Some(after) => rest = after,
             None => return Ok(names),
         }
+    }
+}
+
+/// Whether the words of a text are names of access points, and few enough. Takes no memory.
+pub(crate) fn are_names(octets: &[u8]) -> bool
+    ensures { IsTrue result ↔ AreFewNames octets.now }
+{
+    if octets.is_empty() {
+        return true;
+    }
+    let mut rest = octets;
+    let mut count = 1;
+    loop {
+        let (word, after) = cut(rest);
+        if access_point_of(word).is_none() {
+            return false;
+        }
+        let Some(after) = after else {
+            return true;
+        };
+        if count == MOST_NAMES {
+            return false;
+        }
+        rest = after;
+        count += 1;
     }
 }

@@ -6,7 +6,7 @@ ghost use Rattle.gtp_c.specs.Setups.{HasAddresses, IsGoodConfig, IsGoodSetup, no
 ghost use Rattle.gtp_c.specs.Common.{IsOneOf};
 
 use crate::ends::Address;
-use crate::names::access_points_of;
+use crate::names::{access_points_of, are_names};
 use crate::status::{BAD_VALUE, NO_MEMORY};
 use gtp_gateway::{Addresses, Apn, Config, Counter, Gateway, Pool, Role, Timers};
 use std::alloc::Global;
@@ -90,10 +90,18 @@ impl Setup {
         ensures good { OnOk result (IsGoodSetup self.now octets.now) }
         ensures err { IfErr result (IsOneOf no_gateway) }
         ensures bad { IsErrOf result 1 → ¬ IsGoodSetup self.now octets.now }
+        ensures memory { IsErrOf result 2 → IsGoodSetup self.now octets.now }
     {
         let Some(role) = role_of(self.role) else {
             return Err(BAD_VALUE);
         };
+        // All is looked at before memory is taken.
+        let Some(_) = self.config(Vec::new(alloc)) else {
+            return Err(BAD_VALUE);
+        };
+        if !are_names(octets) {
+            return Err(BAD_VALUE);
+        }
         let names = access_points_of(alloc, octets)?;
         let Some(config) = self.config(names) else {
             return Err(BAD_VALUE);

@@ -100,7 +100,7 @@ fn send(gateway: &mut Gateway, text: &str) {
     }
 }
 
-fn list(gateway: &mut Gateway) {
+fn list(gateway: &Gateway) {
     for session in gateway.sessions() {
         let address = session.v4.map_or("none".into(), |v4| v4.to_string());
         println!("session {:08x} {:?} address {address}", session.teid, session.state);
