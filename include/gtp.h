@@ -26,6 +26,8 @@
 extern "C" {
 #endif
 
+#define GTP_VERSION "0.1.0"     /* of this header; gtp_version says that of the library */
+
 enum gtp_status {
     GTP_DONE = 0,
     GTP_BAD_VALUE = 1,      /* a value is out of its range */
@@ -142,6 +144,8 @@ uint8_t gtp_selection_read(const uint8_t *body, size_t len, uint32_t *number);  
 
 /* ---- Writing to a buffer of `room` octets. GTP_TOO_SMALL: nothing is written, and *size says how many octets it is. ---- */
 
+/* The version of the library, as in GTP_VERSION but without a 0 at its end. */
+uint8_t gtp_version(uint8_t *buffer, size_t room, uint64_t *size);
 /* An element, at `place` of the buffer: *size octets. GTP_BAD_VALUE: instance > 15, body_len > 65,535 or place > room. */
 uint8_t gtp_element_write(uint8_t *buffer, size_t room, uint64_t place, uint8_t kind, uint8_t instance,
                           const uint8_t *body, size_t body_len, uint64_t *size);
@@ -153,6 +157,14 @@ uint8_t gtp_control_write(uint8_t *buffer, size_t room, const struct gtp_head *h
 /* A G-PDU. GTP_BAD_VALUE: packet_len > 65,535. */
 uint8_t gtp_packet_write(uint8_t *buffer, size_t room, uint32_t teid, const uint8_t *packet, size_t packet_len,
                          uint64_t *size);
+
+/* A message of the user plane without extension headers (TS 29.281 7), of the kind, TEID, seq, npdu and peer of `head`, where its
+ * has_.. say so; `octets` is the packet of a G-PDU, the types of a notification, and what a message of a type carries that is not
+ * known here. It takes memory for as many octets, and gives it back: GTP_NO_MEMORY. GTP_BAD_VALUE: an echo (1, 2), an Error
+ * Indication (26) or a notification (31) has no seq, an Error Indication no address, a notification more than 255 types, or the
+ * message more than 65,543 octets. The octets of a kind that carries none count for nothing. */
+uint8_t gtp_user_write(uint8_t *buffer, size_t room, const struct gtp_user_head *head, const uint8_t *octets, size_t octets_len,
+                       uint64_t *size);
 
 /* ---- A gateway. ---- */
 

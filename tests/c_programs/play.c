@@ -190,7 +190,28 @@ static void refusals(void) {
     CHECK(gtp_gateway_free(&packet) == GTP_DONE);
 }
 
+/* What is not written: messages that there are not. */
+static void not_written(void) {
+    uint8_t room[64] = {0}, types[256] = {0};
+    uint64_t size = 7;
+    struct gtp_user_head head;
+    memset(&head, 0, sizeof head);
+    head.kind = 26;
+    CHECK(gtp_user_write(room, sizeof room, &head, types, 0, &size) == GTP_BAD_VALUE);
+    head.has_seq = 1;
+    CHECK(gtp_user_write(room, sizeof room, &head, types, 0, &size) == GTP_BAD_VALUE);
+    head.kind = 31;
+    CHECK(gtp_user_write(room, sizeof room, &head, types, 256, &size) == GTP_BAD_VALUE && size == 7 && room[0] == 0);
+    head.kind = 1; head.has_seq = 0;
+    CHECK(gtp_user_write(room, sizeof room, &head, types, 0, &size) == GTP_BAD_VALUE);
+    head.has_seq = 1; head.seq = 0x0102;
+    CHECK(gtp_user_write(room, sizeof room, &head, types, 0, &size) == GTP_DONE && size == 12 && room[0] == 0x32 && room[9] == 2);
+    CHECK(gtp_version(room, sizeof room, &size) == GTP_DONE && size == strlen(GTP_VERSION) && !memcmp(room, GTP_VERSION, size));
+    CHECK(gtp_version(room, 2, &size) == GTP_TOO_SMALL);
+}
+
 int main(void) {
+    not_written();
     exchange(false);
     exchange(true);
     handles();

@@ -97,6 +97,24 @@ static void read_control(const uint8_t *octets, size_t len, bool again) {
     if (head.second_len) read_control(octets + len - head.second_len, head.second_len, again);
 }
 
+/* A message that was read is written, without its extension headers, and read again. */
+static void write_user(const uint8_t *octets, size_t len, const struct gtp_user_head *head) {
+    uint8_t none[1] = {0};
+    uint64_t needed = 0;
+    struct gtp_user_head back; struct gtp_fault fault;
+    memset(&back, 0, sizeof back); memset(&fault, 0, sizeof fault);
+    size_t types = (octets[0] & 7 ? 12 : 8) + head->extensions_len + 2;
+    const uint8_t *carried = octets + (head->kind == 31 ? types : len - head->payload_len);
+    CHECK(gtp_user_write(none, 0, head, carried, head->payload_len, &needed) == GTP_TOO_SMALL && needed >= 8 && needed <= len + 4);
+    uint8_t *written = malloc(needed);
+    EVERY_ROOM(needed, gtp_user_write(buffer, room, head, carried, head->payload_len, &size));
+    CHECK(gtp_user_read(written, needed, &back, &fault) == GTP_DONE && back.kind == head->kind && back.teid == head->teid);
+    CHECK(back.payload_len == head->payload_len && back.has_seq == head->has_seq && back.seq == head->seq);
+    CHECK(back.has_npdu == head->has_npdu && back.npdu == head->npdu && !memcmp(&back.peer, &head->peer, sizeof back.peer));
+    CHECK(back.extensions_len == 0);
+    free(written);
+}
+
 static void read_user(const uint8_t *octets, size_t len, bool again) {
     struct gtp_user_head head, back; struct gtp_fault fault;
     memset(&head, 0, sizeof head); memset(&back, 0, sizeof back); memset(&fault, 0, sizeof fault);
@@ -104,6 +122,7 @@ static void read_user(const uint8_t *octets, size_t len, bool again) {
     CHECK(status == GTP_DONE ? fault.number == 0 : status == GTP_FAULTY && fault.number >= 1 && fault.number <= 9);
     if (status != GTP_DONE) return;
     CHECK(head.payload_len + head.extensions_len <= len);
+    if (again) write_user(octets, len, &head);
     if (!again || head.kind != 255) return;
     const uint8_t *packet = octets + len - head.payload_len;
     uint8_t *written = malloc(8 + head.payload_len);

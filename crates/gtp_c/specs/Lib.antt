@@ -13,5 +13,6 @@ pub mod Setups
 pub mod Statuses
 pub mod Steps
 pub mod Told
+pub mod UserWriting
 pub mod Values
 pub mod Writing

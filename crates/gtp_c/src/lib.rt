@@ -24,5 +24,6 @@ mod status;
 mod taken;
 mod told;
 mod user;
+mod user_writing;
 mod values;
 mod writing;

@@ -25,7 +25,13 @@ fn put_parts(buffer: &mut [u8], place: usize, head: &[u8], body: &[u8])
 }
 
 /// Writes two pieces at a place where they fit, and tells their size in any case.
-fn write_parts(buffer: &mut [u8], place: usize, head: &[u8], body: &[u8], size: &mut u64) -> u8
+pub(crate) fn write_parts(
+    buffer: &mut [u8],
+    place: usize,
+    head: &[u8],
+    body: &[u8],
+    size: &mut u64,
+) -> u8
     requires place { place ≤ length buffer.old }
     requires few { length head.now + length body.now < 2 ^ 64 }
     ensures { IsWritten ⊥ place (head.now ++ body.now)

@@ -152,12 +152,15 @@ pub enum WriteError {
     BadValue,
     /// The buffer has too little room.
     TooSmall(TooSmall),
+    /// An allocation was refused; the same call may be made again.
+    NoMemory,
 }
 
 impl WriteError {
     pub(crate) fn of(status: u8, size: u64) -> WriteError {
         match status {
             ffi::TOO_SMALL => WriteError::TooSmall(TooSmall { needed: size as usize }),
+            ffi::NO_MEMORY => WriteError::NoMemory,
             _ => WriteError::BadValue,
         }
     }
@@ -168,6 +171,7 @@ impl fmt::Display for WriteError {
         match self {
             WriteError::BadValue => Error::BadValue.fmt(f),
             WriteError::TooSmall(small) => small.fmt(f),
+            WriteError::NoMemory => Error::NoMemory.fmt(f),
         }
     }
 }

@@ -283,6 +283,7 @@ extern "C" {
     pub fn gtp_pti_read(body: *const u8, len: usize, number: *mut u32) -> u8;
     pub fn gtp_selection_read(body: *const u8, len: usize, number: *mut u32) -> u8;
 
+    pub fn gtp_version(buffer: *mut u8, room: usize, size: *mut u64) -> u8;
     pub fn gtp_element_write(
         buffer: *mut u8,
         room: usize,
@@ -307,6 +308,15 @@ extern "C" {
         teid: u32,
         packet: *const u8,
         packet_len: usize,
+        size: *mut u64,
+    ) -> u8;
+
+    pub fn gtp_user_write(
+        buffer: *mut u8,
+        room: usize,
+        head: *const UserHead,
+        octets: *const u8,
+        octets_len: usize,
         size: *mut u64,
     ) -> u8;
 

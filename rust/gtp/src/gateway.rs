@@ -2,13 +2,16 @@
 
 use crate::ffi;
 use crate::{Bearer, CommandError, Error, Plane, Quality, Received, Session, SessionRequest, Setup, Ticked, TooSmall};
+use std::cell::UnsafeCell;
 use std::net::SocketAddr;
 use std::ptr;
 
 /// A serving or packet gateway (TS 29.274 7, TS 29.281 7).
 #[derive(Debug)]
 pub struct Gateway {
-    raw: ffi::Gateway,
+    // A look-up takes `&self` and hands the library a pointer to change, by which it changes nothing. Nobody else calls meanwhile,
+    // since a gateway is not `Sync`.
+    raw: UnsafeCell<ffi::Gateway>,
 }
 
 // SAFETY: the library has no global state, and its gateway is proved to be `Send`.
@@ -38,9 +41,9 @@ impl Gateway {
             return Err(Error::BadValue);
         }
         let names = setup.access_points.join(",");
-        let mut gateway = Gateway { raw: ffi::Gateway { hidden: ptr::null_mut(), count: 0 } };
+        let mut gateway = Gateway { raw: UnsafeCell::new(ffi::Gateway { hidden: ptr::null_mut(), count: 0 }) };
         // SAFETY: the gateway is zeroes, and the pointers are to a struct and to a slice of this length.
-        match unsafe { ffi::gtp_gateway_new(&mut gateway.raw, &setup.raw(), names.as_ptr(), names.len()) } {
+        match unsafe { ffi::gtp_gateway_new(gateway.raw.get_mut(), &setup.raw(), names.as_ptr(), names.len()) } {
             ffi::DONE => Ok(gateway),
             status => Err(Error::of(status)),
         }
@@ -55,7 +58,7 @@ impl Gateway {
         let (source, plane) = (ffi::End::of(source), plane.number());
         // SAFETY: the gateway is one that the library made, and the pointers are to structs and to a slice of this length.
         let status =
-            unsafe { ffi::gtp_gateway_receive(&mut self.raw, &source, plane, octets.as_ptr(), octets.len(), &mut told) };
+            unsafe { ffi::gtp_gateway_receive(self.raw.get_mut(), &source, plane, octets.as_ptr(), octets.len(), &mut told) };
         match status {
             ffi::DONE => Ok(Received::of(&told, octets)),
             _ => Err(Error::of(status)),
@@ -69,7 +72,7 @@ impl Gateway {
     pub fn tick(&mut self) -> Result<Ticked, Error> {
         let mut told = ffi::Told::default();
         // SAFETY: the gateway is one that the library made, and the pointer is to a struct.
-        match unsafe { ffi::gtp_gateway_tick(&mut self.raw, &mut told) } {
+        match unsafe { ffi::gtp_gateway_tick(self.raw.get_mut(), &mut told) } {
             ffi::DONE => Ok(Ticked::of(&told)),
             status => Err(Error::of(status)),
         }
@@ -82,7 +85,7 @@ impl Gateway {
     pub fn take<'b>(&mut self, buffer: &'b mut [u8]) -> Result<Option<Sent<'b>>, TooSmall> {
         let mut datagram = ffi::Datagram::default();
         // SAFETY: the gateway is one that the library made, and the pointers are to a slice of this length and to a struct.
-        match unsafe { ffi::gtp_gateway_take(&mut self.raw, buffer.as_mut_ptr(), buffer.len(), &mut datagram) } {
+        match unsafe { ffi::gtp_gateway_take(self.raw.get_mut(), buffer.as_mut_ptr(), buffer.len(), &mut datagram) } {
             ffi::DONE => Ok(Some(Sent {
                 plane: Plane::of(datagram.plane),
                 from: datagram.from.socket(),
@@ -97,7 +100,7 @@ impl Gateway {
     /// Carries out a command, and returns the TEID of what it is about.
     fn command(&mut self, call: impl FnOnce(*mut ffi::Gateway, *mut ffi::Told) -> u8) -> Result<u32, CommandError> {
         let mut told = ffi::Told::default();
-        match call(&mut self.raw, &mut told) {
+        match call(self.raw.get_mut(), &mut told) {
             ffi::DONE => Ok(told.teid),
             status => Err(CommandError::of(status, &told)),
         }
@@ -187,37 +190,39 @@ impl Gateway {
     }
 
     /// The session with this control plane TEID of the gateway's own.
-    pub fn session(&mut self, teid: u32) -> Option<Session> {
+    pub fn session(&self, teid: u32) -> Option<Session> {
         let mut row = ffi::SessionRow::default();
         // SAFETY: the gateway is one that the library made, and the pointer is to a struct.
-        let status = unsafe { ffi::gtp_gateway_session(&mut self.raw, teid, &mut row) };
+        let status = unsafe { ffi::gtp_gateway_session(self.raw.get(), teid, &mut row) };
         (status == ffi::DONE).then(|| row.into())
     }
 
     /// The bearer with this user plane TEID of the gateway's own.
-    pub fn bearer(&mut self, teid: u32) -> Option<Bearer> {
+    pub fn bearer(&self, teid: u32) -> Option<Bearer> {
         let mut row = ffi::BearerRow::default();
         // SAFETY: the gateway is one that the library made, and the pointer is to a struct.
-        let status = unsafe { ffi::gtp_gateway_bearer(&mut self.raw, teid, &mut row) };
+        let status = unsafe { ffi::gtp_gateway_bearer(self.raw.get(), teid, &mut row) };
         (status == ffi::DONE).then(|| row.into())
     }
 
-    /// The sessions, in the order of the gateway's own TEIDs.
-    pub fn sessions(&mut self) -> impl Iterator<Item = Session> + '_ {
+    /// The sessions, in the order of the gateway's own TEIDs. Each is looked for from the first on, so that all of them take time in
+    /// proportion to the square of how many there are.
+    pub fn sessions(&self) -> impl Iterator<Item = Session> + '_ {
         (0..).map_while(|place| {
             let mut row = ffi::SessionRow::default();
             // SAFETY: the gateway is one that the library made, and the pointer is to a struct.
-            let status = unsafe { ffi::gtp_gateway_session_at(&mut self.raw, place, &mut row) };
+            let status = unsafe { ffi::gtp_gateway_session_at(self.raw.get(), place, &mut row) };
             (status == ffi::DONE).then(|| row.into())
         })
     }
 
-    /// The bearers, in the order of the gateway's own TEIDs.
-    pub fn bearers(&mut self) -> impl Iterator<Item = Bearer> + '_ {
+    /// The bearers, in the order of the gateway's own TEIDs. Each is looked for from the first on, so that all of them take time in
+    /// proportion to the square of how many there are.
+    pub fn bearers(&self) -> impl Iterator<Item = Bearer> + '_ {
         (0..).map_while(|place| {
             let mut row = ffi::BearerRow::default();
             // SAFETY: the gateway is one that the library made, and the pointer is to a struct.
-            let status = unsafe { ffi::gtp_gateway_bearer_at(&mut self.raw, place, &mut row) };
+            let status = unsafe { ffi::gtp_gateway_bearer_at(self.raw.get(), place, &mut row) };
             (status == ffi::DONE).then(|| row.into())
         })
     }
@@ -226,6 +231,6 @@ impl Gateway {
 impl Drop for Gateway {
     fn drop(&mut self) {
         // SAFETY: the gateway is one that the library made, or zeroes.
-        unsafe { ffi::gtp_gateway_free(&mut self.raw) };
+        unsafe { ffi::gtp_gateway_free(self.raw.get_mut()) };
     }
 }

@@ -41,4 +41,4 @@ pub use report::{Outcome, Received, Ticked};
 pub use setup::{Addresses, Role, SessionRequest, Setup, Timers};
 pub use user::{Extension, Extensions, UserMessage};
 pub use value::{Ambr, Cause, FTeid, Paa, Quality, Value};
-pub use write::{write_element, write_message, write_packet, Header};
+pub use write::{version, write_element, write_message, write_packet, write_user, Header, UserHeader};

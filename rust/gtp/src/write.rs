@@ -2,6 +2,7 @@
 
 use crate::ffi;
 use crate::WriteError;
+use std::net::IpAddr;
 
 /// The header of a message of the control plane (TS 29.274 5.1).
 #[derive(Clone, Copy, Debug, Default, PartialEq, Eq)]
@@ -21,6 +22,14 @@ fn result_of(status: u8, size: u64) -> Result<usize, WriteError> {
         ffi::DONE => Ok(size as usize),
         _ => Err(WriteError::of(status, size)),
     }
+}
+
+/// The version of the library, as `"0.1.0"`: that of this crate where both are of one release.
+pub fn version() -> String {
+    let (mut buffer, mut size) = ([0; 32], 0);
+    // SAFETY: the pointers are to a slice of this length and to a place of its own.
+    unsafe { ffi::gtp_version(buffer.as_mut_ptr(), buffer.len(), &mut size) };
+    String::from_utf8_lossy(&buffer[..size as usize]).into_owned()
 }
 
 /// Writes an element at a place of the buffer, and returns how many octets it has.
@@ -69,5 +78,44 @@ pub fn write_packet(buffer: &mut [u8], teid: u32, packet: &[u8]) -> Result<usize
     let (to, room) = (buffer.as_mut_ptr(), buffer.len());
     // SAFETY: the pointers are to slices of these lengths and to a place of its own, and the buffer is borrowed alone.
     let status = unsafe { ffi::gtp_packet_write(to, room, teid, packet.as_ptr(), packet.len(), &mut size) };
+    result_of(status, size)
+}
+
+/// What a message of the user plane says beside what it carries (TS 29.281 5.1).
+#[derive(Clone, Copy, Debug, Default, PartialEq, Eq)]
+pub struct UserHeader {
+    /// The type of the message, as [`UserMessage::G_PDU`](crate::UserMessage::G_PDU).
+    pub kind: u8,
+    /// The receiver's TEID, or of an Error Indication the one that it is about.
+    pub teid: u32,
+    /// The sequence number, which an echo, an Error Indication and a notification always have.
+    pub sequence: Option<u16>,
+    /// The N-PDU number.
+    pub npdu: Option<u8>,
+    /// The address of an Error Indication.
+    pub peer: Option<IpAddr>,
+}
+
+/// Writes a message of the user plane without extension headers, and returns how many octets it has. `payload` is the packet of a
+/// G-PDU, the types of a notification, and what a message of a type carries that is not known here. Allocates as many octets.
+///
+/// # Errors
+/// `BadValue` for a message without a part that it always has, more than 255 types, or more than 65,543 octets; `TooSmall` says how
+/// many octets the message has; `NoMemory`. The buffer is as it was then.
+pub fn write_user(buffer: &mut [u8], header: &UserHeader, payload: &[u8]) -> Result<usize, WriteError> {
+    let head = ffi::UserHead {
+        kind: header.kind,
+        teid: header.teid,
+        has_seq: header.sequence.is_some().into(),
+        seq: header.sequence.unwrap_or(0),
+        has_npdu: header.npdu.is_some().into(),
+        npdu: header.npdu.unwrap_or(0),
+        peer: header.peer.map_or(ffi::Address::default(), ffi::Address::of),
+        ..ffi::UserHead::default()
+    };
+    let mut size = 0;
+    let (to, room) = (buffer.as_mut_ptr(), buffer.len());
+    // SAFETY: the pointers are to slices of these lengths and to places of their own, and the buffer is borrowed alone.
+    let status = unsafe { ffi::gtp_user_write(to, room, &head, payload.as_ptr(), payload.len(), &mut size) };
     result_of(status, size)
 }

@@ -235,3 +235,23 @@ fn what_is_written_is_read() {
     assert_eq!((message.kind(), message.teid(), message.payload()), (UserMessage::G_PDU, 0x01020304, &b"packet"[..]));
     assert_eq!(UserMessage::read(&room[..len - 1]).unwrap_err(), UserFault::Length { stated: 6, held: 5 });
 }
+
+#[test]
+fn library_and_crate_are_of_one_version() {
+    assert_eq!(version(), env!("CARGO_PKG_VERSION"));
+}
+
+#[test]
+fn messages_of_the_user_plane_are_written_and_read() {
+    let mut room = [0; 64];
+    let about = UserHeader { kind: UserMessage::ERROR_INDICATION, teid: 9, sequence: Some(0), npdu: None, peer: Some(PACKET) };
+    let len = write_user(&mut room, &about, &[]).unwrap();
+    let message = UserMessage::read(&room[..len]).unwrap();
+    assert_eq!((message.kind(), message.teid(), message.peer()), (UserMessage::ERROR_INDICATION, 9, Some(PACKET)));
+    assert_eq!(write_user(&mut room, &UserHeader { peer: None, ..about }, &[]), Err(WriteError::BadValue));
+    let types = UserHeader { kind: UserMessage::SUPPORTED_EXTENSIONS, sequence: Some(3), ..UserHeader::default() };
+    let len = write_user(&mut room, &types, &[0xc0, 0x85]).unwrap();
+    let message = UserMessage::read(&room[..len]).unwrap();
+    assert_eq!((message.sequence(), message.payload()), (Some(3), &[0xc0, 0x85][..]));
+    assert_eq!(write_user(&mut room[..4], &types, &[]), Err(WriteError::TooSmall(TooSmall { needed: 14 })));
+}
