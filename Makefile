@@ -43,7 +43,7 @@ install: $(program) $(library)
 	sed 's|@PREFIX@|$(PREFIX)|' share/gtp.pc > $(root)/lib/pkgconfig/gtp.pc
 	$(INSTALL) -d $(pages)/examples
 	$(INSTALL) -m 644 docs/PROTOCOL.md docs/FORMATS.md docs/JSON.md docs/C.md docs/PROVED.md docs/BELIEVE.md docs/CHANGELOG.md $(pages)
-	sed -i 's|](../include/|](../../../include/|; s|](../examples/|](examples/|; s|](../rust/gtp)|](../../gtp/rust)|' $(pages)/C.md
+	sed -i 's|](../include/|](../../../include/|g; s|](../examples/|](examples/|g; s|](../rust/gtp)|](../../gtp/rust)|g' $(pages)/C.md
 	cp -R examples/scenarios examples/captures examples/datagrams examples/c examples/rust $(pages)/examples
 	rm -rf $(pages)/examples/rust/target
 	sed -i 's|"../../rust/gtp"|"../../../../gtp/rust"|' $(pages)/examples/rust/Cargo.toml

@@ -182,7 +182,8 @@ struct gtp_setup {
                                            no pool goes past the last address */
     uint8_t counter;                    /* the restart counter, one more at each start (TS 23.007 18) */
 };
-/* Opens a gateway in `gateway`, which is empty. access_points: names with commas between them, as "internet,ims", at most 16. */
+/* Opens a gateway in `gateway`, which is empty. access_points: names with commas between them, as "internet,ims", at most 16.
+ * A setup is looked at before memory is taken: one that is bad is always GTP_BAD_VALUE. */
 uint8_t gtp_gateway_new(gtp_gateway *gateway, const struct gtp_setup *setup, const uint8_t *access_points, size_t len);
 /* Closes it, with its sessions and all that waits, without a word to the peer. It is empty then, and may be opened again. */
 uint8_t gtp_gateway_free(gtp_gateway *gateway);
