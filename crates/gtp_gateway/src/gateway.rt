@@ -1,6 +1,6 @@
 //! One gateway: datagrams, commands and ticks go in; datagrams, packets and a report come out.
 
-ghost use Rattle.std.specs.Prelude.{◌≡◌, ◌≤◌, None, length, IsOk, IsSome, IfOk, IfErr, OnOk, OnErr};
+ghost use Rattle.std.specs.Prelude.{◌≡◌, ◌≤◌, None, length, option_map, slice_get, IsOk, IsSome, IfOk, IfErr, OnOk, OnErr};
 ghost use Rattle.std.specs.FinMap as map;
 ghost use Rattle.gtp_machine.specs.Input.{Create_session, Delete_session, Create_bearer, Delete_bearer, Release_session};
 ghost use Rattle.gtp_machine.specs.Input.{Mark_end, Send_echo, Send_user};
@@ -109,6 +109,24 @@ impl Gateway {
         ensures { result ≡ map.entries self.now.node.bearers }
     {
         BearerList::of(&self.parts.bearers)
+    }
+
+    /// The session at a place in order of the gateway's own TEIDs, from 0; none behind the last. Takes the same time at
+    /// each place. Allocates nothing.
+    pub fn session_at(&self, place: usize) -> Option<(Teid, Session)>
+        ensures { option_map (λ e. (e.0.0, e.1)) result
+            ≡ slice_get (map.entries self.now.node.sessions) place }
+    {
+        self.parts.sessions.at(place)
+    }
+
+    /// The bearer at a place in order of the gateway's own TEIDs, from 0; none behind the last. Takes the same time at
+    /// each place. Allocates nothing.
+    pub fn bearer_at(&self, place: usize) -> Option<(Teid, Bearer)>
+        ensures { option_map (λ e. (e.0.0, e.1)) result
+            ≡ slice_get (map.entries self.now.node.bearers) place }
+    {
+        self.parts.bearers.at(place)
     }
 
     /// Sends an Echo Request (TS 29.274 7.1.1).
