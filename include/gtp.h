@@ -124,7 +124,10 @@ struct gtp_quality {                                        /* 8.15 */
     uint8_t qci;
 };
 struct gtp_network { uint8_t digits[6]; };                  /* 001 01 is 0, 0, 1, 0, 1, 15 */
-struct gtp_fteid { uint32_t teid; uint8_t interface, has_v4, has_v6, v4[4], v6[16]; };
+struct gtp_fteid {                                          /* interface: its type, below 64 */
+    uint32_t teid;
+    uint8_t interface, has_v4, has_v6, v4[4], v6[16];
+};
 uint8_t gtp_imsi_read(const uint8_t *body, size_t len, struct gtp_imsi *value);             /* type 1 */
 uint8_t gtp_cause_read(const uint8_t *body, size_t len, struct gtp_cause *value);           /* 2 */
 uint8_t gtp_recovery_read(const uint8_t *body, size_t len, uint32_t *number);               /* 3 */
@@ -149,6 +152,26 @@ uint8_t gtp_version(uint8_t *buffer, size_t room, uint64_t *size);
 /* An element, at `place` of the buffer: *size octets. GTP_BAD_VALUE: instance > 15, body_len > 65,535 or place > room. */
 uint8_t gtp_element_write(uint8_t *buffer, size_t room, uint64_t place, uint8_t kind, uint8_t instance,
                           const uint8_t *body, size_t body_len, uint64_t *size);
+/* The body of an element that says a value (TS 29.274 clause 8), at the front of the buffer: *size octets, for gtp_element_write. What
+ * a gtp_.._read filled is written as the body that says the same, with spare bits 0. Each takes memory for as many octets, at most 100,
+ * and gives it back: GTP_NO_MEMORY. GTP_BAD_VALUE: a value is out of its range; here a has_.. and a flag of a cause are set where they
+ * are not 0, and what does not belong to the value counts for nothing. */
+uint8_t gtp_imsi_write(uint8_t *buffer, size_t room, const struct gtp_imsi *value, uint64_t *size);
+uint8_t gtp_cause_write(uint8_t *buffer, size_t room, const struct gtp_cause *value, uint64_t *size);    /* instance: below 16 */
+uint8_t gtp_recovery_write(uint8_t *buffer, size_t room, uint32_t number, uint64_t *size);              /* number: below 256 */
+uint8_t gtp_apn_write(uint8_t *buffer, size_t room, const struct gtp_apn *value, uint64_t *size);
+uint8_t gtp_ambr_write(uint8_t *buffer, size_t room, const struct gtp_ambr *value, uint64_t *size);
+uint8_t gtp_ebi_write(uint8_t *buffer, size_t room, uint32_t number, uint64_t *size);                   /* below 16 */
+uint8_t gtp_paa_write(uint8_t *buffer, size_t room, const struct gtp_paa *value, uint64_t *size);        /* pdn: below 8 */
+uint8_t gtp_qos_write(uint8_t *buffer, size_t room, const struct gtp_quality *value, uint64_t *size);
+uint8_t gtp_rat_write(uint8_t *buffer, size_t room, uint32_t number, uint64_t *size);                   /* below 256 */
+uint8_t gtp_network_write(uint8_t *buffer, size_t room, const struct gtp_network *value, uint64_t *size);
+uint8_t gtp_fteid_write(uint8_t *buffer, size_t room, const struct gtp_fteid *value, uint64_t *size);    /* an address at least */
+uint8_t gtp_charging_id_write(uint8_t *buffer, size_t room, uint32_t number, uint64_t *size);
+uint8_t gtp_pdn_type_write(uint8_t *buffer, size_t room, uint32_t number, uint64_t *size);              /* below 8 */
+uint8_t gtp_pti_write(uint8_t *buffer, size_t room, uint32_t number, uint64_t *size);                   /* below 256 */
+uint8_t gtp_selection_write(uint8_t *buffer, size_t room, uint32_t number, uint64_t *size);             /* below 4 */
+
 /* A message of the control plane that carries `list`, which may be elements; of `head` the type, TEID, seq and priority count.
  * It is written as it is asked for: gtp_control_read says whether it is one. GTP_BAD_VALUE: seq >= 2^24, priority > 15, a
  * priority without a TEID, or list_len > 65,527. */
@@ -171,6 +194,11 @@ uint8_t gtp_user_write(uint8_t *buffer, size_t room, const struct gtp_user_head 
 /* Opaque. Begin with all zeroes: gtp_gateway gateway = {0}; */
 typedef struct gtp_gateway { void *hidden; uint64_t count; } gtp_gateway;
 
+struct gtp_template {                   /* the dedicated bearer that a packet gateway asks for with each session of an access point */
+    struct gtp_quality quality;
+    uint8_t access_point;               /* its place among the names, from 0 */
+    uint8_t tft_len, tft[255];          /* its traffic flow template: how many octets, and they */
+};
 struct gtp_setup {
     struct gtp_address own_control, own_user, peer_control, peer_user;
     uint8_t pool6[16];                  /* the first IPv6 address for sessions: each has a prefix of 64 bits of its own */
@@ -178,9 +206,13 @@ struct gtp_setup {
     uint32_t pool, pool_count;          /* IPv4 addresses for sessions: 10.1.0.1 is 0x0a010001; at most 65,536 */
     uint32_t t3, n3, hold;              /* TS 29.274 7.6: ticks until a request goes out again, 1 to 1,000; how often, 0 to 100;
                                            ticks for which an answer is held, 1 to 100,000 */
-    uint8_t role;                       /* enum gtp_role; a serving gateway uses no pool and no access points, but they have to be good:
-                                           no pool goes past the last address */
+    uint8_t role;                       /* enum gtp_role; a serving gateway uses no pool, access points or templates, but they have to be
+                                           good: no pool goes past the last address, each template is of an access point */
     uint8_t counter;                    /* the restart counter, one more at each start (TS 23.007 18) */
+    uint8_t template_count;             /* at most 16; 0: none */
+    struct gtp_template templates[16];  /* so many of them count: of several for one access point the last. With each session of an
+                                           access point that has one the packet gateway asks for such a bearer, in a second message of
+                                           the datagram that answers for the session (TS 29.274 5.5.1) */
 };
 /* Opens a gateway in `gateway`, which is empty. access_points: names with commas between them, as "internet,ims", at most 16.
  * A setup is looked at before memory is taken: one that is bad is always GTP_BAD_VALUE. */
@@ -266,7 +298,7 @@ struct gtp_bearer_row {
 /* By the gateway's own TEID. */
 uint8_t gtp_gateway_session(gtp_gateway *gateway, uint32_t teid, struct gtp_session_row *row);
 uint8_t gtp_gateway_bearer(gtp_gateway *gateway, uint32_t teid, struct gtp_bearer_row *row);
-/* By place, from 0, in the order of the gateway's own TEIDs, in time in proportion to the place. GTP_NONE: behind the last. */
+/* By place, from 0, in the order of the gateway's own TEIDs. Each place takes the same time. GTP_NONE: behind the last. */
 uint8_t gtp_gateway_session_at(gtp_gateway *gateway, uint64_t place, struct gtp_session_row *row);
 uint8_t gtp_gateway_bearer_at(gtp_gateway *gateway, uint64_t place, struct gtp_bearer_row *row);
 

@@ -96,6 +96,11 @@ int main(void) {
     SIZE(gtp_gateway);
     PLACE(gtp_gateway, hidden);
     PLACE(gtp_gateway, count);
+    SIZE(gtp_template);
+    PLACE(gtp_template, quality);
+    PLACE(gtp_template, access_point);
+    PLACE(gtp_template, tft_len);
+    PLACE(gtp_template, tft);
     SIZE(gtp_setup);
     PLACE(gtp_setup, own_control);
     PLACE(gtp_setup, own_user);
@@ -110,6 +115,8 @@ int main(void) {
     PLACE(gtp_setup, hold);
     PLACE(gtp_setup, role);
     PLACE(gtp_setup, counter);
+    PLACE(gtp_setup, template_count);
+    PLACE(gtp_setup, templates);
     SIZE(gtp_outcome);
     PLACE(gtp_outcome, kind);
     PLACE(gtp_outcome, cause);

@@ -1,5 +1,6 @@
-/* Two gateways in one process, with addresses of both IP versions: sessions and bearers open, packets go both ways, bearers and
- * sessions end, ticks pass, buffers are too small, and handles are empty, filled, emptied and filled again. */
+/* Two gateways in one process, with addresses of both IP versions: sessions and bearers open, also by a template, packets go both
+ * ways, bearers and sessions end, ticks pass, buffers are too small, and handles are empty, filled, emptied and filled again. What
+ * is no message and no value of an element is not written. */
 #include "check.h"
 
 /* Each datagram that waits at `from` goes to `to`, in a block of its own length; every smaller room is too small. */
@@ -111,6 +112,53 @@ static void exchange(bool six) {
     CHECK(gtp_gateway_free(&serving) == GTP_DONE && gtp_gateway_free(&packet) == GTP_DONE);
 }
 
+/* The datagram that waits at `from`, and only it, goes to `to`: its message has the first type, and the second message the other. */
+static void hand_pair(gtp_gateway *from, gtp_gateway *to, uint8_t first, uint8_t second, struct gtp_told *told) {
+    uint8_t octets[2048] = {0}, none[1] = {0};
+    struct gtp_datagram d; struct gtp_head head; struct gtp_fault fault;
+    memset(&d, 0, sizeof d); memset(&head, 0, sizeof head); memset(&fault, 0, sizeof fault);
+    CHECK(gtp_gateway_take(from, octets, sizeof octets, &d) == GTP_DONE && d.plane == GTP_CONTROL);
+    CHECK(gtp_gateway_take(from, none, 0, &d) == GTP_NONE);
+    CHECK(gtp_control_read(octets, d.len, &head, &fault) == GTP_DONE && head.kind == first && head.second_len);
+    uint64_t len = head.second_len;
+    CHECK(gtp_control_read(octets + d.len - len, len, &head, &fault) == GTP_DONE && head.kind == second && !head.second_len);
+    CHECK(gtp_gateway_receive(to, &d.from, d.plane, octets, d.len, told) == GTP_DONE);
+}
+
+static struct gtp_template template_of(uint8_t access_point, uint8_t qci, const char *tft, uint8_t len) {
+    struct gtp_template t;
+    memset(&t, 0, sizeof t);
+    t.access_point = access_point;
+    t.quality.pl = 2; t.quality.qci = qci;
+    t.tft_len = len; memcpy(t.tft, tft, len);
+    return t;
+}
+
+/* A packet gateway with templates: a session of their access point is answered with a second message in the same datagram, and the
+ * bearer stands at both gateways then. A session of another access point has its default bearer alone. */
+static void templates(void) {
+    gtp_gateway serving = {0}, packet = {0};
+    struct gtp_setup s = setup_of(GTP_SERVING, false), p = setup_of(GTP_PACKET, false);
+    struct gtp_told told; struct gtp_bearer_row here, there;
+    memset(&told, 0, sizeof told); memset(&here, 0, sizeof here); memset(&there, 0, sizeof there);
+    p.template_count = 2;
+    p.templates[0] = template_of(1, 1, "\x21\x10\x00", 3);
+    p.templates[1] = template_of(1, 2, "\x21\x10\x01", 3);
+    CHECK(gtp_gateway_new(&serving, &s, text(""), 0) == GTP_DONE && gtp_gateway_new(&packet, &p, text("ims,internet"), 12) == GTP_DONE);
+    CHECK(create(&serving, "001010123456789", 1, &told) == GTP_DONE && carry(&serving, &packet, &told) == 1);
+    CHECK(told.outcome.kind == GTP_ANSWERED && told.outcome.cause == 16 && told.waiting == 1 && bearers(&packet, &there) == 2);
+    hand_pair(&packet, &serving, GTP_CREATE_SESSION_RESPONSE, GTP_CREATE_BEARER_REQUEST, &told);
+    CHECK(told.outcome.kind == GTP_OPENED && told.second.kind == GTP_ANSWERED && told.second.cause == 16 && told.made);
+    CHECK(carry(&serving, &packet, &told) == 1 && told.outcome.kind == GTP_OPENED);
+    CHECK(bearers(&serving, &here) == 2 && bearers(&packet, &there) == 2 && here.state == 1 && there.state == 1);
+    CHECK(here.dedicated && there.dedicated && here.remote == there.teid && there.remote == here.teid && here.identity == there.identity);
+    struct gtp_session wanted = wish(1);
+    CHECK(gtp_gateway_create_session(&serving, &wanted, text("001010123456780"), 15, text("ims"), 3, &told) == GTP_DONE);
+    CHECK(carry(&serving, &packet, &told) == 1 && carry(&packet, &serving, &told) == 1 && told.outcome.kind == GTP_OPENED);
+    CHECK(told.second.kind == 0 && told.waiting == 0 && bearers(&serving, &here) == 3);
+    CHECK(gtp_gateway_free(&serving) == GTP_DONE && gtp_gateway_free(&packet) == GTP_DONE);
+}
+
 /* Every call on a handle that is empty says so and changes nothing. */
 static void empty(gtp_gateway *g) {
     struct gtp_told told; struct gtp_datagram d; struct gtp_session_row sr; struct gtp_bearer_row br;
@@ -141,6 +189,11 @@ static void handles(void) {
     bad = s; bad.pool_count = 65537; CHECK(gtp_gateway_new(&g, &bad, text("internet"), 8) == GTP_BAD_VALUE);
     bad = s; bad.pool6_count = 65537; CHECK(gtp_gateway_new(&g, &bad, text("internet"), 8) == GTP_BAD_VALUE);
     CHECK(gtp_gateway_new(&g, &s, text("inter..net"), 10) == GTP_BAD_VALUE);
+    bad = s; bad.template_count = 17; CHECK(gtp_gateway_new(&g, &bad, text("internet"), 8) == GTP_BAD_VALUE);
+    bad = s; bad.template_count = 1; CHECK(gtp_gateway_new(&g, &bad, text(""), 0) == GTP_BAD_VALUE);
+    bad.templates[0].access_point = 1; CHECK(gtp_gateway_new(&g, &bad, text("internet"), 8) == GTP_BAD_VALUE);
+    bad.templates[0].access_point = 0; bad.templates[0].quality.pl = 16;
+    CHECK(gtp_gateway_new(&g, &bad, text("internet"), 8) == GTP_BAD_VALUE);
     CHECK(gtp_gateway_new(&g, &s, text("a\xff"), 2) == GTP_BAD_VALUE);
     empty(&g);
     CHECK(gtp_gateway_new(&g, &s, text("internet"), 8) == GTP_DONE && gtp_gateway_new(&g, &s, text("internet"), 8) == GTP_NOT_EMPTY);
@@ -210,10 +263,46 @@ static void not_written(void) {
     CHECK(gtp_version(room, 2, &size) == GTP_TOO_SMALL);
 }
 
+/* Bodies of elements that there are not, and the worked ones of TS 29.274 clause 8: what is written for their values. */
+static void bodies(void) {
+    uint8_t room[100] = {0};
+    uint64_t size = 7;
+    struct gtp_imsi imsi = { 15, { 0, 0, 1, 0, 1, 0, 1, 2, 3, 4, 5, 6, 7, 8, 9 } };
+    struct gtp_apn apn = { 9, "\x08internet" };
+    struct gtp_network network = { { 0, 0, 1, 0, 1, 15 } };
+    struct gtp_paa paa = { 2, 64, { 0 }, { 0x20, 0x01 } };
+    struct gtp_cause cause; struct gtp_fteid end; struct gtp_quality quality = wish(1).quality;
+    memset(&cause, 0, sizeof cause); memset(&end, 0, sizeof end);
+    CHECK(gtp_imsi_write(room, sizeof room, &imsi, &size) == GTP_DONE && size == 8);
+    CHECK(!memcmp(room, "\x00\x01\x01\x21\x43\x65\x87\xf9", 8));
+    CHECK(gtp_network_write(room, sizeof room, &network, &size) == GTP_DONE && size == 3 && !memcmp(room, "\x00\xf1\x10", 3));
+    CHECK(gtp_apn_write(room, sizeof room, &apn, &size) == GTP_DONE && size == 9 && !memcmp(room, "\x08internet", 9));
+    CHECK(gtp_paa_write(room, sizeof room, &paa, &size) == GTP_DONE && size == 18 && !memcmp(room, "\x02\x40\x20\x01", 4));
+    CHECK(gtp_charging_id_write(room, sizeof room, 0x01020304, &size) == GTP_DONE && size == 4 && !memcmp(room, "\1\2\3\4", 4));
+    size = 7;
+    imsi.count = 16; CHECK(gtp_imsi_write(room, sizeof room, &imsi, &size) == GTP_BAD_VALUE);
+    imsi.count = 5; CHECK(gtp_imsi_write(room, sizeof room, &imsi, &size) == GTP_BAD_VALUE);
+    imsi.count = 6; imsi.digits[5] = 10; CHECK(gtp_imsi_write(room, sizeof room, &imsi, &size) == GTP_BAD_VALUE);
+    apn.len = 101; CHECK(gtp_apn_write(room, sizeof room, &apn, &size) == GTP_BAD_VALUE);
+    apn.len = 8; CHECK(gtp_apn_write(room, sizeof room, &apn, &size) == GTP_BAD_VALUE);
+    network.digits[0] = 10; CHECK(gtp_network_write(room, sizeof room, &network, &size) == GTP_BAD_VALUE);
+    paa.pdn = 8; CHECK(gtp_paa_write(room, sizeof room, &paa, &size) == GTP_BAD_VALUE);
+    CHECK(gtp_fteid_write(room, sizeof room, &end, &size) == GTP_BAD_VALUE);
+    end.has_v4 = 1; end.interface = 64; CHECK(gtp_fteid_write(room, sizeof room, &end, &size) == GTP_BAD_VALUE);
+    quality.pl = 16; CHECK(gtp_qos_write(room, sizeof room, &quality, &size) == GTP_BAD_VALUE);
+    cause.instance = 16; cause.has_offending = 1; CHECK(gtp_cause_write(room, sizeof room, &cause, &size) == GTP_BAD_VALUE);
+    CHECK(gtp_recovery_write(room, sizeof room, 256, &size) == GTP_BAD_VALUE && gtp_ebi_write(room, sizeof room, 16, &size) == GTP_BAD_VALUE);
+    CHECK(gtp_rat_write(room, sizeof room, 256, &size) == GTP_BAD_VALUE && gtp_pti_write(room, sizeof room, 256, &size) == GTP_BAD_VALUE);
+    CHECK(gtp_pdn_type_write(room, sizeof room, 8, &size) == GTP_BAD_VALUE);
+    CHECK(gtp_selection_write(room, sizeof room, 4, &size) == GTP_BAD_VALUE && size == 7 && !memcmp(room, "\1\2\3\4", 4));
+}
+
 int main(void) {
     not_written();
     exchange(false);
     exchange(true);
+    templates();
+    bodies();
     handles();
     refusals();
     return 0;

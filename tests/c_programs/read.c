@@ -1,5 +1,6 @@
 /* Reads the datagrams of its input, a line each, 'control HEX' or 'user HEX', with each of their cuts in a block of its own
- * length, and writes those of the control plane and the G-PDUs again, to a room of every size from 0 up. */
+ * length, and writes those of the control plane and the G-PDUs again, and what the bodies of elements say, to a room of every size
+ * from 0 up. Of each form a body of these datagrams is written again octet for octet. */
 #include "reading.h"
 
 int main(void) {
@@ -20,6 +21,9 @@ int main(void) {
         free(octets);
         count++;
     }
+    static const uint8_t OTHERS[] = { 1, 2, 71, 72, 79, 80, 83, 87 };
+    for (size_t i = 0; i < sizeof OTHERS; i++) CHECK(same_bodies[OTHERS[i]]);
+    for (size_t i = 0; i < sizeof NUMBER_TYPES; i++) CHECK(same_bodies[NUMBER_TYPES[i]]);
     printf("%u\n", count);
     return 0;
 }

@@ -15,6 +15,61 @@ static uint8_t *block(const uint8_t *octets, size_t len) {
 
 static bool is_value_status(uint8_t s) { return s == GTP_DONE || s == GTP_SHORT_VALUE || s == GTP_NO_VALUE; }
 
+/* A room of every size below the text's is left as it is; then the text is written. */
+#define EVERY_ROOM(len, call) do { \
+    uint64_t size = 0; \
+    for (uint64_t room = 0; room <= (len); room++) { \
+        uint8_t *buffer = malloc(room ? room : 1); \
+        memset(buffer, 0xa5, room ? room : 1); \
+        uint8_t status = (call); \
+        CHECK(status == (room < (len) ? GTP_TOO_SMALL : GTP_DONE) && size == (len)); \
+        for (uint64_t i = 0; room < (len) && i < room; i++) CHECK(buffer[i] == 0xa5); \
+        if (room == (len)) memcpy(written, buffer, room); \
+        free(buffer); \
+    } } while (0)
+
+typedef uint8_t write_number(uint8_t *, size_t, uint32_t, uint64_t *);
+static write_number *const NUMBER_WRITES[] = { gtp_recovery_write, gtp_ebi_write, gtp_rat_write, gtp_charging_id_write,
+    gtp_pdn_type_write, gtp_pti_write, gtp_selection_write };
+static const uint8_t NUMBER_TYPES[] = { 3, 73, 82, 94, 99, 100, 128 };
+
+/* Of each type of element, how many bodies were written again octet for octet. */
+static unsigned same_bodies[256];
+
+/* A value that was read is written to rooms of every size, and read again as the same. */
+#define WRITE_AGAIN(kind, value, write, read, passed) do { \
+    uint8_t none[1] = {0}, written[100] = {0}; \
+    uint64_t needed = 0; \
+    CHECK(write(none, 0, passed, &needed) == GTP_TOO_SMALL && needed >= 1 && needed <= len); \
+    EVERY_ROOM(needed, write(buffer, room, passed, &size)); \
+    uint8_t before[sizeof value]; \
+    memcpy(before, &value, sizeof value); \
+    CHECK(read(written, needed, &value) == GTP_DONE && !memcmp(before, &value, sizeof value)); \
+    same_bodies[kind] += needed == len && !memcmp(written, body, len); \
+} while (0)
+
+#define AGAIN(kind, type, name) do { \
+    struct type value; \
+    memset(&value, 0, sizeof value); \
+    if (name##_read(body, len, &value) == GTP_DONE) WRITE_AGAIN(kind, value, name##_write, name##_read, &value); \
+} while (0)
+
+/* What a body says in each form, written again. */
+static void write_values(const uint8_t *body, size_t len) {
+    AGAIN(1, gtp_imsi, gtp_imsi);
+    AGAIN(2, gtp_cause, gtp_cause);
+    AGAIN(71, gtp_apn, gtp_apn);
+    AGAIN(72, gtp_ambr, gtp_ambr);
+    AGAIN(79, gtp_paa, gtp_paa);
+    AGAIN(80, gtp_quality, gtp_qos);
+    AGAIN(83, gtp_network, gtp_network);
+    AGAIN(87, gtp_fteid, gtp_fteid);
+    for (size_t i = 0; i < sizeof NUMBERS / sizeof *NUMBERS; i++) {
+        uint32_t value = 0;
+        if (NUMBERS[i](body, len, &value) == GTP_DONE) WRITE_AGAIN(NUMBER_TYPES[i], value, NUMBER_WRITES[i], NUMBERS[i], value);
+    }
+}
+
 /* Every form on every body, and on each of its cuts. */
 static void read_values(const uint8_t *body, size_t len) {
     struct gtp_imsi imsi; struct gtp_cause cause; struct gtp_apn apn; struct gtp_ambr ambr; struct gtp_paa paa;
@@ -45,7 +100,7 @@ static void read_elements(const uint8_t *octets, size_t end, uint64_t place, uin
         CHECK(e.at == place && e.body_at == place + 4 && e.body_at + e.len <= end);
         uint8_t found = gtp_element_first(octets, end, from, e.kind, e.instance, &first);
         CHECK(found == GTP_FAULTY || (found == GTP_DONE && first.at <= e.at && first.kind == e.kind));
-        if (e.len <= 64) read_values(octets + e.body_at, e.len);
+        if (e.len <= 64) { read_values(octets + e.body_at, e.len); write_values(octets + e.body_at, e.len); }
         if (list) {
             CHECK(gtp_element_write(list, room, at, e.kind, 16, octets + e.body_at, e.len, &size) == GTP_BAD_VALUE);
             CHECK(gtp_element_write(list, at + 3 + e.len, at, e.kind, e.instance, octets + e.body_at, e.len, &size) == GTP_TOO_SMALL);
@@ -57,19 +112,6 @@ static void read_elements(const uint8_t *octets, size_t end, uint64_t place, uin
     }
     CHECK(status == (place == end ? GTP_NONE : GTP_FAULTY) && gtp_element_next(octets, end, end + 1, &e) == GTP_BAD_VALUE);
 }
-
-/* A room of every size below the text's is left as it is; then the text is written. */
-#define EVERY_ROOM(len, call) do { \
-    uint64_t size = 0; \
-    for (uint64_t room = 0; room <= (len); room++) { \
-        uint8_t *buffer = malloc(room ? room : 1); \
-        memset(buffer, 0xa5, room ? room : 1); \
-        uint8_t status = (call); \
-        CHECK(status == (room < (len) ? GTP_TOO_SMALL : GTP_DONE) && size == (len)); \
-        for (uint64_t i = 0; room < (len) && i < room; i++) CHECK(buffer[i] == 0xa5); \
-        if (room == (len)) memcpy(written, buffer, room); \
-        free(buffer); \
-    } } while (0)
 
 static void read_control(const uint8_t *octets, size_t len, bool again) {
     struct gtp_head head, back; struct gtp_fault fault;

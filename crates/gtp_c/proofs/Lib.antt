@@ -1,7 +1,7 @@
 pub mod Accepting
 pub mod Carried
 pub mod Carrying
-pub mod Dropping
 pub mod Naming
+pub mod Points
 pub mod Texts
 pub mod Shapes

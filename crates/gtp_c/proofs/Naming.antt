@@ -69,16 +69,27 @@ module _ (octets : List ℕ) (is_some : length octets ≡ 0 → ⊥) (rest word 
   pub no_name : ¬ IsApnText word → ¬ AreFewNames octets
   no_name bad few = not_good octets read.words rest word after is_some read.all is_cut bad few.0
 
-  -- the last word is a name
+  -- the last word
+  same_words : after ≡ None → read.words ++ word ∷ [] ≡ names_in octets
+  same_words last =
+      ap (λ (ws : List (List ℕ)). read.words ++ ws) (sym (subst (IsCut rest word) last is_cut)) ∙ (read.all ∙ sym (some octets is_some))
+
+  -- it is a name
   pub all_read : after ≡ None → IsApnText word → AreFewNames octets
   all_read last name =
-      let same : read.words ++ word ∷ [] ≡ names_in octets =
-      ap (λ (ws : List (List ℕ)). read.words ++ ws) (sym (subst (IsCut rest word) last is_cut)) ∙ (read.all ∙ sym (some octets is_some)) in
+      let same = same_words last in
       let size = length-append read.words (word ∷ []) in
       let counted = read.counted in let few = read.few in (
         subst (AllByRecursion IsApnText) same (and_last read.words word read.names name),
         subst (λ (ws : List (List ℕ)). length ws ≤ 16) same (omega (arith, size, counted, few)),
       )
+
+  pub all_counted : after ≡ None → count ≡ length (names_in octets)
+  all_counted last =
+      let size = length-append read.words (word ∷ []) in
+      let whole = ap (λ (ws : List (List ℕ)). length ws) (same_words last) in
+      let counted = read.counted in
+      omega (arith, size, whole, counted)
 
   -- more words follow
   follows : (next : Bor (List ℕ)) → after ≡ Some next → words_of rest ≡ word ∷ words_of next.now

@@ -1,5 +1,5 @@
 -- What C is told of sessions and bearers.
-use Rattle.std.specs.Prelude.{◌≡◌, ◌≢◌, ◌↔◌, ℕ, List, [], ◌∷◌, drop, Option, Some, None, unwrap_or, is_some, IsSomeAnd}
+use Rattle.std.specs.Prelude.{◌≡◌, ◌≢◌, ◌↔◌, ℕ, List, [], ◌∷◌, slice_get, Option, Some, None, unwrap_or, is_some, IsSomeAnd}
 use Rattle.std.specs.FinMap as map
 use Rattle.gtp_tables.specs.declared.context.Bearer.{Bearer}
 use Rattle.gtp_tables.specs.declared.context.Kind.{Kind}
@@ -8,7 +8,6 @@ use Rattle.gtp_tables.specs.declared.context.Session.{Session}
 use Rattle.gtp_tables.specs.declared.context.State.{State}
 use Rattle.gtp_tables.specs.declared.context.State.TheVariants.{Pending, Active, Closing}
 use Rattle.gtp_values.specs.PdnAddress.{PdnAddress}
-use Rattle.gtp_values.specs.declared.identifiers.Teid.{Teid}
 use Rattle.gtp_c.specs.Common.{flag, IsOneOf}
 use Rattle.gtp_c.specs.Values.{AddressIs, IdentityIs, NameIs}
 use Rattle.gtp_c.specs.declared.desk.Desk.{Desk}
@@ -80,25 +79,18 @@ NoSession teid v = IsSomeAnd v (λ d. map.get d.gateway.node.sessions teid ≡ N
 abbrev pub NoBearer : ℕ → Option Desk → Type 0
 NoBearer teid v = IsSomeAnd v (λ d. map.get d.gateway.node.bearers teid ≡ None)
 
--- the first of these entries, or none is left
-abbrev pub EntryIs : Option (Teid × Session) → List (ℕ × Session) → Type 0
-EntryIs None left = left ≡ []
-EntryIs (Some e) left = (more : List (ℕ × Session)) × (left ≡ (e.0.0, e.1) ∷ more)
-
-abbrev pub BearerEntryIs : Option (Teid × Bearer) → List (ℕ × Bearer) → Type 0
-BearerEntryIs None left = left ≡ []
-BearerEntryIs (Some e) left = (more : List (ℕ × Bearer)) × (left ≡ (e.0.0, e.1) ∷ more)
-
 -- the session at a place, in the order of TEIDs, is what the row says
 pub record IsSessionAt (place : ℕ) (row : SessionRow) (d : Desk) : Type 0 where
-  pub entry : Teid × Session
-  pub found : EntryIs (Some entry) (drop place (map.entries d.gateway.node.sessions))
-  pub is : IsSession entry.0.0 entry.1 row
+  pub teid : ℕ
+  pub session : Session
+  pub found : slice_get (map.entries d.gateway.node.sessions) place ≡ Some (teid, session)
+  pub is : IsSession teid session row
 
 pub record IsBearerAt (place : ℕ) (row : BearerRow) (d : Desk) : Type 0 where
-  pub entry : Teid × Bearer
-  pub found : BearerEntryIs (Some entry) (drop place (map.entries d.gateway.node.bearers))
-  pub is : IsBearer entry.0.0 entry.1 row
+  pub teid : ℕ
+  pub bearer : Bearer
+  pub found : slice_get (map.entries d.gateway.node.bearers) place ≡ Some (teid, bearer)
+  pub is : IsBearer teid bearer row
 
 abbrev pub SessionAt : ℕ → SessionRow → Option Desk → Type 0
 SessionAt place row v = IsSomeAnd v (IsSessionAt place row)
@@ -108,10 +100,10 @@ BearerAt place row v = IsSomeAnd v (IsBearerAt place row)
 
 -- no session has this place
 abbrev pub SessionsEnd : ℕ → Option Desk → Type 0
-SessionsEnd place v = IsSomeAnd v (λ d. drop place (map.entries d.gateway.node.sessions) ≡ [])
+SessionsEnd place v = IsSomeAnd v (λ d. slice_get (map.entries d.gateway.node.sessions) place ≡ None)
 
 abbrev pub BearersEnd : ℕ → Option Desk → Type 0
-BearersEnd place v = IsSomeAnd v (λ d. drop place (map.entries d.gateway.node.bearers) ≡ [])
+BearersEnd place v = IsSomeAnd v (λ d. slice_get (map.entries d.gateway.node.bearers) place ≡ None)
 
 -- A look-up by the gateway behind a handle, which changes nothing: 0 where what there is is told, 4 where there is none, and 7 exactly where there is no gateway;
 -- and no other status. After any but 0 C's row is as it was.

@@ -1,4 +1,5 @@
 pub mod Behind
+pub mod Bodies
 pub mod Commands
 pub mod Common
 pub mod Contexts
@@ -12,6 +13,7 @@ pub mod Sessions
 pub mod Setups
 pub mod Statuses
 pub mod Steps
+pub mod Templates
 pub mod Told
 pub mod UserWriting
 pub mod Values

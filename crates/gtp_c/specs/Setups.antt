@@ -1,5 +1,5 @@
 -- Which gateway C's setup is.
-use Rattle.std.specs.Prelude.{◌≡◌, ℕ, ◌≤◌, List, [], ◌∷◌, Some, IsSome}
+use Rattle.std.specs.Prelude.{◌≡◌, ℕ, ◌≤◌, List, [], ◌∷◌, Some, IsSome, length, take}
 use Rattle.gtp_machine.specs.declared.role.Role.{Role}
 use Rattle.gtp_machine.specs.declared.role.Role.TheVariants.{Serving, Packet}
 use Rattle.gtp_gateway.specs.Settings.{Settings, AreSettings, settings_of}
@@ -10,9 +10,11 @@ use Rattle.gtp_tables.specs.Pool.{IsPool, ArePrefixes}
 use Rattle.gtp_tables.specs.declared.pool.Pools.{Pools}
 use Rattle.gtp_c.specs.Ends.{ip_at}
 use Rattle.gtp_c.specs.Names.{AreNames, AreGoodNames, names_in}
+use Rattle.gtp_c.specs.Templates.{AreGoodTemplates, with_each}
 use Rattle.gtp_c.specs.declared.desk.Desk.{Desk}
 use Rattle.gtp_c.specs.declared.ends.Address.{Address}
 use Rattle.gtp_c.specs.declared.setup.Setup.{Setup}
+use Rattle.gtp_c.specs.declared.template.Template.{Template}
 
 -- a role's number
 abbrev pub role_at : Role → ℕ
@@ -31,7 +33,11 @@ timers_at s = record { t3 = s.t3; n3 = s.n3; hold = s.hold }
 abbrev pub pools_at : Setup → Pools
 pools_at s = record { v4 = record { start = s.pool; count = s.pool_count }; v6 = record { start = s.pool6; count = s.pool6_count } }
 
--- the settings are C's, with these access points
+-- C's templates, of which later ones take the place of earlier ones of the same access point
+abbrev pub templates_in : Setup → List Template
+templates_in s = take s.template_count s.templates
+
+-- the settings are C's, with these access points and without templates
 pub record IsConfigured (s : Setup) (names : List (List ℕ)) (settings : Settings) : Type 0 where
   pub own : Addresses
   pub is_own : AreAddresses s.own_control s.own_user own
@@ -39,7 +45,7 @@ pub record IsConfigured (s : Setup) (names : List (List ℕ)) (settings : Settin
   pub is_peer : AreAddresses s.peer_control s.peer_user peer
   pub all : settings ≡ settings_of own peer names (pools_at s) (timers_at s)
 
--- a gateway that has just started, of C's role, settings and restart counter, with the access points of the text
+-- a gateway that has just started, of C's role, settings, templates and restart counter, with the access points of the text
 pub record IsStarted (s : Setup) (text : List ℕ) (g : GatewayState) : Type 0 where
   pub role : Role
   pub is_role : role_at role ≡ s.role
@@ -47,7 +53,7 @@ pub record IsStarted (s : Setup) (text : List ℕ) (g : GatewayState) : Type 0 w
   pub are_names : AreNames text names
   pub settings : Settings
   pub configured : IsConfigured s names settings
-  pub started : g ≡ starting role settings s.counter
+  pub started : g ≡ starting role (with_each (templates_in s) settings) s.counter
 
 -- such a gateway, and no datagram waits
 pub record Starts (s : Setup) (text : List ℕ) (d : Desk) : Type 0 where
@@ -67,11 +73,13 @@ pub record IsGoodConfig (s : Setup) (names : List (List ℕ)) : Type 0 where
   pub pool : IsPool (pools_at s).v4
   pub prefixes : ArePrefixes (pools_at s).v6
 
--- a gateway can be set up so: the role is one, the text has names of access points, and the rest is in its range
+-- a gateway can be set up so: the role is one, the text has names of access points, each template is of one of them, and the rest is in its range
 pub record IsGoodSetup (s : Setup) (text : List ℕ) : Type 0 where
   pub role : s.role ≤ 1
   pub names : AreGoodNames text
   pub config : IsGoodConfig s (names_in text)
+  pub few : s.template_count ≤ 16
+  pub templates : AreGoodTemplates (length (names_in text)) (templates_in s)
 
 -- the statuses of a call that starts a gateway, where it does not
 abbrev pub no_gateway : List ℕ

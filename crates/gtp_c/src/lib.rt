@@ -2,7 +2,9 @@
 //! it has to keep.
 #![tactic(auto)]
 
+mod asked;
 mod behind;
+mod bodies;
 mod coming;
 mod commanding;
 mod contexts;
@@ -22,6 +24,7 @@ mod session;
 mod setup;
 mod status;
 mod taken;
+mod template;
 mod told;
 mod user;
 mod user_writing;

@@ -1,8 +1,8 @@
 //! The access points of a text, with commas between them.
 
-ghost use Rattle.std.specs.Prelude.{◌≡◌, ◌↔◌, ◌≤◌, length, IfOk, IfErr, OnOk, OnErr, IsErrOf, IsTrue};
+ghost use Rattle.std.specs.Prelude.{◌≡◌, ◌↔◌, ◌≤◌, length, IfOk, IfErr, OnOk, OnErr, IsErrOf, IfSome, IsSome};
 ghost use Rattle.gtp_values.specs.Apn.{IsApnText};
-ghost use Rattle.gtp_c.specs.Names.{AreNames, AreGoodNames, AreFewNames, IsCut, IsPut, word_length as spec_word_length};
+ghost use Rattle.gtp_c.specs.Names.{AreNames, AreGoodNames, AreFewNames, IsCut, IsPut, names_in, word_length as spec_word_length};
 ghost use Rattle.gtp_c.specs.Setups.{no_gateway};
 ghost use Rattle.gtp_c.specs.Common.{IsOneOf};
 
@@ -74,25 +74,26 @@ pub(crate) fn access_points_of(alloc: Global, octets: &[u8]) -> Result<Vec<Apn>,
     }
 }
 
-/// Whether the words of a text are names of access points, and few enough. Takes no memory.
-pub(crate) fn are_names(octets: &[u8]) -> bool
-    ensures { IsTrue result ↔ AreFewNames octets.now }
+/// How many access points a text names; none where a word of it is no name, or they are too many. Takes no memory.
+pub(crate) fn count_of_names(octets: &[u8]) -> Option<usize>
+    ensures some { IsSome result ↔ AreFewNames octets.now }
+    ensures value { IfSome result (λ count. count ≡ length (names_in octets.now)) }
 {
     if octets.is_empty() {
-        return true;
+        return Some(0);
     }
     let mut rest = octets;
     let mut count = 1;
     loop {
         let (word, after) = cut(rest);
         if access_point_of(word).is_none() {
-            return false;
+            return None;
         }
         let Some(after) = after else {
-            return true;
+            return Some(count);
         };
         if count == MOST_NAMES {
-            return false;
+            return None;
         }
         rest = after;
         count += 1;

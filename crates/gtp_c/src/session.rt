@@ -76,7 +76,7 @@ impl Quality {
 }
 
 /// The network of these digits: the last is 15 where the second code has two.
-fn network_of(digits: &[u8; 6]) -> Option<Plmn>
+pub(crate) fn network_of(digits: &[u8; 6]) -> Option<Plmn>
     ensures some { IsSome result ↔ IsNetwork (network_in digits.now) }
     ensures value { IfSome result (λ network. network ≡ network_in digits.now) }
 {

@@ -2,14 +2,18 @@
 
 ghost use Rattle.std.specs.Prelude.{◌≡◌, ◌↔◌, ◌≤◌, IfOk, IfErr, OnOk, IsErrOf, IfSome, IsSome};
 ghost use Rattle.gtp_c.specs.Setups.{role_at, AreAddresses, IsConfigured, IsStarted, timers_at};
-ghost use Rattle.gtp_c.specs.Setups.{HasAddresses, IsGoodConfig, IsGoodSetup, no_gateway};
+ghost use Rattle.gtp_c.specs.Setups.{HasAddresses, IsGoodConfig, IsGoodSetup, templates_in, no_gateway};
 ghost use Rattle.gtp_c.specs.Common.{IsOneOf};
 
 use crate::ends::Address;
-use crate::names::{access_points_of, are_names};
+use crate::names::{access_points_of, count_of_names};
 use crate::status::{BAD_VALUE, NO_MEMORY};
+use crate::template::{Template, are_templates, with_templates};
 use gtp_gateway::{Addresses, Apn, Config, Counter, Gateway, Pool, Role, Timers};
 use std::alloc::Global;
+
+/// The most templates that a setup has.
+const MOST_TEMPLATES: usize = 16;
 
 /// How a gateway is set up.
 #[repr(C)]
@@ -30,6 +34,9 @@ pub struct Setup {
     /// 0 serving, 1 packet.
     pub role: u8,
     pub counter: u8,
+    /// How many templates there are, at most 16, and these.
+    pub template_count: u8,
+    pub templates: [Template; MOST_TEMPLATES],
 }
 
 /// The role of this number.
@@ -65,7 +72,19 @@ impl Setup {
         }
     }
 
-    /// The settings that are asked for.
+    /// The templates that are asked for.
+    fn templates(&self) -> Option<&[Template]>
+        ensures some { IsSome result ↔ (self.now.template_count ≤ 16) }
+        ensures value { IfSome result (λ templates. templates.now ≡ templates_in self.now) }
+    {
+        let count = usize::from(self.template_count);
+        if count > MOST_TEMPLATES {
+            return None;
+        }
+        Some(&self.templates[..count])
+    }
+
+    /// The settings that are asked for, without templates.
     fn config(&self, names: Vec<Apn>) -> Option<Config>
         ensures some { IsSome result ↔ IsGoodConfig self.now names.items }
         ensures value { IfSome result (IsConfigured self.now names.items) }
@@ -99,11 +118,20 @@ impl Setup {
         let Some(_) = self.config(Vec::new(alloc)) else {
             return Err(BAD_VALUE);
         };
-        if !are_names(octets) {
+        let Some(count) = count_of_names(octets) else {
+            return Err(BAD_VALUE);
+        };
+        let Some(templates) = self.templates() else {
+            return Err(BAD_VALUE);
+        };
+        if !are_templates(templates, count) {
             return Err(BAD_VALUE);
         }
         let names = access_points_of(alloc, octets)?;
         let Some(config) = self.config(names) else {
+            return Err(BAD_VALUE);
+        };
+        let Some(config) = with_templates(config, templates) else {
             return Err(BAD_VALUE);
         };
         match Gateway::start(alloc, role, &config, Counter(self.counter)) {

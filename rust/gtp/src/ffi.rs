@@ -159,6 +159,24 @@ pub struct Gateway {
 }
 
 #[repr(C)]
+#[derive(Clone, Copy, Debug)]
+pub struct Template {
+    pub quality: Quality,
+    pub access_point: u8,
+    pub tft_len: u8,
+    pub tft: [u8; 255],
+}
+
+impl Default for Template {
+    fn default() -> Template {
+        Template { quality: Quality::default(), access_point: 0, tft_len: 0, tft: [0; 255] }
+    }
+}
+
+/// The most templates of a setup.
+pub const MOST_TEMPLATES: usize = 16;
+
+#[repr(C)]
 #[derive(Clone, Copy, Debug, Default)]
 pub struct Setup {
     pub own_control: Address,
@@ -174,6 +192,8 @@ pub struct Setup {
     pub hold: u32,
     pub role: u8,
     pub counter: u8,
+    pub template_count: u8,
+    pub templates: [Template; MOST_TEMPLATES],
 }
 
 #[repr(C)]
@@ -261,6 +281,12 @@ pub const SHORT_VALUE: u8 = 10;
 /// A call that reads the body of an element.
 pub type Read<T> = unsafe extern "C" fn(*const u8, usize, *mut T) -> u8;
 
+/// A call that writes the body of an element.
+pub type Write<T> = unsafe extern "C" fn(*mut u8, usize, *const T, *mut u64) -> u8;
+
+/// A call that writes the body of an element that says a number.
+pub type WriteNumber = unsafe extern "C" fn(*mut u8, usize, u32, *mut u64) -> u8;
+
 extern "C" {
     pub fn gtp_control_read(octets: *const u8, len: usize, head: *mut Head, fault: *mut Fault) -> u8;
     pub fn gtp_element_next(octets: *const u8, len: usize, place: u64, element: *mut Element) -> u8;
@@ -282,6 +308,22 @@ extern "C" {
     pub fn gtp_pdn_type_read(body: *const u8, len: usize, number: *mut u32) -> u8;
     pub fn gtp_pti_read(body: *const u8, len: usize, number: *mut u32) -> u8;
     pub fn gtp_selection_read(body: *const u8, len: usize, number: *mut u32) -> u8;
+
+    pub fn gtp_imsi_write(buffer: *mut u8, room: usize, value: *const Imsi, size: *mut u64) -> u8;
+    pub fn gtp_cause_write(buffer: *mut u8, room: usize, value: *const Cause, size: *mut u64) -> u8;
+    pub fn gtp_recovery_write(buffer: *mut u8, room: usize, number: u32, size: *mut u64) -> u8;
+    pub fn gtp_apn_write(buffer: *mut u8, room: usize, value: *const Apn, size: *mut u64) -> u8;
+    pub fn gtp_ambr_write(buffer: *mut u8, room: usize, value: *const Ambr, size: *mut u64) -> u8;
+    pub fn gtp_ebi_write(buffer: *mut u8, room: usize, number: u32, size: *mut u64) -> u8;
+    pub fn gtp_paa_write(buffer: *mut u8, room: usize, value: *const Paa, size: *mut u64) -> u8;
+    pub fn gtp_qos_write(buffer: *mut u8, room: usize, value: *const Quality, size: *mut u64) -> u8;
+    pub fn gtp_rat_write(buffer: *mut u8, room: usize, number: u32, size: *mut u64) -> u8;
+    pub fn gtp_network_write(buffer: *mut u8, room: usize, value: *const Network, size: *mut u64) -> u8;
+    pub fn gtp_fteid_write(buffer: *mut u8, room: usize, value: *const FTeid, size: *mut u64) -> u8;
+    pub fn gtp_charging_id_write(buffer: *mut u8, room: usize, number: u32, size: *mut u64) -> u8;
+    pub fn gtp_pdn_type_write(buffer: *mut u8, room: usize, number: u32, size: *mut u64) -> u8;
+    pub fn gtp_pti_write(buffer: *mut u8, room: usize, number: u32, size: *mut u64) -> u8;
+    pub fn gtp_selection_write(buffer: *mut u8, room: usize, number: u32, size: *mut u64) -> u8;
 
     pub fn gtp_version(buffer: *mut u8, room: usize, size: *mut u64) -> u8;
     pub fn gtp_element_write(
@@ -401,6 +443,7 @@ mod tests {
         lines!("gtp_network", Network { digits });
         lines!("gtp_fteid", FTeid { teid, interface, has_v4, has_v6, v4, v6 });
         lines!("gtp_gateway", Gateway { hidden, count });
+        lines!("gtp_template", Template { quality, access_point, tft_len, tft });
         lines!(
             "gtp_setup",
             Setup {
@@ -416,7 +459,9 @@ mod tests {
                 n3,
                 hold,
                 role,
-                counter
+                counter,
+                template_count,
+                templates
             }
         );
         lines!("gtp_outcome", Outcome { kind, cause, fault });

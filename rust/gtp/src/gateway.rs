@@ -34,16 +34,18 @@ impl Gateway {
     /// A gateway that has just started.
     ///
     /// # Errors
-    /// `BadValue` if a value of the setup is out of its range or an access point's name is none, or has a comma; `NoMemory`.
+    /// `BadValue` if a value of the setup is out of its range, an access point's name is none or has a comma, or a template names no
+    /// access point of the setup; `NoMemory`.
     pub fn new(setup: &Setup<'_>) -> Result<Gateway, Error> {
         // The library cuts a text at each comma, and an empty one has no names.
         if setup.access_points.iter().any(|name| name.is_empty() || name.contains(',')) {
             return Err(Error::BadValue);
         }
         let names = setup.access_points.join(",");
+        let setup = setup.raw().ok_or(Error::BadValue)?;
         let mut gateway = Gateway { raw: UnsafeCell::new(ffi::Gateway { hidden: ptr::null_mut(), count: 0 }) };
         // SAFETY: the gateway is zeroes, and the pointers are to a struct and to a slice of this length.
-        match unsafe { ffi::gtp_gateway_new(gateway.raw.get_mut(), &setup.raw(), names.as_ptr(), names.len()) } {
+        match unsafe { ffi::gtp_gateway_new(gateway.raw.get_mut(), &setup, names.as_ptr(), names.len()) } {
             ffi::DONE => Ok(gateway),
             status => Err(Error::of(status)),
         }
@@ -205,8 +207,7 @@ impl Gateway {
         (status == ffi::DONE).then(|| row.into())
     }
 
-    /// The sessions, in the order of the gateway's own TEIDs. Each is looked for from the first on, so that all of them take time in
-    /// proportion to the square of how many there are.
+    /// The sessions, in the order of the gateway's own TEIDs.
     pub fn sessions(&self) -> impl Iterator<Item = Session> + '_ {
         (0..).map_while(|place| {
             let mut row = ffi::SessionRow::default();
@@ -216,8 +217,7 @@ impl Gateway {
         })
     }
 
-    /// The bearers, in the order of the gateway's own TEIDs. Each is looked for from the first on, so that all of them take time in
-    /// proportion to the square of how many there are.
+    /// The bearers, in the order of the gateway's own TEIDs.
     pub fn bearers(&self) -> impl Iterator<Item = Bearer> + '_ {
         (0..).map_while(|place| {
             let mut row = ffi::BearerRow::default();

@@ -59,11 +59,48 @@ pub struct Setup<'a> {
     pub pool: (Ipv4Addr, u32),
     /// The first IPv6 address, and how many, each with a prefix of 64 bits of its own, at most 65,536.
     pub pool6: (Ipv6Addr, u32),
+    /// Templates of access points, at most 16. Of several for one access point the last counts.
+    pub templates: &'a [Template<'a>],
+}
+
+/// The dedicated bearer that a packet gateway asks for with each session of an access point, in a second message of the datagram that
+/// answers for the session (TS 29.274 5.5.1).
+#[derive(Clone, Copy, Debug, PartialEq, Eq)]
+pub struct Template<'a> {
+    /// The name of the access point, one of those of the setup.
+    pub access_point: &'a str,
+    /// The quality of service of the bearer.
+    pub quality: Quality,
+    /// The traffic flow template, at most 255 octets.
+    pub tft: &'a [u8],
+}
+
+impl Template<'_> {
+    /// The same for the library, which takes the place of the access point for its name. `None`: a value is out of its range.
+    fn raw(&self, access_points: &[&str]) -> Option<ffi::Template> {
+        let place = access_points.iter().position(|name| *name == self.access_point)?;
+        let mut raw = ffi::Template {
+            quality: self.quality.raw(),
+            access_point: u8::try_from(place).ok()?,
+            tft_len: u8::try_from(self.tft.len()).ok()?,
+            ..ffi::Template::default()
+        };
+        raw.tft[..self.tft.len()].copy_from_slice(self.tft);
+        Some(raw)
+    }
 }
 
 impl Setup<'_> {
-    pub(crate) fn raw(&self) -> ffi::Setup {
-        ffi::Setup {
+    /// The same for the library. `None`: a value is out of its range.
+    pub(crate) fn raw(&self) -> Option<ffi::Setup> {
+        let mut templates = [ffi::Template::default(); ffi::MOST_TEMPLATES];
+        if self.templates.len() > templates.len() {
+            return None;
+        }
+        for (raw, template) in templates.iter_mut().zip(self.templates) {
+            *raw = template.raw(self.access_points)?;
+        }
+        Some(ffi::Setup {
             own_control: ffi::Address::of(self.own.control),
             own_user: ffi::Address::of(self.own.user),
             peer_control: ffi::Address::of(self.peer.control),
@@ -80,7 +117,9 @@ impl Setup<'_> {
                 Role::Packet => 1,
             },
             counter: self.counter,
-        }
+            template_count: self.templates.len() as u8,
+            templates,
+        })
     }
 }
 
@@ -110,7 +149,7 @@ pub struct SessionRequest<'a> {
 }
 
 /// The digits of a network's codes: 001 and 01 are 0, 0, 1 and 0, 1, 15. What is no code has a digit that is none.
-fn digits_of(mcc: &str, mnc: &str) -> [u8; 6] {
+pub(crate) fn network_digits(mcc: &str, mnc: &str) -> [u8; 6] {
     let mut digits = [15; 6];
     if mcc.len() != 3 || !(2..=3).contains(&mnc.len()) {
         return digits;
@@ -127,7 +166,7 @@ impl SessionRequest<'_> {
             quality: self.quality.raw(),
             ambr_up: self.ambr.up,
             ambr_down: self.ambr.down,
-            network: digits_of(self.mcc, self.mnc),
+            network: network_digits(self.mcc, self.mnc),
             identity: self.identity,
             rat: self.rat,
             selection: self.selection,

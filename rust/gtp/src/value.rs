@@ -1,6 +1,7 @@
 //! What the bodies of elements say (TS 29.274 clause 8).
 
-use crate::ffi::{self, Read};
+use crate::ffi::{self, Read, Write, WriteNumber};
+use crate::setup::network_digits;
 use crate::ValueError;
 use std::net::{Ipv4Addr, Ipv6Addr};
 
@@ -138,6 +139,62 @@ fn read<T: Default>(call: Read<T>, body: &[u8]) -> Result<T, ValueError> {
     }
 }
 
+/// The octets that are to be written, and where.
+struct Room<'a> {
+    buffer: &'a mut [u8],
+    size: &'a mut u64,
+}
+
+impl Room<'_> {
+    fn write<T>(self, call: Write<T>, value: T) -> u8 {
+        // SAFETY: the pointers are to a slice of this length, to a struct and to a place of its own, and the buffer is borrowed alone.
+        unsafe { call(self.buffer.as_mut_ptr(), self.buffer.len(), &value, self.size) }
+    }
+
+    fn write_number(self, call: WriteNumber, number: impl Into<u32>) -> u8 {
+        // SAFETY: the pointers are to a slice of this length and to a place of its own, and the buffer is borrowed alone.
+        unsafe { call(self.buffer.as_mut_ptr(), self.buffer.len(), number.into(), self.size) }
+    }
+
+    fn write_octets(self, octets: &[u8]) -> u8 {
+        *self.size = octets.len() as u64;
+        match self.buffer.get_mut(..octets.len()) {
+            Some(place) => {
+                place.copy_from_slice(octets);
+                ffi::DONE
+            }
+            None => ffi::TOO_SMALL,
+        }
+    }
+}
+
+/// The digits of an IMSI. A text that is none has a count of 0, which no IMSI has.
+fn digits_of(text: &str) -> ffi::Imsi {
+    let mut imsi = ffi::Imsi::default();
+    if text.len() <= imsi.digits.len() && text.bytes().all(|octet| octet.is_ascii_digit()) {
+        imsi.count = text.len() as u8;
+        for (digit, octet) in imsi.digits.iter_mut().zip(text.bytes()) {
+            *digit = octet - b'0';
+        }
+    }
+    imsi
+}
+
+/// Labels, each after its length, of a text that joins them by dots. A text that is too long has a length of 0, which no name has.
+fn labels_of(text: &str) -> ffi::Apn {
+    let mut apn = ffi::Apn::default();
+    if text.len() >= apn.octets.len() {
+        return apn;
+    }
+    for label in text.split('.') {
+        let start = usize::from(apn.len);
+        apn.octets[start] = label.len() as u8;
+        apn.octets[start + 1..][..label.len()].copy_from_slice(label.as_bytes());
+        apn.len += 1 + label.len() as u8;
+    }
+    apn
+}
+
 fn text_of(digits: &[u8]) -> String {
     digits.iter().map(|digit| char::from(b'0' + digit)).collect()
 }
@@ -178,6 +235,47 @@ impl From<ffi::Paa> for Paa {
             2 => Paa::V6(paa.v6.into(), paa.prefix),
             3 => Paa::V4V6(paa.v4.into(), paa.v6.into(), paa.prefix),
             other => Paa::Other(other),
+        }
+    }
+}
+
+impl From<Cause> for ffi::Cause {
+    fn from(cause: Cause) -> ffi::Cause {
+        let (offending, instance) = cause.offending.unwrap_or_default();
+        ffi::Cause {
+            value: cause.value,
+            pce: cause.pce.into(),
+            bce: cause.bce.into(),
+            cs: cause.cs.into(),
+            has_offending: cause.offending.is_some().into(),
+            offending,
+            instance,
+        }
+    }
+}
+
+impl From<Paa> for ffi::Paa {
+    fn from(paa: Paa) -> ffi::Paa {
+        let none = ffi::Paa::default();
+        match paa {
+            Paa::V4(v4) => ffi::Paa { pdn: 1, v4: v4.octets(), ..none },
+            Paa::V6(v6, prefix) => ffi::Paa { pdn: 2, prefix, v6: v6.octets(), ..none },
+            Paa::V4V6(v4, v6, prefix) => ffi::Paa { pdn: 3, prefix, v4: v4.octets(), v6: v6.octets() },
+            // 1 to 3 have addresses, which another type has not.
+            Paa::Other(pdn) => ffi::Paa { pdn: if (1..=3).contains(&pdn) { u8::MAX } else { pdn }, ..none },
+        }
+    }
+}
+
+impl From<FTeid> for ffi::FTeid {
+    fn from(end: FTeid) -> ffi::FTeid {
+        ffi::FTeid {
+            teid: end.teid,
+            interface: end.interface,
+            has_v4: end.v4.is_some().into(),
+            has_v6: end.v6.is_some().into(),
+            v4: end.v4.map_or([0; 4], |v4| v4.octets()),
+            v6: end.v6.map_or([0; 16], |v6| v6.octets()),
         }
     }
 }
@@ -233,5 +331,30 @@ impl<'a> Value<'a> {
             128 => Value::Selection(octet(ffi::gtp_selection_read)?),
             _ => Value::Octets(body),
         })
+    }
+
+    /// Writes the body that says the value, and how many octets it has.
+    pub(crate) fn write(&self, buffer: &mut [u8], size: &mut u64) -> u8 {
+        let room = Room { buffer, size };
+        match self {
+            Value::Imsi(digits) => room.write(ffi::gtp_imsi_write, digits_of(digits)),
+            Value::Cause(cause) => room.write(ffi::gtp_cause_write, (*cause).into()),
+            Value::Recovery(number) => room.write_number(ffi::gtp_recovery_write, *number),
+            Value::Apn(name) => room.write(ffi::gtp_apn_write, labels_of(name)),
+            Value::Ambr(Ambr { up, down }) => room.write(ffi::gtp_ambr_write, ffi::Ambr { up: *up, down: *down }),
+            Value::Ebi(number) => room.write_number(ffi::gtp_ebi_write, *number),
+            Value::Paa(paa) => room.write(ffi::gtp_paa_write, (*paa).into()),
+            Value::Quality(quality) => room.write(ffi::gtp_qos_write, quality.raw()),
+            Value::Rat(number) => room.write_number(ffi::gtp_rat_write, *number),
+            Value::Network { mcc, mnc } => {
+                room.write(ffi::gtp_network_write, ffi::Network { digits: network_digits(mcc, mnc) })
+            }
+            Value::FTeid(end) => room.write(ffi::gtp_fteid_write, (*end).into()),
+            Value::ChargingId(number) => room.write_number(ffi::gtp_charging_id_write, *number),
+            Value::PdnType(number) => room.write_number(ffi::gtp_pdn_type_write, *number),
+            Value::Pti(number) => room.write_number(ffi::gtp_pti_write, *number),
+            Value::Selection(number) => room.write_number(ffi::gtp_selection_write, *number),
+            Value::Octets(octets) => room.write_octets(octets),
+        }
     }
 }

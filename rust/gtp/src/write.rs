@@ -1,7 +1,7 @@
 //! Writing to a buffer.
 
 use crate::ffi;
-use crate::WriteError;
+use crate::{Value, WriteError};
 use std::net::IpAddr;
 
 /// The header of a message of the control plane (TS 29.274 5.1).
@@ -43,6 +43,18 @@ pub fn write_element(buffer: &mut [u8], place: usize, kind: u8, instance: u8, bo
     // SAFETY: the pointers are to slices of these lengths and to a place of its own, and the buffer is borrowed alone.
     let status =
         unsafe { ffi::gtp_element_write(to, room, place as u64, kind, instance, body.as_ptr(), body.len(), &mut size) };
+    result_of(status, size)
+}
+
+/// Writes the body of an element that says a value (TS 29.274 clause 8), at the front of the buffer, and returns how many octets it
+/// has: what [`write_element`] takes. A [`Value`] that was read is written as the body that says the same, with spare bits 0.
+///
+/// # Errors
+/// `BadValue` for a value that its type cannot say; `TooSmall` says how many octets the body has; `NoMemory`. The buffer is as it was
+/// then.
+pub fn write_value(buffer: &mut [u8], value: &Value<'_>) -> Result<usize, WriteError> {
+    let mut size = 0;
+    let status = value.write(buffer, &mut size);
     result_of(status, size)
 }
 

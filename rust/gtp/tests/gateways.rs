@@ -1,5 +1,6 @@
 //! Two gateways in one process: what one sends the other receives.
 
+use gtp::kinds::message;
 use gtp::*;
 use std::net::{IpAddr, Ipv4Addr, Ipv6Addr, SocketAddr};
 use std::thread;
@@ -21,6 +22,7 @@ fn setup(role: Role) -> Setup<'static> {
         access_points: &["internet", "ims"],
         pool: (Ipv4Addr::new(10, 1, 0, 1), 10),
         pool6: ("2001:db8:1::1".parse().unwrap(), 10),
+        templates: &[],
     }
 }
 
@@ -48,8 +50,14 @@ struct Pair {
 
 impl Pair {
     fn new() -> Pair {
-        let open = |role| Gateway::new(&setup(role)).unwrap();
-        Pair { serving: open(Role::Serving), packet: open(Role::Packet), accepted: Vec::new() }
+        Pair::with_templates(&[])
+    }
+
+    /// The packet gateway has these templates.
+    fn with_templates(templates: &[Template<'_>]) -> Pair {
+        let serving = Gateway::new(&setup(Role::Serving)).unwrap();
+        let packet = Gateway::new(&Setup { templates, ..setup(Role::Packet) }).unwrap();
+        Pair { serving, packet, accepted: Vec::new() }
     }
 
     /// Hands each the datagrams of the other, until none waits.
@@ -121,6 +129,132 @@ fn a_dedicated_bearer_opens_and_ends() {
     pair.packet.release_session(session).unwrap();
     pair.settle();
     assert_eq!(pair.serving.sessions().count(), 0);
+}
+
+#[test]
+fn a_session_with_a_template_gets_its_bearer_at_once() {
+    let quality = Quality { pl: 2, qci: 1, ..Quality::default() };
+    let mut pair = Pair::with_templates(&[Template { access_point: "internet", quality, tft: &[0x21, 0x10, 0] }]);
+    let teid = pair.serving.create_session(&request()).unwrap();
+    assert!(forward(&mut pair.serving, &mut pair.packet, &mut pair.accepted));
+
+    let mut room = [0; 2048];
+    let sent = pair.packet.take(&mut room).unwrap().unwrap();
+    let message = ControlMessage::read(sent.octets).unwrap();
+    let second = message.second().expect("a second message");
+    assert_eq!((message.kind(), second.kind()), (message::CREATE_SESSION_RESPONSE, message::CREATE_BEARER_REQUEST));
+    let received = pair.serving.receive(sent.from, sent.plane, sent.octets).unwrap();
+    assert_eq!((received.outcome, received.second), (Outcome::Opened, Some(Outcome::Answered(16))));
+    assert_eq!(pair.packet.take(&mut room), Ok(None));
+
+    pair.settle();
+    for (gateway, other) in [(&pair.serving, &pair.packet), (&pair.packet, &pair.serving)] {
+        let bearer = gateway.bearers().find(|bearer| bearer.is_dedicated).unwrap();
+        let there = other.bearer(bearer.remote.unwrap()).unwrap();
+        assert_eq!((bearer.state, there.remote, there.identity), (State::Active, Some(bearer.teid), bearer.identity));
+    }
+    assert_eq!(pair.serving.session(teid).unwrap().state, State::Active);
+
+    // A session of another access point has its default bearer alone.
+    pair.serving.create_session(&SessionRequest { imsi: "001010123456780", access_point: "ims", ..request() }).unwrap();
+    pair.settle();
+    assert_eq!((pair.serving.bearers().count(), pair.packet.bearers().count()), (3, 3));
+}
+
+#[test]
+fn a_template_that_is_none_is_refused() {
+    let good = Template { access_point: "ims", quality: Quality::default(), tft: &[0; 255] };
+    let opens = |templates: &[Template<'_>]| Gateway::new(&Setup { templates, ..setup(Role::Packet) }).map(drop);
+    assert_eq!(opens(&[good; 16]), Ok(()));
+    assert_eq!(opens(&[good; 17]), Err(Error::BadValue));
+    for bad in [
+        Template { access_point: "web", ..good },
+        Template { quality: Quality { pl: 16, ..Quality::default() }, ..good },
+        Template { tft: &[0; 256], ..good },
+    ] {
+        assert_eq!(opens(&[bad]), Err(Error::BadValue), "{bad:?}");
+    }
+}
+
+/// Of each form a value and the body that is written for it, by the figures of TS 29.274 clause 8.
+#[test]
+fn values_are_written_and_read() {
+    let v6: Ipv6Addr = "2001:db8::1".parse().unwrap();
+    let address = *b"\x20\x01\x0d\xb8\0\0\0\0\0\0\0\0\0\0\0\x01";
+    let with_v6 = |front: &[u8], back: &[u8]| [front, &address, back].concat();
+    let cause = Cause { value: 70, pce: false, bce: true, cs: true, offending: Some((87, 1)) };
+    let quality = Quality { pci: true, pl: 15, pvi: true, qci: 9, mbr: (1, 2), gbr: (3, (1 << 40) - 1) };
+    let rates = b"\0\0\0\0\x01\0\0\0\0\x02\0\0\0\0\x03\xff\xff\xff\xff\xff";
+    let end = |v4, v6| Value::FTeid(FTeid { interface: 7, teid: 0x01020304, v4, v6 });
+    let v4 = Ipv4Addr::new(10, 1, 0, 1);
+    let values: &[(u8, Value<'_>, &[u8])] = &[
+        (1, Value::Imsi("001010123456789".into()), b"\x00\x01\x01\x21\x43\x65\x87\xf9"),
+        (1, Value::Imsi("123456".into()), b"\x21\x43\x65"),
+        (2, Value::Cause(cause), b"\x46\x03\x57\0\0\x01"),
+        (2, Value::Cause(Cause { pce: true, bce: false, cs: false, offending: None, ..cause }), b"\x46\x04"),
+        (3, Value::Recovery(255), b"\xff"),
+        (71, Value::Apn("internet.org".into()), b"\x08internet\x03org"),
+        (72, Value::Ambr(Ambr { up: 1, down: 0x01020304 }), b"\0\0\0\x01\x01\x02\x03\x04"),
+        (73, Value::Ebi(15), b"\x0f"),
+        (79, Value::Paa(Paa::V4(v4)), b"\x01\x0a\x01\0\x01"),
+        (79, Value::Paa(Paa::V6(v6, 64)), &with_v6(b"\x02\x40", b"")),
+        (79, Value::Paa(Paa::V4V6(v4, v6, 64)), &with_v6(b"\x03\x40", b"\x0a\x01\0\x01")),
+        (79, Value::Paa(Paa::Other(4)), b"\x04"),
+        (80, Value::Quality(quality), &[b"\x7d\x09", &rates[..]].concat()),
+        (82, Value::Rat(6), b"\x06"),
+        (83, Value::Network { mcc: "001".into(), mnc: "01".into() }, b"\x00\xf1\x10"),
+        (83, Value::Network { mcc: "310".into(), mnc: "150".into() }, b"\x13\x00\x51"),
+        (87, end(Some(v4), None), b"\x87\x01\x02\x03\x04\x0a\x01\0\x01"),
+        (87, end(None, Some(v6)), &with_v6(b"\x47\x01\x02\x03\x04", b"")),
+        (87, end(Some(v4), Some(v6)), &with_v6(b"\xc7\x01\x02\x03\x04\x0a\x01\0\x01", b"")),
+        (94, Value::ChargingId(0x01020304), b"\x01\x02\x03\x04"),
+        (99, Value::PdnType(3), b"\x03"),
+        (100, Value::Pti(200), b"\xc8"),
+        (128, Value::Selection(3), b"\x03"),
+        (84, Value::Octets(b"\x21\x10\0"), b"\x21\x10\0"),
+    ];
+    for (kind, value, body) in values {
+        let mut room = [0xa5; 100];
+        assert_eq!(write_value(&mut room, value), Ok(body.len()), "{value:?}");
+        assert_eq!((&room[..body.len()], room[body.len()]), (*body, 0xa5), "{value:?}");
+        assert_eq!(Value::read(*kind, body), Ok(value.clone()));
+        let mut small = vec![0xa5; body.len() - 1];
+        assert_eq!(write_value(&mut small, value), Err(WriteError::TooSmall(TooSmall { needed: body.len() })));
+        assert!(small.iter().all(|octet| *octet == 0xa5), "{value:?}");
+    }
+}
+
+#[test]
+fn values_out_of_their_ranges_are_not_written() {
+    let none = FTeid { interface: 7, teid: 1, v4: None, v6: None };
+    let quality = Quality::default();
+    let network = |mcc: &str, mnc: &str| Value::Network { mcc: mcc.into(), mnc: mnc.into() };
+    for bad in [
+        Value::Imsi("12345".into()),
+        Value::Imsi("1234567890123456".into()),
+        Value::Imsi("12345x".into()),
+        Value::Cause(Cause { value: 16, pce: false, bce: false, cs: false, offending: Some((1, 16)) }),
+        Value::Apn(String::new()),
+        Value::Apn("a..b".into()),
+        Value::Apn("a".repeat(64)),
+        Value::Apn("a".repeat(300)),
+        Value::Ebi(16),
+        Value::Paa(Paa::Other(1)),
+        Value::Paa(Paa::Other(8)),
+        Value::Quality(Quality { pl: 16, ..quality }),
+        Value::Quality(Quality { mbr: (1 << 40, 0), ..quality }),
+        network("01", "01"),
+        network("001", "0"),
+        network("0a1", "01"),
+        Value::FTeid(none),
+        Value::FTeid(FTeid { interface: 64, v4: Some(Ipv4Addr::LOCALHOST), ..none }),
+        Value::PdnType(8),
+        Value::Selection(4),
+    ] {
+        let mut room = [0xa5; 400];
+        assert_eq!(write_value(&mut room, &bad), Err(WriteError::BadValue), "{bad:?}");
+        assert_eq!(room, [0xa5; 400]);
+    }
 }
 
 #[test]

@@ -137,6 +137,7 @@ fn run(role: Role, own: IpAddr, peer: IpAddr, counter: u8) -> Result<(), Box<dyn
         access_points: &["internet"],
         pool: (Ipv4Addr::new(10, 1, 0, 1), 1000),
         pool6: (Ipv6Addr::UNSPECIFIED, 0),
+        templates: &[],
     };
     let (mut gateway, mut room) = (Gateway::new(&setup)?, vec![0; 65_536]);
     let (sockets, commands) = (Sockets::open(own)?, lines());

@@ -1,7 +1,7 @@
 use Rattle.std.proofs.Common.{length}
 use Rattle.gtp_c.specs.Names.{words_of}
 use Rattle.gtp_c.proofs.Naming.{AreRead}
-use Rattle.gtp_c.proofs.names.are_names.Given as goal
+use Rattle.gtp_c.proofs.names.count_of_names.Given as goal
 
 abbrev pub invariant-loop-after : goal.invariant-loop-after
 invariant-loop-after l = AreRead l.octets l.rest l.count
