@@ -18,10 +18,11 @@ use Rattle.gtp_machine.specs.Input.{Effect}
 use Rattle.gtp_machine.specs.declared.message_type.MessageType.{MessageType}
 use Rattle.gtp_machine.specs.declared.message_type.MessageType.TheVariants as types
 use Rattle.gtp_machine.proofs.Basics.Types.{type_kind}
-use Rattle.gtp_gateway.specs.declared.receive.delete_session_request.DeleteRequest.{DeleteRequest}
+use Rattle.gtp_gateway.specs.declared.receive.delete_request.DeleteRequest.{DeleteRequest}
 use Rattle.gtp_gateway.specs.declared.receive.restart_counter.Heard.{Heard}
 use Rattle.gtp_gateway.specs.declared.step.ControlStep.{ControlStep}
-use Rattle.gtp_gateway.specs.receive.DeleteSessionRequest.{ReadsDeleteSession, delete_session_by}
+use Rattle.gtp_gateway.specs.receive.DeleteSessionRequest.{delete_session_by}
+use Rattle.gtp_gateway.specs.receive.DeleteRequest.{ReadsDelete}
 use Rattle.gtp_gateway.specs.receive.RestartCounter.{node_heard}
 use Rattle.gtp_gateway.specs.receive.Row.{IsRow, IsWeighed}
 use Rattle.gtp_gateway.specs.GatewayState.{GatewayState}
@@ -52,7 +53,7 @@ linked_is [] (Some e) is = absurd cc
 linked_is (v ∷ vs) None is = absurd cc
 linked_is (v ∷ vs) (Some e) is = let same : v ≡ OfEbi e = cc in ap number_of same
 
-pub deletion_request_is : (octets : List ℕ) (m : MessageValue) (r : DeleteRequest) → IsMessage octets m → type_at m.kind ≡ Some types.DeleteSessionRequest → ReadsDeleteSession m r → message_of m ≡ Delete_session_request (delete_session_by r)
+pub deletion_request_is : (octets : List ℕ) (m : MessageValue) (r : DeleteRequest) → IsMessage octets m → type_at m.kind ≡ Some types.DeleteSessionRequest → ReadsDelete m r → message_of m ≡ Delete_session_request (delete_session_by r)
 unfolding row_in
 deletion_request_is octets m r is at reads =
     let of = type_kind m.kind types.DeleteSessionRequest at in

@@ -36,13 +36,13 @@ use Rattle.gtp_machine.specs.Serving.{RemovesEach, DeleteBearerTaken, DeleteBear
 use Rattle.gtp_machine.specs.Spelling.{removed_rows, typed, where_there}
 use Rattle.gtp_machine.proofs.Basics.Types.{type_kind}
 use Rattle.gtp_gateway.specs.declared.tables.change.Change.TheVariants.{Stays}
-use Rattle.gtp_gateway.specs.declared.receive.delete_session_request.DeleteRequest.{DeleteRequest}
+use Rattle.gtp_gateway.specs.declared.receive.delete_request.DeleteRequest.{DeleteRequest}
 use Rattle.gtp_gateway.specs.declared.receive.delete_bearer_request.identities.NamedBearer.{NamedBearer}
 use Rattle.gtp_machine.specs.declared.message_type.MessageType.TheVariants as types
 use Rattle.gtp_gateway.specs.declared.step.ControlStep.{ControlStep}
 use Rattle.gtp_gateway.specs.receive.DeleteBearerRequest.{is_at, goes_for, is_found, was_named, NamesOne, NamesEach, identity_named, cause_named, removed_by, context_by, without_named, without_each}
 use Rattle.gtp_gateway.specs.receive.DeleteBearerRequest.{ReadsIdentities, SaysDeleteBearer, SaysIdentities, IsForBearers, number_in, delete_bearer_effect}
-use Rattle.gtp_gateway.specs.receive.DeleteSessionRequest.{ReadsDeleteSession}
+use Rattle.gtp_gateway.specs.receive.DeleteRequest.{ReadsDelete}
 use Rattle.gtp_machine.specs.MessageType.{type_at}
 use Rattle.gtp_gateway.specs.messages.Own.{IsOwn}
 use Rattle.gtp_gateway.specs.receive.Row.{IsRow}
@@ -274,7 +274,7 @@ numbers_read (i ∷ ids) = λ x. i.0 ∷ numbers_read ids x
 same_list : (linked identities others values : List Value) (content : Content) → content ≡ Fields (Plain linked ∷ Plain identities ∷ []) → content ≡ Fields (Plain others ∷ Plain values ∷ []) → identities ≡ values
 same_list linked identities others values content is read = cc
 
-pub delete_bearer_is : (octets : List ℕ) (m : MessageValue) (r : DeleteRequest) → IsMessage octets m → type_at m.kind ≡ Some types.DeleteBearerRequest → ReadsDeleteSession m r → IsDeleteBearer m r
+pub delete_bearer_is : (octets : List ℕ) (m : MessageValue) (r : DeleteRequest) → IsMessage octets m → type_at m.kind ≡ Some types.DeleteBearerRequest → ReadsDelete m r → IsDeleteBearer m r
 unfolding row_in list_in
 delete_bearer_is octets m r is at reads =
     let a = delete_bearer_asked octets m (type_kind m.kind types.DeleteBearerRequest at) is in

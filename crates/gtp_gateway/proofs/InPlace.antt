@@ -262,6 +262,11 @@ if_there [] (Some r) is = absurd cc
 if_there (v ∷ vs) None is = absurd cc
 if_there (v ∷ vs) (Some r) is = let same : OfRecovery r.0.0 ≡ v = cc in ap number_of same
 
+-- a type has a counter if its table has a row of it
+counter_row : (p : MessageType) → has_row (type_row p).kind 3 0 ≡ (type_row p).has_counter
+counter_row types.EchoRequest = refl
+counter_row p = refl
+
 -- the counter that was read in the row of a Recovery is the one that the message tells
 pub counter_read : (octets : List ℕ) (m : MessageValue) (p : MessageType) (r : Option Recovery) → IsMessage octets m → type_at m.kind ≡ Some p → (type_row p).has_counter ≡ true
     → (has_row m.kind 3 0 ≡ true → option_map (λ (x : Recovery). OfRecovery x.0.0) r ≡ front_value (row_of 3 0 m)) → option_map (λ (x : Recovery). x.0.0) r ≡ recovery_of (message_of m)
@@ -275,11 +280,8 @@ counter_read octets m p r is at tells reads = by p (type_kind m.kind p at) tells
     by types.EchoRequest of tells = let a = echo_asked octets m of is in needed a.counter r (reads (ap (λ k. has_row k 3 0) of) ∙ ap front_value (its_row 1 3 0 _ m a.says)) ∙ ap recovery_of (sym (reads_so 1 _ m a.says))
     by types.EchoResponse of tells = let a = echo_answered octets m of is in needed a.counter r (reads (ap (λ k. has_row k 3 0) of) ∙ ap front_value (its_row 2 3 0 _ m a.says)) ∙ ap recovery_of (sym (reads_so 2 _ m a.says))
     by types.CreateSessionRequest of tells = so 32 _ (create_session_asked octets m of is).says refl refl
-    by types.CreateSessionResponse of tells = let a = says_of types.CreateSessionResponse octets m of is in so 33 a.0 a.1 refl refl
-    by types.DeleteSessionResponse of tells = let a = says_of types.DeleteSessionResponse octets m of is in so 37 a.0 a.1 refl refl
-    by types.CreateBearerResponse of tells = let a = says_of types.CreateBearerResponse octets m of is in so 96 a.0 a.1 refl refl
-    by types.DeleteBearerResponse of tells = let a = says_of types.DeleteBearerResponse octets m of is in so 100 a.0 a.1 refl refl
-    by p of tells = absurd (let never : false ≡ true = tells in cc)
+    by types.CreateBearerRequest of tells = absurd (let never : false ≡ true = tells in cc)
+    by p of tells = let a = says_of p octets m of is in so (type_row p).kind a.0 a.1 (counter_row p ∙ tells) cc
 
 -- a message of a type that has none tells no counter
 pub none_read : (m : MessageValue) (p : MessageType) → type_at m.kind ≡ Some p → (type_row p).has_counter ≡ false → recovery_of (message_of m) ≡ None
@@ -290,10 +292,8 @@ none_read m p at none = content m.content
     bearer f (g ∷ groups) = refl
 
     fields : (p : MessageType) → (type_row p).has_counter ≡ false → (f : List Field) → recovery_of (message_by (Some p) m.kind (written m.teid) m.seq f) ≡ None
-    fields types.DeleteSessionRequest none f = refl
     fields types.CreateBearerRequest none f = bearer f _
-    fields types.DeleteBearerRequest none f = refl
-    fields p none f = absurd (let never : true ≡ false = none in cc)
+    fields p none f = cc
 
     content : (c : Content) → recovery_of (content_message m.kind (written m.teid) m.seq c) ≡ None
     content (Fields f) = ap (λ t. recovery_of (message_by t m.kind (written m.teid) m.seq f)) at ∙ fields p none f

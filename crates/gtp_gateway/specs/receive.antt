@@ -8,6 +8,7 @@ pub mod CreateSessionRequest
 pub mod CreateSessionResponse
 pub mod DeleteBearerRequest
 pub mod DeleteBearerResponse
+pub mod DeleteRequest
 pub mod DeleteSessionRequest
 pub mod DeleteSessionResponse
 pub mod Echo

@@ -7,6 +7,7 @@ pub mod create_session_request;
 pub mod create_session_response;
 pub mod delete_bearer_request;
 pub mod delete_bearer_response;
+pub mod delete_request;
 pub mod delete_session_request;
 pub mod delete_session_response;
 pub mod dispatch;

@@ -20,7 +20,7 @@ use Rattle.gtp_machine.specs.Message as messages
 use Rattle.gtp_machine.specs.Node.{Arrival, Session, Node, Pending, written}
 use Rattle.gtp_machine.specs.Removal.{without_bearer}
 use Rattle.gtp_machine.specs.Serving.{DeleteBearerJudged, DeleteBearerAsked}
-use Rattle.gtp_gateway.specs.declared.receive.delete_session_request.DeleteRequest.{DeleteRequest}
+use Rattle.gtp_gateway.specs.declared.receive.delete_request.DeleteRequest.{DeleteRequest}
 use Rattle.gtp_gateway.specs.declared.receive.delete_bearer_request.identities.NamedBearer.{NamedBearer}
 use Rattle.gtp_gateway.specs.declared.receive.delete_bearer_request.DeleteBearerAnswer.{DeleteBearerAnswer}
 use Rattle.gtp_gateway.specs.declared.receive.delete_bearer_request.DeleteBearerVerdict.{DeleteBearerVerdict}

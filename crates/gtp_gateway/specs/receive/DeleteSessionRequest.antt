@@ -1,31 +1,20 @@
--- Requests that a gateway gets.
-use Rattle.gtp_ie.specs.Form.{number_of}
-use Rattle.gtp_ie.specs.declared.form.Form.TheVariants as forms
-use Rattle.std.specs.Prelude.{◌≡◌, ℕ, List, Some, true, option_map}
+-- Delete Session Requests, as the packet gateway takes them.
+use Rattle.std.specs.Prelude.{ℕ, List, Some}
 use Rattle.gtp_values.specs.declared.address.Endpoint.{Endpoint}
-use Rattle.gtp_ie.specs.Value.{OfEbi}
-use Rattle.gtp_v2.specs.Message.{MessageValue}
-use Rattle.gtp_v2.specs.Viewed.{has_row, row_of, front_value}
 use Rattle.gtp_machine.specs.Answer.{answered}
 use Rattle.gtp_machine.specs.Element.{cause_of}
 use Rattle.gtp_machine.specs.Input.{Effect}
 use Rattle.gtp_machine.specs.Message.{Delete_session_response}
 use Rattle.gtp_machine.specs.Message as messages
-use Rattle.gtp_machine.specs.Node.{Arrival, Node, written}
+use Rattle.gtp_machine.specs.Node.{Arrival, Node}
 use Rattle.gtp_machine.specs.Packet.{DeleteSessionJudged, DeleteSessionAsked}
-use Rattle.gtp_gateway.specs.declared.receive.delete_session_request.DeleteRequest.{DeleteRequest}
+use Rattle.gtp_gateway.specs.declared.receive.delete_request.DeleteRequest.{DeleteRequest}
 use Rattle.gtp_gateway.specs.declared.receive.delete_session_request.DeleteSessionVerdict.{DeleteSessionVerdict}
 use Rattle.gtp_gateway.specs.declared.step.ControlStep.{ControlStep}
 use Rattle.gtp_gateway.specs.tables.Change.{changed_by, CanChange}
 use Rattle.gtp_gateway.specs.Parts.{arrival_of}
 use Rattle.gtp_gateway.specs.receive.Row.{IsRow}
 use Rattle.gtp_gateway.specs.GatewayState.{GatewayState}
-
--- what was read of a message is what stands in its rows
-pub record ReadsDeleteSession (m : MessageValue) (r : DeleteRequest) : Type 0 where
-  pub number : r.seq ≡ m.seq
-  pub header : r.header.0 ≡ written m.teid
-  pub linked : has_row m.kind (number_of forms.Ebi) 0 ≡ true → option_map (λ e. OfEbi e) r.linked ≡ front_value (row_of (number_of forms.Ebi) 0 m)
 
 -- the machine's Delete Session Request that was read
 abbrev pub delete_session_by : DeleteRequest → messages.DeleteSessionRequest

@@ -22,7 +22,7 @@ use crate::messages::delete_bearer::delete_bearer_response;
 use crate::messages::elements::written_teid;
 use crate::parts::Parts;
 use crate::receive::create_bearer_request::judge::is_default;
-use crate::receive::delete_session_request::DeleteRequest;
+use crate::receive::delete_request::DeleteRequest;
 use crate::step::ControlStep;
 use crate::tables::change::Change;
 use crate::tables::contexts::is_session_pending;

@@ -1,10 +1,10 @@
 //! Delete Session Requests (TS 29.274 7.2.9.1).
 
 ghost use Rattle.gtp_gateway.specs.receive.Queues.{QueuesAfterMessage};
-ghost use Rattle.std.specs.Prelude.{◌≡◌, ◌↔◌, false, IsTrue, IfOk, OnOk, OnErr, option_map};
+ghost use Rattle.std.specs.Prelude.{◌≡◌, ◌↔◌, false, IsTrue, IfOk, OnOk, OnErr};
 ghost use Rattle.gtp_machine.specs.Node.{Arrival};
 ghost use Rattle.gtp_machine.specs.Packet.{IsLinkedTo, DeleteSessionAsked};
-ghost use Rattle.gtp_gateway.specs.receive.DeleteSessionRequest.{ReadsDeleteSession, delete_session_by, JudgesDeleteSession, TakesDeleteSessionRequest};
+ghost use Rattle.gtp_gateway.specs.receive.DeleteSessionRequest.{delete_session_by, JudgesDeleteSession, TakesDeleteSessionRequest};
 ghost use Rattle.gtp_gateway.specs.receive.Allocations.{AlwaysSendsOrOpens};
 ghost use Rattle.gtp_gateway.specs.Parts.{node_of};
 ghost use Rattle.gtp_gateway.specs.GatewayState.{state_of};
@@ -13,23 +13,13 @@ ghost use Rattle.gtp_gateway.specs.receive.Taken.{IsFresh};
 use crate::messages::delete_session::delete_session_response;
 use crate::messages::elements::written_teid;
 use crate::parts::Parts;
+use crate::receive::delete_request::DeleteRequest;
 use crate::step::ControlStep;
 use crate::tables::change::Change;
 use gtp_machine::{DropReason, Outcome, causes};
 use gtp_tables::Session;
-use gtp_v2::{EbiValue, MessageView};
-use gtp_values::{Below, Endpoint, Memory, Seq, Teid};
+use gtp_values::{Below, Endpoint, Memory, Teid};
 use std::alloc::Global;
-
-/// What a Delete Session Request says, and a Delete Bearer Request before its list of identities.
-#[derive(Clone, Copy)]
-pub struct DeleteRequest {
-    pub seq: Seq,
-    /// The TEID of its header.
-    pub header: Teid,
-    /// The linked EPS bearer identity.
-    pub linked: Option<Below<16>>,
-}
 
 /// What the request comes to: the header and the cause of its answer, and what changes.
 #[derive(Clone, Copy)]
@@ -37,24 +27,6 @@ pub struct DeleteSessionVerdict {
     pub header: Teid,
     pub cause: u8,
     pub change: Change,
-}
-
-/// What such a request says.
-pub fn delete_request_in(view: &MessageView<'_>) -> DeleteRequest
-    ensures { ReadsDeleteSession view.now.message result }
-{
-    DeleteRequest {
-        seq: view.seq(),
-        header: view.teid().unwrap_or(Teid(0)),
-        linked: identity_of(view.value(0)),
-    }
-}
-
-/// The identity in an element.
-fn identity_of(value: Option<EbiValue>) -> Option<Below<16>>
-    ensures { option_map (λ e. e) result ≡ option_map (λ v. v.0) value }
-{
-    Some(value?.0)
 }
 
 /// Whether the linked identity is absent, or the session's default.

@@ -20,7 +20,7 @@ use crate::receive::create_bearer_request::create_bearer_request_in;
 use crate::receive::create_bearer_response::create_bearer_response_in;
 use crate::receive::create_session_request::read::create_session_request_in;
 use crate::receive::create_session_response::create_session_response_in;
-use crate::receive::delete_session_request::delete_request_in;
+use crate::receive::delete_request::delete_request_in;
 use crate::receive::recovery::counter_in;
 use crate::receive::response::response_in;
 use crate::receive::restart_counter::Heard;

@@ -22,7 +22,7 @@ use crate::receive::delete_bearer_request::DeleteBearerAnswer;
 use crate::receive::delete_bearer_request::identities::{
     NamedBearer, cause_of_all, contexts_of, has_too_many, identities_in, is_named,
 };
-use crate::receive::delete_session_request::DeleteRequest;
+use crate::receive::delete_request::DeleteRequest;
 use crate::step::ControlStep;
 use crate::tables::change::Change;
 use gtp_machine::{Outcome, causes};
