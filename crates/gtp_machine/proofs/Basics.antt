@@ -8,3 +8,4 @@ pub mod Kinds
 pub mod Datagrams
 pub mod Templates
 pub mod Types
+pub mod Finishing

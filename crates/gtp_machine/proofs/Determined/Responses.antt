@@ -1,19 +1,20 @@
 -- Responses.
 use Rattle.std.proofs.Common.{◌≡◌, ℕ}
+use Rattle.gtp_machine.specs.Choice.{HasPending}
 use Rattle.gtp_machine.specs.Element.{PdnAddress}
-use Rattle.gtp_machine.specs.Message.{Echo, CreateSessionRequest, CreateSessionResponse, DeleteSessionResponse, CreateBearerResponse, DeleteBearerResponse}
+use Rattle.gtp_machine.specs.Message.{CreateSessionRequest, CreateSessionResponse, CreateBearerResponse}
 use Rattle.gtp_machine.specs.Node.{Role, Session, Node}
-use Rattle.gtp_machine.specs.Input.{Input}
-use Rattle.gtp_machine.specs.Response.{EchoAnswered}
-use Rattle.gtp_machine.specs.Serving.{OpensSession, CreateSessionAnswered, DeleteSessionAnswered}
-use Rattle.gtp_machine.specs.Packet.{OpensBearer, CreateBearerAnswered, DeleteBearerAnswered}
+use Rattle.gtp_machine.specs.Input.{Outcome, Input}
+use Rattle.gtp_machine.specs.Serving.{OpensSession, CreateSessionAnswered}
+use Rattle.gtp_machine.specs.Packet.{OpensBearer, CreateBearerAnswered}
+use Rattle.gtp_machine.proofs.Basics.Finishing.{Finishes}
 use Rattle.gtp_machine.proofs.Basics.Facts.{one_value}
 use Rattle.gtp_machine.proofs.Determined.Alike.{Alike, Determines, the_same, says_it, unless_plain, unless_moved, unless_one}
 use Rattle.gtp_machine.proofs.Determined.Witnesses.{one_pending}
 
 module _ {role : Role} {first : Node} {input : Input} (old : Node) where
-  pub echo_answered : (a : Echo) → Determines (Alike role first input) (EchoAnswered a old)
-  echo_answered a = unless_one (one_pending old a.number) says_it (λ at. unless_plain says_it says_it)
+  pub response_finishes : (number : ℕ) {Fits : HasPending old number → Type 0} {outcome : Outcome} → Determines (Alike role first input) (Finishes old number Fits outcome)
+  response_finishes number = unless_one (one_pending old number) says_it (λ at. unless_plain says_it says_it)
 
   opens_session : (a : CreateSessionResponse) (q : CreateSessionRequest) (session : ℕ) (s : Session) (address : PdnAddress) → Determines (Alike role first input) (OpensSession old a q session s address)
   opens_session a q session at address e f r s =
@@ -39,9 +40,6 @@ module _ {role : Role} {first : Node} {input : Input} (old : Node) where
       says_it (λ new.
       unless_plain says_it (opens_session a fits.request fits.session new.at.session new.address)))))
 
-  pub delete_session_answered : (d : DeleteSessionResponse) → Determines (Alike role first input) (DeleteSessionAnswered d old)
-  delete_session_answered d = unless_one (one_pending old d.number) says_it (λ at. unless_plain says_it says_it)
-
   opens_bearer : (x : CreateBearerResponse) (bearer : ℕ) → Determines (Alike role first input) (OpensBearer old x bearer)
   opens_bearer x bearer e f r s =
       let found : r.at.bearer ≡ s.at.bearer = one_value _ _ _ r.at.stands s.at.stands in
@@ -63,6 +61,3 @@ module _ {role : Role} {first : Node} {input : Input} (old : Node) where
       rw context at s)
       says_it (λ new.
       unless_plain says_it (unless_plain says_it (unless_plain says_it (opens_bearer x fits.bearer)))))))
-
-  pub delete_bearer_answered : (d : DeleteBearerResponse) → Determines (Alike role first input) (DeleteBearerAnswered d old)
-  delete_bearer_answered d = unless_one (one_pending old d.number) says_it (λ at. unless_plain says_it says_it)

@@ -29,7 +29,7 @@ use Rattle.gtp_machine.proofs.Determined.Witnesses.{IsLeft, apart_left, one_bear
 use Rattle.gtp_machine.proofs.Changes.Shrinking.{Shrinks-itself, Shrinks-restart}
 use Rattle.gtp_machine.proofs.Determined.Commands.{command_done}
 use Rattle.gtp_machine.proofs.Determined.Answers.{create_session_asked, delete_session_asked, create_bearer_asked, delete_bearer_asked, faulted_once}
-use Rattle.gtp_machine.proofs.Determined.Responses.{echo_answered, create_session_answered, delete_session_answered, create_bearer_answered, delete_bearer_answered}
+use Rattle.gtp_machine.proofs.Determined.Responses.{response_finishes, create_session_answered, create_bearer_answered}
 use Rattle.gtp_machine.proofs.Determined.Ticks.{move_made}
 
 -- ---- the peer's counter
@@ -73,20 +73,20 @@ module _ {role : Role} {input : Input} (Takes : Node → Effect → Type 0) (old
 module _ {reading : ControlReading} (request : Arrival) (old : Node) (fits : Fits old) where
   serving_takes : (m : Message) (node : Node) → IsLeft old node → Determines (Alike Serving old (Control_came request reading)) (ServingTakes request m node)
   serving_takes (Echo_request q) node left = says_it
-  serving_takes (Echo_response a) node left = echo_answered node a
+  serving_takes (Echo_response a) node left = response_finishes node a.number
   serving_takes (Create_session_response a) node left = create_session_answered node a
-  serving_takes (Delete_session_response d) node left = delete_session_answered node d
+  serving_takes (Delete_session_response d) node left = response_finishes node d.number
   serving_takes (Create_bearer_request q) node left = create_bearer_asked request node fits left q
   serving_takes (Delete_bearer_request d) node left = delete_bearer_asked request node (apart_left old node left.shrinks fits.apart) d
   serving_takes m node left = says_it
 
   packet_takes : (m : Message) (node : Node) → IsLeft old node → Determines (Alike Packet old (Control_came request reading)) (PacketTakes request m node)
   packet_takes (Echo_request q) node left = says_it
-  packet_takes (Echo_response a) node left = echo_answered node a
+  packet_takes (Echo_response a) node left = response_finishes node a.number
   packet_takes (Create_session_request q) node left = create_session_asked request node fits left q
   packet_takes (Delete_session_request d) node left = delete_session_asked request node d
   packet_takes (Create_bearer_response x) node left = create_bearer_answered node x
-  packet_takes (Delete_bearer_response d) node left = delete_bearer_answered node d
+  packet_takes (Delete_bearer_response d) node left = response_finishes node d.number
   packet_takes m node left = says_it
 
 module _ (role : Role) (Takes : Arrival → Message → Node → Effect → Type 0) (input : Input) (request : Arrival) (old : Node)

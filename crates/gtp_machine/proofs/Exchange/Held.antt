@@ -4,7 +4,7 @@ use Rattle.gtp_values.specs.FiniteMap.{Among}
 use Rattle.gtp_values.specs.declared.address.Endpoint.{Endpoint}
 use Rattle.gtp_machine.specs.Reading.{user_cut_fault}
 use Rattle.gtp_machine.specs.Config.{Addresses, Config, user_end}
-use Rattle.gtp_machine.specs.Message.{CreateSessionResponse, CreateBearerRequest, Message, Echo_request, Echo_response, Create_session_request, Create_session_response, Delete_session_request, Delete_session_response, Create_bearer_request, Create_bearer_response, Delete_bearer_request, Delete_bearer_response, Other_control, Plane, Control, User, plane_of}
+use Rattle.gtp_machine.specs.Message.{CreateSessionResponse, CreateBearerRequest, Message, Echo_request, Create_session_response, Create_bearer_request, Other_control, Plane, Control, User, plane_of}
 use Rattle.gtp_machine.specs.Node.{Role, Serving, Packet, Arrival, Held, Node}
 use Rattle.gtp_machine.specs.Input.{Move, Resend, Give_up, Forget, Input, Command, Commanded, Control_came, User_came, Control_message, Control_fault, UserReading, User_message, User_fault, Out, Effect, messages}
 use Rattle.gtp_machine.specs.Move.{MoveStep, AreLeft}
@@ -67,17 +67,7 @@ less_announced m a less same = let is : first_octet (spelled m) ≡ 88 = ap firs
 
 pub not_announcing : (m : Message) (a : CreateSessionResponse) → plane_of m ≡ Control → spelled m ≡ announcing (Create_session_response a) → ⊥
 not_announcing (Echo_request q) a control same = less_announced (Echo_request q) a (omega arith) same
-not_announcing (Echo_response q) a control same = less_announced (Echo_response q) a (omega arith) same
-not_announcing (Create_session_request q) a control same = less_announced (Create_session_request q) a (omega arith) same
-not_announcing (Create_session_response q) a control same = less_announced (Create_session_response q) a (omega arith) same
-not_announcing (Delete_session_request q) a control same = less_announced (Delete_session_request q) a (omega arith) same
-not_announcing (Delete_session_response q) a control same = less_announced (Delete_session_response q) a (omega arith) same
-not_announcing (Create_bearer_request q) a control same = less_announced (Create_bearer_request q) a (omega arith) same
-not_announcing (Create_bearer_response q) a control same = less_announced (Create_bearer_response q) a (omega arith) same
-not_announcing (Delete_bearer_request q) a control same = less_announced (Delete_bearer_request q) a (omega arith) same
-not_announcing (Delete_bearer_response q) a control same = less_announced (Delete_bearer_response q) a (omega arith) same
-not_announcing (Other_control kind) a control same = less_announced (Other_control kind) a (omega arith) same
-not_announcing m a control same = absurd (cc control)
+not_announcing m a control same = less_announced m a (omega arith) same
 
 -- each held answer is for a datagram that the other gateway sent
 abbrev pub HeldOfSent : World → Type 0

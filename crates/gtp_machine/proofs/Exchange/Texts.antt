@@ -1,5 +1,5 @@
 -- Two requests for a session, or two of their answers, with one encoding name one TEID.
-use Rattle.std.proofs.Common.{◌≡◌, ℕ, ◌/◌, ◌%◌, ◌^◌, ◌<◌, length, List, [], ◌∷◌, ◌++◌, drop, take, get_or, map, Option, Some, None, refl, sym, ◌∙◌, ap, arith}
+use Rattle.std.proofs.Common.{◌≡◌, ◌==◌, ◌&&◌, Bool, true, false, ℕ, ◌/◌, ◌%◌, ◌^◌, ◌<◌, length, List, [], ◌∷◌, ◌++◌, drop, take, get_or, map, Option, Some, None, refl, sym, ◌∙◌, ap, arith}
 use Rattle.std.proofs.lemmas.List.{length-append}
 use Rattle.gtp_values.specs.Plmn.{Network}
 use Rattle.gtp_values.specs.TunnelEnd.{TunnelEnd}
@@ -12,7 +12,7 @@ use Rattle.gtp_ie.proofs.Again.{charging_id_again}
 use Rattle.gtp_v2.specs.Encoding.{carried}
 use Rattle.gtp_v2.specs.CreateSessionResponse.{session_response_context_rows}
 use Rattle.gtp_v2.specs.Text.{value_encoding, groups_encoding}
-use Rattle.gtp_machine.specs.Message.{CreateSessionRequest, CreateSessionResponse, CreatedBearer, Message, Echo_request, Echo_response, Create_session_request, Create_session_response, Delete_session_request, Delete_session_response, Create_bearer_request, Create_bearer_response, Delete_bearer_request, Delete_bearer_response, Other_control, Control, plane_of}
+use Rattle.gtp_machine.specs.Message.{CreateSessionRequest, CreateSessionResponse, CreatedBearer, Message, Create_session_request, Create_session_response, Control, plane_of}
 use Rattle.gtp_machine.specs.Spelling.{control_value, created_rows, spelled, where_there}
 
 -- lists that begin with parts of one length
@@ -38,6 +38,13 @@ same_element kind instance b c r s short is =
 -- the first octet of a text
 abbrev opens_with : List ℕ → ℕ
 opens_with text = get_or text 0 0
+
+-- the text begins as that of a message with a TEID and of this type
+abbrev opens_as : ℕ → List ℕ → Bool
+opens_as kind text = (opens_with text == 72) && (get_or text 1 0 == kind)
+
+unlike : {A : Type 0} (kind : ℕ) (text other : List ℕ) → opens_as kind text ≡ false → opens_as kind other ≡ true → text ≡ other → A
+unlike kind text other apart like same = absurd (let no : false ≡ true = sym apart ∙ (ap (opens_as kind) same ∙ like) in cc)
 
 -- a number is what its four octets say
 said_back : (n : ℕ) → n < 2 ^ 32 → n ≡ charging_id_in (encoding_of (OfChargingId n))
@@ -69,17 +76,7 @@ pub record IsRequestLike (n : Message) (q : CreateSessionRequest) : Type 0 where
 
 pub request_like : (n : Message) (q : CreateSessionRequest) → plane_of n ≡ Control → spelled n ≡ spelled (Create_session_request q) → IsRequestLike n q
 request_like (Create_session_request p) q plane text = record { request = p; is = refl; after = ap (drop 12) text }
-request_like (Echo_request e) q plane text = let first : 64 ≡ 72 = ap opens_with text in absurd (omega (arith, first))
-request_like (Echo_response e) q plane text = let first : 64 ≡ 72 = ap opens_with text in absurd (omega (arith, first))
-request_like (Create_session_response a) q plane text = let kind : 33 ≡ 32 = ap (λ l. get_or l 1 0) text in absurd (omega (arith, kind))
-request_like (Delete_session_request d) q plane text = let kind : 36 ≡ 32 = ap (λ l. get_or l 1 0) text in absurd (omega (arith, kind))
-request_like (Delete_session_response d) q plane text = let kind : 37 ≡ 32 = ap (λ l. get_or l 1 0) text in absurd (omega (arith, kind))
-request_like (Create_bearer_request r) q plane text = let kind : 95 ≡ 32 = ap (λ l. get_or l 1 0) text in absurd (omega (arith, kind))
-request_like (Create_bearer_response x) q plane text = let kind : 96 ≡ 32 = ap (λ l. get_or l 1 0) text in absurd (omega (arith, kind))
-request_like (Delete_bearer_request d) q plane text = let kind : 99 ≡ 32 = ap (λ l. get_or l 1 0) text in absurd (omega (arith, kind))
-request_like (Delete_bearer_response d) q plane text = let kind : 100 ≡ 32 = ap (λ l. get_or l 1 0) text in absurd (omega (arith, kind))
-request_like (Other_control kind) q plane text = let first : 64 ≡ 72 = ap opens_with text in absurd (omega (arith, first))
-request_like _ q plane text = absurd (cc plane)
+request_like n q plane text = unlike 32 (spelled n) (spelled (Create_session_request q)) refl refl text
 
 -- a message with the text of an answer to a request for a session is one
 pub record IsResponseLike (n : Message) (a : CreateSessionResponse) : Type 0 where
@@ -89,17 +86,7 @@ pub record IsResponseLike (n : Message) (a : CreateSessionResponse) : Type 0 whe
 
 pub response_like : (n : Message) (a : CreateSessionResponse) → plane_of n ≡ Control → spelled n ≡ spelled (Create_session_response a) → IsResponseLike n a
 response_like (Create_session_response x) a plane text = record { response = x; is = refl; after = ap (drop 12) text }
-response_like (Echo_request e) a plane text = let first : 64 ≡ 72 = ap opens_with text in absurd (omega (arith, first))
-response_like (Echo_response e) a plane text = let first : 64 ≡ 72 = ap opens_with text in absurd (omega (arith, first))
-response_like (Create_session_request q) a plane text = let kind : 32 ≡ 33 = ap (λ l. get_or l 1 0) text in absurd (omega (arith, kind))
-response_like (Delete_session_request d) a plane text = let kind : 36 ≡ 33 = ap (λ l. get_or l 1 0) text in absurd (omega (arith, kind))
-response_like (Delete_session_response d) a plane text = let kind : 37 ≡ 33 = ap (λ l. get_or l 1 0) text in absurd (omega (arith, kind))
-response_like (Create_bearer_request r) a plane text = let kind : 95 ≡ 33 = ap (λ l. get_or l 1 0) text in absurd (omega (arith, kind))
-response_like (Create_bearer_response x) a plane text = let kind : 96 ≡ 33 = ap (λ l. get_or l 1 0) text in absurd (omega (arith, kind))
-response_like (Delete_bearer_request d) a plane text = let kind : 99 ≡ 33 = ap (λ l. get_or l 1 0) text in absurd (omega (arith, kind))
-response_like (Delete_bearer_response d) a plane text = let kind : 100 ≡ 33 = ap (λ l. get_or l 1 0) text in absurd (omega (arith, kind))
-response_like (Other_control kind) a plane text = let first : 64 ≡ 72 = ap opens_with text in absurd (omega (arith, first))
-response_like _ a plane text = absurd (cc plane)
+response_like n a plane text = unlike 33 (spelled n) (spelled (Create_session_response a)) refl refl text
 
 -- what is left of a text is no longer
 left_short : (c s : List ℕ) → length (c ++ s) < 65536 → length s < 65536

@@ -6,21 +6,22 @@ use Rattle.gtp_values.specs.declared.counter.Age.{Age}
 use Rattle.gtp_values.specs.declared.counter.Age.TheVariants.{Same, Later, Earlier}
 use Rattle.gtp_values.specs.declared.qos.Qos.{Qos}
 use Rattle.gtp_values.specs.FiniteMap.{Each, Among}
+use Rattle.gtp_machine.specs.Choice.{HasPending}
 use Rattle.gtp_machine.specs.Step.{Step}
 use Rattle.gtp_machine.specs.Message.{Message, CreateSessionRequest, CreateBearerRequest, DeleteBearerRequest, DeleteSessionRequest, Create_session_request, Create_session_response, Create_bearer_request, Create_bearer_response, Other_control, Packet_data, End_marker, Error_indication, User_echo_request, recovery_of, Plane, Control, User}
 use Rattle.gtp_machine.specs.Node.{Role, Serving, Packet, Session, Bearer, PendingRequest, Arrival, Held, Node, written}
-use Rattle.gtp_machine.specs.Input.{Specification, Command, Create_session, Delete_session, Create_bearer, Delete_bearer, Release_session, Mark_end, Send_echo, Send_user, ControlReading, Control_message, Faulty, Control_fault, UserReading, User_message, Extension_needed, User_fault, Move, Resend, Give_up, Forget, Input, Commanded, Control_came, User_came, Moves_on, Effect, messages}
+use Rattle.gtp_machine.specs.Input.{Outcome, Specification, Command, Create_session, Delete_session, Create_bearer, Delete_bearer, Release_session, Mark_end, Send_echo, Send_user, ControlReading, Control_message, Faulty, Control_fault, UserReading, User_message, Extension_needed, User_fault, Move, Resend, Give_up, Forget, Input, Commanded, Control_came, User_came, Moves_on, Effect, messages}
 use Rattle.gtp_machine.specs.Recovery.{Judges, Weighs, Hears, peer_restarted}
-use Rattle.gtp_machine.specs.Response.{EchoAnswered}
 use Rattle.gtp_machine.specs.User.{PacketCame, EndCame, ErrorCame, UserTaken, UserRead, UserStep}
 use Rattle.gtp_machine.specs.Command.{SessionBegun, SessionDeleted, BearerBegun, BearerDeleted, SessionReleased, EndMarked, EchoBegun, PacketSent, CommandStep}
 use Rattle.gtp_machine.specs.MessageType.{takes_message}
 use Rattle.gtp_machine.specs.Answer.{TakesReading, ControlStep}
 use Rattle.gtp_machine.specs.Move.{MoveStep}
-use Rattle.gtp_machine.specs.Serving.{CreateSessionAnswered, DeleteSessionAnswered, CreateBearerAsked, DeleteBearerTaken, DeleteBearerAsked, ServingTakes}
+use Rattle.gtp_machine.specs.Serving.{CreateSessionAnswered, CreateBearerAsked, DeleteBearerTaken, DeleteBearerAsked, ServingTakes}
 use Rattle.gtp_machine.specs.Config.{template_for}
+use Rattle.gtp_machine.proofs.Basics.Finishing.{Finishes, on_finish}
 use Rattle.gtp_machine.proofs.Basics.Templates.{goes}
-use Rattle.gtp_machine.specs.Packet.{session_cause, session_response, made_session, session_made, CreateSessionAsked, DeleteSessionAsked, CreateBearerAnswered, DeleteBearerAnswered, PacketTakes}
+use Rattle.gtp_machine.specs.Packet.{session_cause, session_response, made_session, session_made, CreateSessionAsked, DeleteSessionAsked, CreateBearerAnswered, PacketTakes}
 use Rattle.gtp_machine.specs.World.{other, Sent, HasSent, signed}
 use Rattle.gtp_machine.specs.Laws.{TeidWasDrawn, NamedTeidWasDrawn, EachNamedTeidWasDrawn}
 use Rattle.gtp_machine.proofs.Basics.FiniteMaps.{Among-cases}
@@ -150,10 +151,8 @@ module _ (history : List Sent) (role : Role) where
     moves (Give_up number) e r = at e _ r.gives silent
     moves (Forget request) e r = at e _ r.gives silent
 
-    echo_answered : (a : _) (e : Effect) → EchoAnswered a old e → Told history role e
-    echo_answered a e (inl f) = at e _ f.1 silent
-    echo_answered a e (inr (b, inl f)) = at e _ f.1 silent
-    echo_answered a e (inr (b, inr (c, r))) = at e _ r silent
+    response_finishes : {number : ℕ} {Fits : HasPending old number → Type 0} {outcome : Outcome} (e : Effect) → Finishes old number Fits outcome e → Told history role e
+    response_finishes e r = on_finish old e (λ why f. at e _ f silent) (λ here f. at e _ f silent) r
 
     packet_came : (by : Role) (target : ℕ) (payload : List ℕ) (e : Effect) → NamedTeidWasDrawn history (other role) (Packet_data target payload) → PacketCame by target payload old e → Told history role e
     packet_came by target payload e named (inl f) = at e _ f.1 (one _ (λ not. twice history role target (named not)))
@@ -227,11 +226,6 @@ module _ (history : List Sent) where
     create_session_answered a e (inr (b, inr (c, inr (d, inr (g, inl f))))) = at history Serving e _ f.1 (silent history Serving)
     create_session_answered a e (inr (b, inr (c, inr (d, inr (g, inr (h, r)))))) = at history Serving e _ r.gives (silent history Serving)
 
-    delete_session_answered : (d : _) (e : Effect) → DeleteSessionAnswered d old e → Told history Serving e
-    delete_session_answered d e (inl f) = at history Serving e _ f.1 (silent history Serving)
-    delete_session_answered d e (inr (a, inl f)) = at history Serving e _ f.1 (silent history Serving)
-    delete_session_answered d e (inr (a, inr (b, r))) = at history Serving e _ r (silent history Serving)
-
     create_bearer_asked : (request : Arrival) (q : CreateBearerRequest) (e : Effect) → CreateBearerAsked request q old e → Told history Serving e
     create_bearer_asked request q e (inl f) = at history Serving e _ f.1 (silent history Serving)
     create_bearer_asked request q e (inr (a, inl f)) = at history Serving e _ f.1 (one history Serving _ (none_named history Serving))
@@ -257,9 +251,9 @@ module _ (history : List Sent) where
   serving_takes request =
       by_serving (λ m. (old : Node) → Back history Serving old → (e : Effect) → ServingTakes request m old e → Told history Serving e)
       (λ q old back e r. at history Serving e _ r (one history Serving _ (none_named history Serving)))
-      (λ a old back e r. echo_answered history Serving old back a e r)
+      (λ a old back e r. response_finishes history Serving old back e r)
       (λ a old back e r. create_session_answered old back a e r)
-      (λ d old back e r. delete_session_answered old back d e r)
+      (λ d old back e r. response_finishes history Serving old back e r)
       (λ q old back e r. create_bearer_asked old back request q e r)
       (λ d old back e r. delete_bearer_asked old back request d e r)
       (λ m drops old back e r. at history Serving e _ (drops.only request old e r) (silent history Serving))
@@ -296,20 +290,15 @@ module _ (history : List Sent) where
     create_bearer_answered x e (inr (a, inr (b, inr (c, inr (d, inr (g, inr (h, inl f))))))) = at history Packet e _ f.1 (silent history Packet)
     create_bearer_answered x e (inr (a, inr (b, inr (c, inr (d, inr (g, inr (h, inr (k, r)))))))) = at history Packet e _ r.gives (silent history Packet)
 
-    delete_bearer_answered : (d : _) (e : Effect) → DeleteBearerAnswered d old e → Told history Packet e
-    delete_bearer_answered d e (inl f) = at history Packet e _ f.1 (silent history Packet)
-    delete_bearer_answered d e (inr (a, inl f)) = at history Packet e _ f.1 (silent history Packet)
-    delete_bearer_answered d e (inr (a, inr (b, r))) = at history Packet e _ r (silent history Packet)
-
   packet_takes : (request : Arrival) (m : Message) → HasSent history Serving m → (old : Node) → Back history Packet old → (e : Effect) → PacketTakes request m old e → Told history Packet e
   packet_takes request =
       by_packet (λ m. HasSent history Serving m → (old : Node) → Back history Packet old → (e : Effect) → PacketTakes request m old e → Told history Packet e)
       (λ q came old back e r. at history Packet e _ r (one history Packet _ (none_named history Packet)))
-      (λ a came old back e r. echo_answered history Packet old back a e r)
+      (λ a came old back e r. response_finishes history Packet old back e r)
       (λ q came old back e r. create_session_asked old back request q came e r)
       (λ d came old back e r. delete_session_asked old back request d e r)
       (λ x came old back e r. create_bearer_answered old back x e r)
-      (λ d came old back e r. delete_bearer_answered old back d e r)
+      (λ d came old back e r. response_finishes history Packet old back e r)
       (λ m drops came old back e r. at history Packet e _ (drops.only request old e r) (silent history Packet))
 
   -- what was read, at either gateway

@@ -5,21 +5,24 @@ use Rattle.gtp_values.specs.declared.address.Endpoint.{Endpoint}
 use Rattle.gtp_values.specs.declared.counter.Age.{Age}
 use Rattle.gtp_values.specs.declared.counter.Age.TheVariants.{Same, Later, Earlier}
 use Rattle.gtp_values.specs.declared.qos.Qos.{Qos}
+use Rattle.gtp_machine.specs.Choice.{HasPending}
 use Rattle.gtp_machine.specs.Element.{cause_of}
+use Rattle.gtp_machine.specs.Ordered.{Unless}
 use Rattle.gtp_machine.specs.Message.{Message, DeleteBearerRequest, Delete_bearer_response, Packet_data, End_marker, Error_indication, recovery_of}
 use Rattle.gtp_machine.specs.Node.{Role, Serving, Packet, Session, PendingRequest, Arrival, Held, Node, written}
 use Rattle.gtp_machine.specs.Input.{Command, Create_session, Delete_session, Create_bearer, Delete_bearer, Release_session, Mark_end, Send_echo, Send_user, ControlReading, Control_message, Faulty, Control_fault, Control_came, UserReading, User_message, Extension_needed, User_fault, Outcome, Effect, messages, datagrams}
 use Rattle.gtp_machine.specs.Recovery.{Judges, Weighs, Hears}
-use Rattle.gtp_machine.specs.Response.{EchoAnswered, finishing}
+use Rattle.gtp_machine.specs.Response.{finishing}
 use Rattle.gtp_machine.specs.User.{PacketCame, EndCame, ErrorCame, UserTaken, UserRead, UserStep}
 use Rattle.gtp_machine.specs.Step.{Step}
 use Rattle.gtp_machine.specs.Answer.{IsNew, TakesReading, ControlStep}
 use Rattle.gtp_machine.specs.MessageType.{answers_type}
 use Rattle.gtp_machine.specs.Command.{SessionBegun, SessionDeleted, BearerBegun, BearerDeleted, SessionReleased, EndMarked, EchoBegun, PacketSent, CommandStep}
-use Rattle.gtp_machine.specs.Serving.{CreateSessionAnswered, DeleteSessionAnswered, CreateBearerAsked, DeleteBearerTaken, DeleteBearerAsked, removal_cause, ServingTakes}
+use Rattle.gtp_machine.specs.Serving.{CreateSessionAnswered, CreateBearerAsked, DeleteBearerTaken, DeleteBearerAsked, removal_cause, ServingTakes}
 use Rattle.gtp_machine.specs.Config.{template_for}
+use Rattle.gtp_machine.proofs.Basics.Finishing.{Finishes, on_finish}
 use Rattle.gtp_machine.proofs.Basics.Templates.{goes}
-use Rattle.gtp_machine.specs.Packet.{session_cause, session_response, made_session, session_made, CreateSessionAsked, DeleteSessionAsked, CreateBearerAnswered, DeleteBearerAnswered, PacketTakes}
+use Rattle.gtp_machine.specs.Packet.{session_cause, session_response, made_session, session_made, CreateSessionAsked, DeleteSessionAsked, CreateBearerAnswered, PacketTakes}
 use Rattle.gtp_machine.proofs.Changes.Shrinking.{Shrunk-finished, removes_each}
 use Rattle.gtp_machine.proofs.Basics.Kinds.{creates, is_create_answer, faulted_leaves, by_serving, by_packet}
 
@@ -47,60 +50,40 @@ Calm old e = seen_in e ≡ (old.held, true)
 pub keeps_calm : (old : Node) (e : Effect) → Calm old e → Keeps old e
 keeps_calm old e calm = ap (λ (s : List Held × Bool). s.0) calm
 
+-- what follows from a refusal, and from all that comes next, follows from a rule
+by_cases : {G P Fails : Type 0} {Next : P → Type 0} → (Fails → G) → ((p : P) → Next p → G) → Unless P Fails Next → G
+by_cases fails next (inl f) = fails f.1
+by_cases fails next (inr (p, r)) = next p r
+
 session_begun_calm : (role : Role) (spec : _) (old : Node) (e : Effect) → SessionBegun role spec old e → Calm old e
 session_begun_calm Packet spec old e r = ap seen_in r
-session_begun_calm Serving spec old e (inl f) = ap seen_in f.1
-session_begun_calm Serving spec old e (inr (a, inl f)) = ap seen_in f.1
-session_begun_calm Serving spec old e (inr (a, inr (b, inl f))) = ap seen_in f.1
-session_begun_calm Serving spec old e (inr (a, inr (b, inr (c, r)))) = ap seen_in r.gives
+session_begun_calm Serving spec old e r = by_cases (ap seen_in) (λ _. by_cases (ap seen_in) (λ _. by_cases (ap seen_in) (λ _ r. ap seen_in r.gives))) r
 
 session_deleted_calm : (role : Role) (session : ℕ) (old : Node) (e : Effect) → SessionDeleted role session old e → Calm old e
 session_deleted_calm Packet session old e r = ap seen_in r
-session_deleted_calm Serving session old e (inl f) = ap seen_in f.1
-session_deleted_calm Serving session old e (inr (a, inl f)) = ap seen_in f.1
-session_deleted_calm Serving session old e (inr (a, inr (b, inl f))) = ap seen_in f.1
-session_deleted_calm Serving session old e (inr (a, inr (b, inr (c, r)))) = ap seen_in r.gives
+session_deleted_calm Serving session old e r = by_cases (ap seen_in) (λ _. by_cases (ap seen_in) (λ _. by_cases (ap seen_in) (λ _ r. ap seen_in r.gives))) r
 
 bearer_begun_calm : (role : Role) (session : ℕ) (tft : List ℕ) (qos : Qos) (old : Node) (e : Effect) → BearerBegun role session tft qos old e → Calm old e
 bearer_begun_calm Serving session tft qos old e r = ap seen_in r
-bearer_begun_calm Packet session tft qos old e (inl f) = ap seen_in f.1
-bearer_begun_calm Packet session tft qos old e (inr (a, inl f)) = ap seen_in f.1
-bearer_begun_calm Packet session tft qos old e (inr (a, inr (b, inl f))) = ap seen_in f.1
-bearer_begun_calm Packet session tft qos old e (inr (a, inr (b, inr (c, inl f)))) = ap seen_in f.1
-bearer_begun_calm Packet session tft qos old e (inr (a, inr (b, inr (c, inr (d, r))))) = ap seen_in r.gives
+bearer_begun_calm Packet session tft qos old e r = by_cases (ap seen_in) (λ _. by_cases (ap seen_in) (λ _. by_cases (ap seen_in) (λ _. by_cases (ap seen_in) (λ _ r. ap seen_in r.gives)))) r
 
 bearer_deleted_calm : (role : Role) (session identity : ℕ) (old : Node) (e : Effect) → BearerDeleted role session identity old e → Calm old e
 bearer_deleted_calm Serving session identity old e r = ap seen_in r
-bearer_deleted_calm Packet session identity old e (inl f) = ap seen_in f.1
-bearer_deleted_calm Packet session identity old e (inr (a, inl f)) = ap seen_in f.1
-bearer_deleted_calm Packet session identity old e (inr (a, inr (b, inl f))) = ap seen_in f.1
-bearer_deleted_calm Packet session identity old e (inr (a, inr (b, inr (c, inl f)))) = ap seen_in f.1
-bearer_deleted_calm Packet session identity old e (inr (a, inr (b, inr (c, inr (d, r))))) = ap seen_in r.gives
+bearer_deleted_calm Packet session identity old e r = by_cases (ap seen_in) (λ _. by_cases (ap seen_in) (λ _. by_cases (ap seen_in) (λ _. by_cases (ap seen_in) (λ _ r. ap seen_in r.gives)))) r
 
 session_released_calm : (role : Role) (session : ℕ) (old : Node) (e : Effect) → SessionReleased role session old e → Calm old e
 session_released_calm Serving session old e r = ap seen_in r
-session_released_calm Packet session old e (inl f) = ap seen_in f.1
-session_released_calm Packet session old e (inr (a, inl f)) = ap seen_in f.1
-session_released_calm Packet session old e (inr (a, inr (b, inl f))) = ap seen_in f.1
-session_released_calm Packet session old e (inr (a, inr (b, inr (c, r)))) = ap seen_in r.gives
+session_released_calm Packet session old e r = by_cases (ap seen_in) (λ _. by_cases (ap seen_in) (λ _. by_cases (ap seen_in) (λ _ r. ap seen_in r.gives))) r
 
 end_marked_calm : (role : Role) (bearer : ℕ) (old : Node) (e : Effect) → EndMarked role bearer old e → Calm old e
 end_marked_calm Serving bearer old e r = ap seen_in r
-end_marked_calm Packet bearer old e (inl f) = ap seen_in f.1
-end_marked_calm Packet bearer old e (inr (a, inl f)) = ap seen_in f.1
-end_marked_calm Packet bearer old e (inr (a, inr (b, inl f))) = ap seen_in f.1
-end_marked_calm Packet bearer old e (inr (a, inr (b, inr (c, r)))) = ap seen_in r
+end_marked_calm Packet bearer old e r = by_cases (ap seen_in) (λ _. by_cases (ap seen_in) (λ _. by_cases (ap seen_in) (λ _ r. ap seen_in r))) r
 
 packet_sent_calm : (role : Role) (bearer : ℕ) (payload : List ℕ) (old : Node) (e : Effect) → PacketSent role bearer payload old e → Calm old e
-packet_sent_calm role bearer payload old e (inl f) = ap seen_in f.1
-packet_sent_calm role bearer payload old e (inr (a, inl f)) = ap seen_in f.1
-packet_sent_calm role bearer payload old e (inr (a, inr (b, inl f))) = ap seen_in f.1
-packet_sent_calm role bearer payload old e (inr (a, inr (b, inr (c, inl f)))) = ap seen_in f.1
-packet_sent_calm role bearer payload old e (inr (a, inr (b, inr (c, inr (d, r))))) = ap seen_in r.gives
+packet_sent_calm role bearer payload old e r = by_cases (ap seen_in) (λ _. by_cases (ap seen_in) (λ _. by_cases (ap seen_in) (λ _. by_cases (ap seen_in) (λ _ r. ap seen_in r.gives)))) r
 
 echo_begun_calm : (old : Node) (e : Effect) → EchoBegun old e → Calm old e
-echo_begun_calm old e (inl f) = ap seen_in f.1
-echo_begun_calm old e (inr (a, r)) = ap seen_in r.gives
+echo_begun_calm old e r = by_cases (ap seen_in) (λ _ r. ap seen_in r.gives) r
 
 pub command_calm : (role : Role) (command : Command) (old : Node) (e : Effect) → CommandStep role command old e → Calm old e
 command_calm role (Create_session spec) old e r = session_begun_calm role spec old e r
@@ -185,10 +168,8 @@ module _ (request : Arrival) (old : Node) (e : Effect) where
   answers : {create : Bool} (m : Message) (f : Effect) → e ≡ f → f.node.held ≡ old.held ++ (record { request = request; answer = m ∷ [] } ∷ []) → is_create_answer m ≡ create → datagrams f.out.sent ≡ (m ∷ []) ∷ [] → Answers request create old e
   answers m f gives same is sends = inr (record { answer = m; more = []; is = is; plain = refl; held = ap held_in gives ∙ same; sends = ap (λ (f : Effect). datagrams f.out.sent) gives ∙ sends })
 
-  echo_answered_answers : (a : _) → EchoAnswered a old e → Answers request false old e
-  echo_answered_answers a (inl f) = drops _ f.1 refl
-  echo_answered_answers a (inr (b, inl f)) = drops _ f.1 refl
-  echo_answered_answers a (inr (b, inr (c, r))) = ends _ b.pending _ r
+  finished_answers : {number : ℕ} {Fits : HasPending old number → Type 0} {outcome : Outcome} → Finishes old number Fits outcome e → Answers request false old e
+  finished_answers r = on_finish old e (λ why f. drops _ f refl) (λ at f. ends _ at.pending _ f) r
 
   session_answered_answers : (a : _) → CreateSessionAnswered a old e → Answers request false old e
   session_answered_answers a (inl f) = drops _ f.1 refl
@@ -197,11 +178,6 @@ module _ (request : Arrival) (old : Node) (e : Effect) where
   session_answered_answers a (inr (b, inr (c, inr (d, inl f)))) = drops _ f.1 refl
   session_answered_answers a (inr (b, inr (c, inr (d, inr (g, inl f))))) = ends _ b.pending _ f.1
   session_answered_answers a (inr (b, inr (c, inr (d, inr (g, inr (h, r)))))) = drops _ r.gives refl
-
-  delete_session_answered_answers : (d : _) → DeleteSessionAnswered d old e → Answers request false old e
-  delete_session_answered_answers d (inl f) = drops _ f.1 refl
-  delete_session_answered_answers d (inr (b, inl f)) = drops _ f.1 refl
-  delete_session_answered_answers d (inr (b, inr (c, r))) = ends _ b.pending _ r
 
   bearer_asked_answers : (q : _) → CreateBearerAsked request q old e → Answers request true old e
   bearer_asked_answers q (inl f) = drops _ f.1 refl
@@ -255,18 +231,13 @@ module _ (request : Arrival) (old : Node) (e : Effect) where
   bearer_answered_answers x (inr (a, inr (b, inr (c, inr (d, inr (g, inr (h, inl f))))))) = ends _ a.pending _ f.1
   bearer_answered_answers x (inr (a, inr (b, inr (c, inr (d, inr (g, inr (h, inr (i, r)))))))) = drops _ r.gives refl
 
-  delete_bearer_answered_answers : (d : _) → DeleteBearerAnswered d old e → Answers request false old e
-  delete_bearer_answered_answers d (inl f) = drops _ f.1 refl
-  delete_bearer_answered_answers d (inr (b, inl f)) = drops _ f.1 refl
-  delete_bearer_answered_answers d (inr (b, inr (c, r))) = ends _ b.pending _ r
-
   pub serving_answers : (m : Message) → ServingTakes request m old e → Answers request (creates Serving m) old e
   serving_answers =
       by_serving (λ m. ServingTakes request m old e → Answers request (creates Serving m) old e)
       (λ q r. drops _ r refl)
-      echo_answered_answers
+      (λ d r. finished_answers r)
       session_answered_answers
-      delete_session_answered_answers
+      (λ d r. finished_answers r)
       bearer_asked_answers
       delete_bearer_asked_answers
       (λ m dropped r. drops _ (dropped.only request old e r) refl)
@@ -275,11 +246,11 @@ module _ (request : Arrival) (old : Node) (e : Effect) where
   packet_answers =
       by_packet (λ m. PacketTakes request m old e → Answers request (creates Packet m) old e)
       (λ q r. drops _ r refl)
-      echo_answered_answers
+      (λ d r. finished_answers r)
       session_asked_answers
       delete_session_asked_answers
       bearer_answered_answers
-      delete_bearer_answered_answers
+      (λ d r. finished_answers r)
       (λ m dropped r. drops _ (dropped.only request old e r) refl)
 
 -- hearing the counter first changes nothing that is held

@@ -6,7 +6,7 @@ use Rattle.gtp_values.specs.declared.cause.Cause.{Cause}
 use Rattle.gtp_values.specs.declared.qos.Qos.{Qos}
 use Rattle.gtp_values.specs.FiniteMap.{FiniteMap, Each, Among}
 use Rattle.gtp_machine.specs.Element.{IsAccepting, cause_of, cause_at, teid_in}
-use Rattle.gtp_machine.specs.Message.{CreateSessionRequest, CreateSessionResponse, DeleteSessionRequest, DeleteSessionResponse, CreateBearerRequest, CreateBearerResponse, DeleteBearerResponse, Message, Create_session_request, Create_session_response, Delete_session_response, Create_bearer_request, Create_bearer_response, Packet_data, Owns, recovery_of, first_returned}
+use Rattle.gtp_machine.specs.Message.{CreateSessionRequest, CreateSessionResponse, DeleteSessionRequest, DeleteSessionResponse, CreateBearerRequest, CreateBearerResponse, Message, Create_session_request, Create_session_response, Delete_session_response, Create_bearer_request, Create_bearer_response, Packet_data, Owns, recovery_of, first_returned}
 use Rattle.gtp_machine.specs.Node.{Serving, Packet, Active, Closing, Session, Bearer, PendingRequest, Arrival, Held, Node, holding, written}
 use Rattle.gtp_machine.specs.Input.{Came_to, Begun, Opened, Answered, Effect}
 use Rattle.gtp_machine.specs.Choice.{IsFree, HasPending, counter_of}
@@ -15,7 +15,7 @@ use Rattle.gtp_machine.specs.Config.{template_for}
 use Rattle.gtp_machine.specs.Command.{bearer_request, create_bearer_asked, pending_dedicated, BeginsBearer, BearerBegun}
 use Rattle.gtp_machine.specs.Answer.{answered, making}
 use Rattle.gtp_values.proofs.Allocations.{address_back}
-use Rattle.gtp_machine.specs.Packet.{session_cause, session_response, made_session, made_bearer, session_made, MakesSession, session_refused, CreateSessionAsked, DeleteSessionAsked, FitsCreateBearer, DescribesBearer, CanOpen, opened_dedicated, OpensBearer, CreateBearerAnswered, DeleteBearerAnswered, PacketTakes}
+use Rattle.gtp_machine.specs.Packet.{session_cause, session_response, made_session, made_bearer, session_made, MakesSession, session_refused, CreateSessionAsked, DeleteSessionAsked, FitsCreateBearer, DescribesBearer, CanOpen, opened_dedicated, OpensBearer, CreateBearerAnswered, PacketTakes}
 use Rattle.gtp_machine.specs.World.{By, Sent, HasSent, signed}
 use Rattle.gtp_machine.proofs.Basics.FiniteMaps.{Each-insert, Each-remove, found-remove, get-insert_same, Among-left, Among-right, Among-cases, Among-last}
 use Rattle.gtp_machine.proofs.Origins.Drawing.{Extends, Extends-signed, Draws-nothing, Draws-new, pair_apart, one_more_drawn, two_more_drawn, TellsStart, IsProper, IsMadeNow, by_before, by_now, by_cases}
@@ -26,7 +26,7 @@ use Rattle.gtp_machine.proofs.Origins.Entries.{Once, answer_not_request}
 use Rattle.gtp_machine.proofs.Changes.Steps.{Logs-silent, Logs-plain, at_result, NothingOwns}
 use Rattle.gtp_machine.proofs.Changes.After.{IsPending, IsStanding, IsReady, Knows, After, Knows-later, nothing_told, later, held_now, matched_session, matched_bearer, with_new_session}
 use Rattle.gtp_machine.proofs.Rows.Common.{unchanged}
-use Rattle.gtp_machine.proofs.Rows.Taking.{active_not_closing, Took, took, drops, ends, gives_answer, takes_echo, takes_echo_response}
+use Rattle.gtp_machine.proofs.Rows.Taking.{active_not_closing, Took, took, drops, ends, gives_answer, takes_echo, takes_response}
 use Rattle.gtp_values.proofs.Outcomes.{none_some}
 use Rattle.gtp_machine.proofs.Basics.Options.{not_below}
 use Rattle.gtp_machine.proofs.Basics.Kinds.{by_packet}
@@ -389,18 +389,13 @@ module _ (history : List Sent) (taken : Arrival → Message → Type 0) (serving
     create_bearer_answered x e came (inr (at, inr (fits, inr (accepts, inr (new, inr (both, inr (returned, inl f))))))) = ends Packet history taken old knows x.number at.pending _ e f.1
     create_bearer_answered x e came (inr (at, inr (fits, inr (accepts, inr (new, inr (both, inr (returned, inr (can, r)))))))) = opens x came at fits accepts new both returned can e r
 
-    delete_bearer_answered : (d : DeleteBearerResponse) (e : Effect) → DeleteBearerAnswered d old e → Took Packet history taken old e
-    delete_bearer_answered d e (inl f) = drops Packet history taken old knows _ e f.1
-    delete_bearer_answered d e (inr (at, inl f)) = drops Packet history taken old knows _ e f.1
-    delete_bearer_answered d e (inr (at, inr (fits, gives))) = ends Packet history taken old knows d.number at.pending _ e gives
-
     pub packet_taken : (unowned : NothingOwns history Packet old) (request : Arrival) (m : Message) (e : Effect) → HasSent history Serving m → taken request m → ((c : ℕ) → recovery_of m ≡ Some c → old.known ≡ Some c) → PacketTakes request m old e → Took Packet history taken old e
     packet_taken unowned request =
         by_packet (λ m. (e : Effect) → HasSent history Serving m → taken request m → ((c : ℕ) → recovery_of m ≡ Some c → old.known ≡ Some c) → PacketTakes request m old e → Took Packet history taken old e)
         (λ q e came is told r. takes_echo Packet history taken old knows request q e r)
-        (λ a e came is told r. takes_echo_response Packet history taken old knows a e r)
+        (λ a e came is told r. takes_response Packet history taken old knows e r)
         (λ q e came is told r. create_session_asked unowned request q e came is told r)
         (λ d e came is told r. delete_session_asked request d e r)
         (λ x e came is told r. create_bearer_answered x e came r)
-        (λ d e came is told r. delete_bearer_answered d e r)
+        (λ d e came is told r. takes_response Packet history taken old knows e r)
         (λ m dropped e came is told r. drops Packet history taken old knows _ e (dropped.only request old e r))

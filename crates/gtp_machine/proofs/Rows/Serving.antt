@@ -4,14 +4,14 @@ use Rattle.std.proofs.lemmas.Bool.{cases_eq}
 use Rattle.std.specs.FinMap.{get, insert, remove}
 use Rattle.gtp_values.specs.FiniteMap.{Each, Among}
 use Rattle.gtp_machine.specs.Element.{IsAccepting}
-use Rattle.gtp_machine.specs.Message.{CreateSessionRequest, CreateSessionResponse, DeleteSessionResponse, CreateBearerRequest, GivenBearer, CreateBearerResponse, DeleteBearerRequest, DeleteBearerResponse, Message, Create_session_request, Create_session_response, Create_bearer_request, Create_bearer_response, Delete_bearer_response, Packet_data, Owns, recovery_of, first_given}
+use Rattle.gtp_machine.specs.Message.{CreateSessionRequest, CreateSessionResponse, CreateBearerRequest, GivenBearer, CreateBearerResponse, DeleteBearerRequest, DeleteBearerResponse, Message, Create_session_request, Create_session_response, Create_bearer_request, Create_bearer_response, Delete_bearer_response, Packet_data, Owns, recovery_of, first_given}
 use Rattle.gtp_machine.specs.Node.{Serving, Packet, Pending, Active, Closing, Session, Bearer, PendingRequest, Arrival, Held, Node, holding, written}
 use Rattle.gtp_machine.specs.Input.{Came_to, Specification, Begun, Opened, Effect}
 use Rattle.gtp_machine.specs.Choice.{IsFree, HasPending, HasSession, counter_of}
 use Rattle.gtp_machine.specs.Removal.{without_session}
 use Rattle.gtp_machine.specs.Command.{session_request, pending_session, pending_bearer, session_begun, BeginsSession, SessionBegun}
 use Rattle.gtp_machine.specs.Answer.{answered}
-use Rattle.gtp_machine.specs.Serving.{FitsCreateSession, DescribesSession, opened_session, opened_bearer, OpensSession, CreateSessionAnswered, DeleteSessionAnswered, bearer_response, granted_bearer, MakesBearer, no_resources, bearer_refused, CreateBearerAsked, DeleteBearerTaken, DeleteBearerAsked, ServingTakes, removal_cause}
+use Rattle.gtp_machine.specs.Serving.{FitsCreateSession, DescribesSession, opened_session, opened_bearer, OpensSession, CreateSessionAnswered, bearer_response, granted_bearer, MakesBearer, no_resources, bearer_refused, CreateBearerAsked, DeleteBearerTaken, DeleteBearerAsked, ServingTakes, removal_cause}
 use Rattle.gtp_machine.specs.World.{Sent, HasSent, signed}
 use Rattle.gtp_machine.proofs.Basics.FiniteMaps.{Each-insert, Each-remove, found-remove, get-insert_same, get-insert_other, Among-left, Among-last}
 use Rattle.gtp_machine.proofs.Origins.Drawing.{Draws-nothing, Draws-new, one_more_drawn, two_more_drawn, TellsStart, IsProper, by_before, by_now}
@@ -22,7 +22,7 @@ use Rattle.gtp_machine.proofs.Origins.Entries.{Once, same_request, same_user_req
 use Rattle.gtp_machine.proofs.Changes.Steps.{IsAnsweredNow, Logs-silent, Logs-plain, at_result, NothingOwns}
 use Rattle.gtp_machine.proofs.Changes.After.{IsPending, IsStanding, IsReady, Knows, After, nothing_told, later, held_now, matched_session, matched_bearer, with_new_session}
 use Rattle.gtp_machine.proofs.Rows.Common.{unchanged}
-use Rattle.gtp_machine.proofs.Rows.Taking.{active_not_closing, Took, took, drops, ends, gives_answer, takes_echo, takes_echo_response, named_written}
+use Rattle.gtp_machine.proofs.Rows.Taking.{active_not_closing, Took, took, drops, ends, gives_answer, takes_echo, takes_response, named_written}
 use Rattle.gtp_values.proofs.Outcomes.{none_some}
 use Rattle.gtp_machine.proofs.Basics.Options.{not_below}
 use Rattle.gtp_machine.proofs.Basics.Kinds.{by_serving}
@@ -235,11 +235,6 @@ module _ (history : List Sent) (taken : Arrival → Message → Type 0) (serving
     create_session_answered a e came told (inr (at, inr (fits, inr (accepts, inr (new, inl f))))) = ends Serving history taken old knows a.number at.pending _ e f.1
     create_session_answered a e came told (inr (at, inr (fits, inr (accepts, inr (new, inr (both, r)))))) = opens a came told at fits accepts new e r
 
-    delete_session_answered : (d : DeleteSessionResponse) (e : Effect) → DeleteSessionAnswered d old e → Took Serving history taken old e
-    delete_session_answered d e (inl f) = drops Serving history taken old knows _ e f.1
-    delete_session_answered d e (inr (at, inl f)) = drops Serving history taken old knows _ e f.1
-    delete_session_answered d e (inr (at, inr (fits, gives))) = ends Serving history taken old knows d.number at.pending _ e gives
-
     makes : (unowned : NothingOwns history Serving old) (request : Arrival) (q : CreateBearerRequest) (at : HasSession old q.header) (e : Effect) → at.session.state ≡ Active → HasSent history Packet (Create_bearer_request q) → taken request (Create_bearer_request q) → MakesBearer request old q at.session e → Took Serving history taken old e
     makes unowned request q at e active came is_taken r =
         let x = bearer_response old q at.session r.user r.identity in
@@ -359,9 +354,9 @@ module _ (history : List Sent) (taken : Arrival → Message → Type 0) (serving
     serving_taken unowned request =
         by_serving (λ m. (e : Effect) → HasSent history Packet m → taken request m → ((c : ℕ) → recovery_of m ≡ Some c → old.known ≡ Some c) → ServingTakes request m old e → Took Serving history taken old e)
         (λ q e came is told r. takes_echo Serving history taken old knows request q e r)
-        (λ a e came is told r. takes_echo_response Serving history taken old knows a e r)
+        (λ a e came is told r. takes_response Serving history taken old knows e r)
         (λ a e came is told r. create_session_answered a e came told r)
-        (λ d e came is told r. delete_session_answered d e r)
+        (λ d e came is told r. takes_response Serving history taken old knows e r)
         (λ q e came is told r. create_bearer_asked unowned request q e came is r)
         (λ d e came is told r. delete_bearer_asked request d e r)
         (λ m dropped e came is told r. drops Serving history taken old knows _ e (dropped.only request old e r))

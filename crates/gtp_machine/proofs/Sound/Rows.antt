@@ -11,22 +11,22 @@ use Rattle.gtp_values.specs.Number.{is_number}
 use Rattle.gtp_tables.specs.Index.{names}
 use Rattle.gtp_machine.specs.Step.{Done, Steps}
 use Rattle.gtp_machine.specs.Element.{IsAccepting}
-use Rattle.gtp_machine.specs.Message.{Echo, CreateSessionRequest, CreateSessionResponse, DeleteSessionRequest, DeleteSessionResponse, CreateBearerRequest, CreateBearerResponse, DeleteBearerRequest, RemovedBearer, DeleteBearerResponse, Message, Create_session_response, Create_bearer_request, Create_bearer_response, Packet_data, End_marker, Error_indication, recovery_of, first_created, first_given, first_identity}
+use Rattle.gtp_machine.specs.Message.{CreateSessionRequest, CreateSessionResponse, DeleteSessionRequest, CreateBearerRequest, CreateBearerResponse, DeleteBearerRequest, RemovedBearer, Message, Create_session_response, Create_bearer_request, Create_bearer_response, Packet_data, End_marker, Error_indication, recovery_of, first_created, first_given, first_identity}
 use Rattle.gtp_machine.specs.Node.{Role, Serving, Packet, Pending, Active, Closing, Default, Dedicated, Session, Bearer, Arrival, Held, Node, holding, fresh_node}
-use Rattle.gtp_machine.specs.Input.{Specification, ControlReading, Control_message, Faulty, Control_fault, UserReading, User_message, Extension_needed, User_fault, Command, Create_session, Delete_session, Create_bearer, Delete_bearer, Release_session, Mark_end, Send_echo, Send_user, Move, Resend, Give_up, Forget, Commanded, Control_came, User_came, Moves_on, Effect, Came_to, Begun, says}
+use Rattle.gtp_machine.specs.Input.{Outcome, Specification, ControlReading, Control_message, Faulty, Control_fault, UserReading, User_message, Extension_needed, User_fault, Command, Create_session, Delete_session, Create_bearer, Delete_bearer, Release_session, Mark_end, Send_echo, Send_user, Move, Resend, Give_up, Forget, Commanded, Control_came, User_came, Moves_on, Effect, Came_to, Begun, says}
 use Rattle.gtp_machine.specs.Choice.{IsFreeNumber, HasPending, IsIdentity}
 use Rattle.gtp_machine.specs.Removal.{without, finished, without_session, without_bearer, session_closing, closing_session, is_opened}
 use Rattle.gtp_machine.specs.Recovery.{peer_restarted, Judges, Weighs, Hears}
 use Rattle.gtp_machine.specs.Move.{MoveStep}
-use Rattle.gtp_machine.specs.Response.{EchoAnswered}
 use Rattle.gtp_machine.specs.User.{UserTaken, UserStep, ended_bearer, default_among}
 use Rattle.gtp_machine.specs.Command.{asks, session_request, pending_session, pending_bearer, session_begun, BeginsSession, bearer_request, create_bearer_asked as begun_bearer, pending_dedicated, BeginsBearer, ClosesBearer, CommandStep}
 use Rattle.gtp_machine.specs.Answer.{TakesReading, ControlStep}
 use Rattle.gtp_machine.specs.MessageType.{answers_type}
-use Rattle.gtp_machine.specs.Serving.{FitsCreateSession, DescribesSession, opened_session, opened_bearer, OpensSession, CreateSessionAnswered, DeleteSessionAnswered, granted_bearer, CreateBearerAsked, RemovesEach, DeleteBearerTaken, DeleteBearerAsked, ServingTakes}
+use Rattle.gtp_machine.specs.Serving.{FitsCreateSession, DescribesSession, opened_session, opened_bearer, OpensSession, CreateSessionAnswered, granted_bearer, CreateBearerAsked, RemovesEach, DeleteBearerTaken, DeleteBearerAsked, ServingTakes}
 use Rattle.gtp_machine.specs.Config.{control_end, template_for}
+use Rattle.gtp_machine.proofs.Basics.Finishing.{Finishes, on_finish}
 use Rattle.gtp_machine.proofs.Basics.Templates.{goes}
-use Rattle.gtp_machine.specs.Packet.{session_cause, session_response, made_session, made_bearer, session_made, CreateSessionAsked, DeleteSessionAsked, FitsCreateBearer, DescribesBearer, CanOpen, opened_dedicated, OpensBearer, CreateBearerAnswered, DeleteBearerAnswered, PacketTakes}
+use Rattle.gtp_machine.specs.Packet.{session_cause, session_response, made_session, made_bearer, session_made, CreateSessionAsked, DeleteSessionAsked, FitsCreateBearer, DescribesBearer, CanOpen, opened_dedicated, OpensBearer, CreateBearerAnswered, PacketTakes}
 use Rattle.gtp_machine.specs.Sound.{At, IsInState, IsBearerOf, DeletesSession, IsSound, NamesItsEnds, IsWellFormed, AreWellFormed, StaysSound, ReachedIsSound}
 use Rattle.gtp_machine.proofs.Basics.FiniteMaps.{get-insert_same}
 use Rattle.gtp_machine.proofs.Sound.Parts.{at_here, no_delete_session}
@@ -188,10 +188,8 @@ module _ (old : Node) where
   ends : (role : Role) → IsSound role old → (number : ℕ) (at : HasPending old number) → IsSound role (finished old number at.pending)
   ends role sound number at = finished_sound role old sound number at.pending at.waits
 
-  echo_answered : (role : Role) → IsSound role old → (a : Echo) (e : Effect) → EchoAnswered a old e → IsSound role e.node
-  echo_answered role sound a e (inl f) = by_row role e _ f.1 sound
-  echo_answered role sound a e (inr (at, inl f)) = by_row role e _ f.1 sound
-  echo_answered role sound a e (inr (at, inr (fits, gives))) = by_row role e _ gives (ends role sound a.number at)
+  response_finishes : (role : Role) → IsSound role old → {number : ℕ} {Fits : HasPending old number → Type 0} {outcome : Outcome} (e : Effect) → Finishes old number Fits outcome e → IsSound role e.node
+  response_finishes role sound e r = on_finish old e (λ why f. by_row role e _ f sound) (λ at f. by_row role e _ f (ends role sound _ at)) r
 
   module _ (sound : IsSound Serving old) where
     opens : (a : CreateSessionResponse) → NamesItsEnds (Create_session_response a) → (at : HasPending old a.number) (fits : FitsCreateSession at.pending a) → IsAccepting a.cause → (new : DescribesSession old fits.session a) → IsAccepting new.context.cause → (e : Effect) → OpensSession old a fits.request fits.session new.at.session new.address e → IsSound Serving e.node
@@ -219,11 +217,6 @@ module _ (old : Node) where
     create_session_answered a whole e (inr (at, inr (fits, inr (accepts, inl f)))) = by_row Serving e _ f.1 sound
     create_session_answered a whole e (inr (at, inr (fits, inr (accepts, inr (new, inl f))))) = by_row Serving e _ f.1 (ends Serving sound a.number at)
     create_session_answered a whole e (inr (at, inr (fits, inr (accepts, inr (new, inr (both, r)))))) = opens a whole at fits accepts new both e r
-
-    delete_session_answered : (d : DeleteSessionResponse) (e : Effect) → DeleteSessionAnswered d old e → IsSound Serving e.node
-    delete_session_answered d e (inl f) = by_row Serving e _ f.1 sound
-    delete_session_answered d e (inr (at, inl f)) = by_row Serving e _ f.1 sound
-    delete_session_answered d e (inr (at, inr (fits, gives))) = by_row Serving e _ gives (ends Serving sound d.number at)
 
     holds : (role : Role) → IsSound role old → (request : Arrival) (answer : List Message) → length old.held < 4096 → IsSound role (holding request answer old)
     holds role s request answer room = holding_sound role old s request answer room
@@ -266,9 +259,9 @@ module _ (old : Node) where
     serving_takes request =
         by_serving (λ m. NamesItsEnds m → (e : Effect) → ServingTakes request m old e → IsSound Serving e.node)
         (λ q whole e r. by_row Serving e _ r sound)
-        (λ a whole e r. echo_answered Serving sound a e r)
+        (λ a whole e r. response_finishes Serving sound e r)
         (λ a whole e r. create_session_answered sound a whole e r)
-        (λ d whole e r. delete_session_answered sound d e r)
+        (λ d whole e r. response_finishes Serving sound e r)
         (λ q whole e r. create_bearer_asked sound request q e r)
         (λ d whole e r. delete_bearer_asked request d e r)
         (λ m drops whole e r. by_row Serving e _ (drops.only request old e r) sound)
@@ -333,20 +326,15 @@ module _ (old : Node) where
     create_bearer_answered x whole e (inr (at, inr (fits, inr (accepts, inr (new, inr (both, inr (returned, inl f))))))) = by_row Packet e _ f.1 (ends Packet sound x.number at)
     create_bearer_answered x whole e (inr (at, inr (fits, inr (accepts, inr (new, inr (both, inr (returned, inr (can, r)))))))) = opens_bearer x whole at fits accepts new both can e r
 
-    delete_bearer_answered : (d : DeleteBearerResponse) (e : Effect) → DeleteBearerAnswered d old e → IsSound Packet e.node
-    delete_bearer_answered d e (inl f) = by_row Packet e _ f.1 sound
-    delete_bearer_answered d e (inr (at, inl f)) = by_row Packet e _ f.1 sound
-    delete_bearer_answered d e (inr (at, inr (fits, gives))) = by_row Packet e _ gives (ends Packet sound d.number at)
-
     packet_takes : (request : Arrival) (m : Message) → NamesItsEnds m → (e : Effect) → PacketTakes request m old e → IsSound Packet e.node
     packet_takes request =
         by_packet (λ m. NamesItsEnds m → (e : Effect) → PacketTakes request m old e → IsSound Packet e.node)
         (λ q whole e r. by_row Packet e _ r sound)
-        (λ a whole e r. echo_answered Packet sound a e r)
+        (λ a whole e r. response_finishes Packet sound e r)
         (λ q whole e r. create_session_asked request q e r)
         (λ d whole e r. delete_session_asked request d e r)
         (λ x whole e r. create_bearer_answered x whole e r)
-        (λ d whole e r. delete_bearer_answered d e r)
+        (λ d whole e r. response_finishes Packet sound e r)
         (λ m drops whole e r. by_row Packet e _ (drops.only request old e r) sound)
 
 -- a counter is heard, and then the message is taken

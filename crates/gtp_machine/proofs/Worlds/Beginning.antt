@@ -17,9 +17,9 @@ use Rattle.gtp_machine.specs.Message.{Message, plane_of, CreateSessionRequest, C
 use Rattle.gtp_machine.specs.Node.{Role, Serving, Packet, Session, PendingRequest, Arrival, Node}
 use Rattle.gtp_machine.specs.Input.{Input, Specification, Create_session, Commanded, Opened, Effect, nothing}
 use Rattle.gtp_machine.specs.Choice.{IsFreeAddress, HasFreeAddress, IsGiven, CanGive}
-use Rattle.gtp_machine.specs.Command.{asks, session_request, session_begun, pending_session, pending_bearer}
+use Rattle.gtp_machine.specs.Command.{CommandStep, asks, session_request, session_begun, pending_session, pending_bearer}
 use Rattle.gtp_machine.specs.Answer.{making}
-use Rattle.gtp_machine.specs.Serving.{opened_session, opened_bearer}
+use Rattle.gtp_machine.specs.Serving.{opened_session, opened_bearer, CreateSessionAnswered}
 use Rattle.gtp_machine.specs.Packet.{session_cause, session_response, session_made}
 use Rattle.gtp_machine.specs.World.{logged, side_of, delivered_on, World, Moves, Delivers, moved, noted, note_of, Came_to, start, arrival}
 use Rattle.gtp_machine.proofs.Worlds.Coming.{on_time}
@@ -74,7 +74,7 @@ no_sessions = subst (λ k. k < 1000) (sym (len-empty nat_cmp Session)) (omega ar
 pub none_pending : len (empty {X = PendingRequest} {R = nat_cmp}) < 256
 none_pending = subst (λ k. k < 256) (sym (len-empty nat_cmp PendingRequest)) (omega arith)
 
-control_not_user : control ≢ user
+pub control_not_user : control ≢ user
 control_not_user e = omega arith
 
 -- the world after a step, with its note and the step
@@ -167,30 +167,29 @@ module _ (pdn count : ℕ) (address : PdnAddress) where
   abbrev pub w3 : World
   w3 = after w2 Serving (from_packet (Create_session_response a)) (heard opened)
 
-  pub step1 : Moves (w0 count) Serving (Commanded (Create_session (spec pdn))) w1
-  step1 = record {
-    effect = e1;
-    step = inr (
-      record { few = no_sessions },
+  pub session_asked : CommandStep Serving (Create_session (spec pdn)) (w0 count).serving.node e1
+  session_asked = inr (
+    record { few = no_sessions },
+    inr (
+      record { left = omega arith },
       inr (
-        record { left = omega arith },
-        inr (
-          record { few = none_pending },
-          record {
-            control = control;
-            user = user;
-            number = 0;
-            control_free = record { counted = refl; numbered = omega arith; undrawn = λ none. none };
-            user_free = record { counted = refl; numbered = omega arith; undrawn = λ none. none };
-            apart = control_not_user;
-            number_free = record { unused = get-empty nat_cmp 0; small = omega arith };
-            gives = refl;
-          },
-        ),
+        record { few = none_pending },
+        record {
+          control = control;
+          user = user;
+          number = 0;
+          control_free = record { counted = refl; numbered = omega arith; undrawn = λ none. none };
+          user_free = record { counted = refl; numbered = omega arith; undrawn = λ none. none };
+          apart = control_not_user;
+          number_free = record { unused = get-empty nat_cmp 0; small = omega arith };
+          gives = refl;
+        },
       ),
-    );
-    becomes = refl;
-  }
+    ),
+  )
+
+  pub step1 : Moves (w0 count) Serving (Commanded (Create_session (spec pdn))) w1
+  step1 = record { effect = e1; step = session_asked; becomes = refl }
 
   module _ (given : IsGiven packet_heard pdn address) where
     can : CanGive packet_heard pdn
@@ -249,6 +248,27 @@ module _ (pdn count : ℕ) (address : PdnAddress) where
       },
     )
 
+    pub session_answered : CreateSessionAnswered a serving_heard opened
+    session_answered = inr (
+      record { pending = record { session = Some control; bearer = None; request = Create_session_request q }; waits = get-insert_same empty 0 _ },
+      inr (
+        record { request = q; asked = refl; session = control; about = refl; named = inl refl },
+        inr (
+          accepts_cause pdn address,
+          inr (
+            record { at = record { session = pending_session q; stands = get-insert_same empty control (pending_session q) }; context = record { identity = 5; cause = cause_of 16; user = Some (tunnel_end 5 user packet_ip); qos = Some plain_qos; charging = Some user }; alone = refl; default = refl; address = address; given = address_back 64 address given.some_part },
+            inr (
+              record { low = omega arith; high = omega arith },
+              record {
+                default = record { bearer = pending_bearer control q; stands = get-insert_same empty user (pending_bearer control q) };
+                gives = refl;
+              },
+            ),
+          ),
+        ),
+      ),
+    )
+
     pub step3 : Delivers w2 Packet (Create_session_response a ∷ []) w3
     step3 = on_time w2 Packet (Create_session_response a) w3 (
       λ none. none,
@@ -262,25 +282,7 @@ module _ (pdn count : ℕ) (address : PdnAddress) where
               refl,
               (
                 opened,
-                inr (
-                  record { pending = record { session = Some control; bearer = None; request = Create_session_request q }; waits = get-insert_same empty 0 _ },
-                  inr (
-                    record { request = q; asked = refl; session = control; about = refl; named = inl refl },
-                    inr (
-                      accepts_cause pdn address,
-                      inr (
-                        record { at = record { session = pending_session q; stands = get-insert_same empty control (pending_session q) }; context = record { identity = 5; cause = cause_of 16; user = Some (tunnel_end 5 user packet_ip); qos = Some plain_qos; charging = Some user }; alone = refl; default = refl; address = address; given = address_back 64 address given.some_part },
-                        inr (
-                          record { low = omega arith; high = omega arith },
-                          record {
-                            default = record { bearer = pending_bearer control q; stands = get-insert_same empty user (pending_bearer control q) };
-                            gives = refl;
-                          },
-                        ),
-                      ),
-                    ),
-                  ),
-                ),
+                session_answered,
                 refl,
               ),
             ),

@@ -1,17 +1,18 @@
 -- A run in which both gateways come to have sessions and dedicated bearers that name each other, and a packet is accepted.
-use Rattle.std.proofs.Common.{◌≡◌, ◌≢◌, ◌<◌, ◌⊎◌, inl, inr, ℕ, List, [], ◌∷◌, Option, Some, None, refl, sym, ◌∙◌, ap, arith}
+use Rattle.std.proofs.Common.{◌≡◌, ◌≢◌, ◌<◌, ◌⊎◌, inl, inr, ℕ, List, [], ◌∷◌, Option, Some, None, refl, sym, ◌∙◌, ap, subst, arith}
 use Rattle.std.specs.FinMap.{get, insert, remove, empty, get-empty}
 use Rattle.std.specs.Ordering.{nat_cmp}
+use Rattle.gtp_values.specs.FiniteMap.{Among, FiniteMap}
 use Rattle.gtp_machine.specs.Config.{user_end}
 use Rattle.gtp_machine.specs.Element.{cause_of, tunnel_end}
-use Rattle.gtp_machine.specs.Message.{CreateSessionRequest, CreateSessionResponse, CreateBearerRequest, CreateBearerResponse, Create_session_request, Create_session_response, Create_bearer_request, Create_bearer_response, Packet_data, subscriber_of}
-use Rattle.gtp_machine.specs.Node.{Serving, Packet, Session, Bearer, Arrival, Held}
+use Rattle.gtp_machine.specs.Message.{CreateSessionRequest, CreateSessionResponse, CreateBearerRequest, CreateBearerResponse, Create_session_request, Create_session_response, Create_bearer_request, Create_bearer_response, Packet_data, subscriber_of, Message}
+use Rattle.gtp_machine.specs.Node.{Serving, Packet, Session, Bearer, PendingRequest, Arrival, Held, Node}
 use Rattle.gtp_machine.specs.Input.{Came_to, Specification, Create_session, Create_bearer, Send_user, Commanded, Opened, Accepted, GoneOut, Entry, Effect, entry_for, nothing, says}
 use Rattle.gtp_machine.specs.Choice.{IsFreeIdentity, IsUnused}
 use Rattle.gtp_machine.specs.Command.{asks, pending_session, pending_bearer, bearer_request, pending_dedicated}
 use Rattle.gtp_machine.specs.Answer.{making, IsNew}
-use Rattle.gtp_machine.specs.Serving.{opened_bearer, bearer_response, granted_bearer}
-use Rattle.gtp_machine.specs.Packet.{made_session, made_bearer, opened_dedicated, CanOpen}
+use Rattle.gtp_machine.specs.Serving.{opened_bearer, bearer_response, granted_bearer, CreateBearerAsked}
+use Rattle.gtp_machine.specs.Packet.{made_session, made_bearer, opened_dedicated, CanOpen, CreateBearerAnswered}
 use Rattle.gtp_machine.specs.World.{World, Moves, Delivers, arrival}
 use Rattle.gtp_machine.proofs.Worlds.Coming.{on_time}
 use Rattle.gtp_machine.proofs.Basics.FiniteMaps.{get-insert_same, found-insert, found-empty}
@@ -52,7 +53,7 @@ user_not_dedicated e = omega arith
 control_not_dedicated : control ≢ dedicated
 control_not_dedicated e = omega arith
 
-dedicated_undrawn : (dedicated ≡ user) ⊎ ((dedicated ≡ control) ⊎ ⊥) → ⊥
+pub dedicated_undrawn : (dedicated ≡ user) ⊎ ((dedicated ≡ control) ⊎ ⊥) → ⊥
 dedicated_undrawn (inl e) = user_not_dedicated (sym e)
 dedicated_undrawn (inr (inl e)) = control_not_dedicated (sym e)
 dedicated_undrawn (inr (inr none)) = none
@@ -96,8 +97,14 @@ w5 = after w4 Serving (from_packet (Create_bearer_request r)) e5
 abbrev pub at_packet_bearer : Bearer
 at_packet_bearer = opened_dedicated (pending_dedicated control) x
 
+abbrev pub awaited : PendingRequest
+awaited = record { session = Some control; bearer = Some dedicated; request = Create_bearer_request r }
+
+abbrev pub opens_bearer : Node → Effect
+opens_bearer n = record { out = nothing; outcome = Came_to Opened; node = record n { bearers = insert n.bearers dedicated at_packet_bearer; pending = remove n.pending 0 } }
+
 abbrev pub given : Effect
-given = record { out = nothing; outcome = Came_to Opened; node = record w5.packet.node { bearers = insert w5.packet.node.bearers dedicated at_packet_bearer; pending = remove w5.packet.node.pending 0 } }
+given = opens_bearer w5.packet.node
 
 abbrev pub w6 : World
 w6 = after w5 Packet (from_serving (Create_bearer_response x)) (heard given)
@@ -168,6 +175,34 @@ free_identity = record { range = record { low = omega arith; high = omega arith 
       ]
     ]
 
+-- the request is granted
+pub bearer_granted : CreateBearerAsked wanted r w4.serving.node e5
+bearer_granted = inr (
+  record { few = omega arith },
+  inr (
+    record { session = at_serving; stands = serving_stands },
+    inr (
+      refl,
+      inr (
+        refl,
+        inr (
+          refl,
+          inr (
+            (record { identity = 6; free = free_identity }, record { left = omega arith }),
+            record {
+              user = dedicated;
+              identity = 6;
+              user_free = record { counted = refl; numbered = omega arith; undrawn = dedicated_undrawn };
+              identity_free = free_identity;
+              gives = refl;
+            },
+          ),
+        ),
+      ),
+    ),
+  ),
+)
+
 pub step5 : Delivers w4 Packet (Create_bearer_request r ∷ []) w5
 step5 = on_time w4 Packet (Create_bearer_request r) w5 (
   λ none. none,
@@ -179,31 +214,7 @@ step5 = on_time w4 Packet (Create_bearer_request r) w5 (
         λ held none. absurd none,
         inr (
           refl,
-          inr (
-            record { few = omega arith },
-            inr (
-              record { session = at_serving; stands = serving_stands },
-              inr (
-                refl,
-                inr (
-                  refl,
-                  inr (
-                    refl,
-                    inr (
-                      (record { identity = 6; free = free_identity }, record { left = omega arith }),
-                      record {
-                        user = dedicated;
-                        identity = 6;
-                        user_free = record { counted = refl; numbered = omega arith; undrawn = dedicated_undrawn };
-                        identity_free = free_identity;
-                        gives = refl;
-                      },
-                    ),
-                  ),
-                ),
-              ),
-            ),
-          ),
+          bearer_granted,
         ),
       ),
     );
@@ -216,30 +227,62 @@ abbrev pub second : List ℕ → ℕ
 second (first ∷ kind ∷ rest) = kind
 second octets = 0
 
--- its answer to the Create Session Request is held for that alone
-new_to_packet : IsNew w5.packet.node (arrival serving_config.own (Create_bearer_response x))
-new_to_packet held (inl is) same = apart (ap second (ap (λ (k : Held). k.request.octets) (sym is) ∙ ap (λ (k : Arrival). k.octets) same))
+-- where the answer to the Create Session Request alone is held, the Create Bearer Response is new
+pub new_beside : (n : Node) (answer : List Message) → n.held ≡ record { request = asked; answer = answer } ∷ [] → IsNew n (arrival serving_config.own (Create_bearer_response x))
+new_beside n answer only held stands same = by (subst (λ hs. Among held hs) only stands)
   where
     apart : ◌≡◌ {A = ℕ} 32 96 → ⊥
     apart e = omega arith
-new_to_packet held (inr none) same = none
 
-can_open : CanOpen w5.packet.node control 6
-can_open = record {
-  range = record { low = omega arith; high = omega arith };
-  unused = unused;
-  at = record { session = at_packet; stands = get-insert_same empty control at_packet };
-  not_closing = λ e. cc e;
-}
-  where
-    unused : IsUnused w5.packet.node control 6
-    unused t b stands of is = elim (found-insert (insert empty user (made_bearer q control)) dedicated (pending_dedicated control) t b stands) [
-      | inl same ↦ none_not_six (ap (λ (k : Bearer). k.identity) same.1 ∙ is)
-      | inr old ↦ elim (found-insert empty user (made_bearer q control) t b old.1) [
-        | inl same ↦ five_not_six (ap (λ (k : Bearer). k.identity) same.1 ∙ is)
-        | inr older ↦ found-empty t b older.1
+    by : Among held (record { request = asked; answer = answer } ∷ []) → ⊥
+    by (inl is) = apart (ap second (ap (λ (k : Held). k.request.octets) (sym is) ∙ ap (λ (k : Arrival). k.octets) same))
+    by (inr none) = none
+
+-- a node with the new session, its bearer and the dedicated one, which waits for the response
+module _ (n : Node) (sessions : n.sessions ≡ insert empty control at_packet) (bearers : n.bearers ≡ insert (insert empty user (made_bearer q control)) dedicated (pending_dedicated control)) where
+  can_open : CanOpen n control 6
+  can_open = record {
+    range = record { low = omega arith; high = omega arith };
+    unused = unused;
+    at = record { session = at_packet; stands = ap (λ (ss : FiniteMap Session). get ss control) sessions ∙ get-insert_same empty control at_packet };
+    not_closing = λ e. cc e;
+  }
+    where
+      unused : IsUnused n control 6
+      unused t b stands of is = elim (found-insert (insert empty user (made_bearer q control)) dedicated (pending_dedicated control) t b (ap (λ (bs : FiniteMap Bearer). get bs t) (sym bearers) ∙ stands)) [
+        | inl same ↦ none_not_six (ap (λ (k : Bearer). k.identity) same.1 ∙ is)
+        | inr old ↦ elim (found-insert empty user (made_bearer q control) t b old.1) [
+          | inl same ↦ five_not_six (ap (λ (k : Bearer). k.identity) same.1 ∙ is)
+          | inr older ↦ found-empty t b older.1
+        ]
       ]
-    ]
+
+  pub bearer_answered : get n.pending 0 ≡ Some awaited → CreateBearerAnswered x n (opens_bearer n)
+  bearer_answered waits = inr (
+    record { pending = awaited; waits = waits },
+    inr (
+      record { request = r; asked = refl; session = control; about = refl; bearer = dedicated; about_bearer = refl; named = inl refl },
+      inr (
+        record { low = omega arith; high = omega arith },
+        inr (
+          record { context = record { identity = 6; cause = cause_of 16; serving_user = Some (tunnel_end 4 dedicated serving_ip); packet_user = Some r.context.user }; alone = refl },
+          inr (
+            record { low = omega arith; high = omega arith },
+            inr (
+              refl,
+              inr (
+                can_open,
+                record {
+                  at = record { bearer = pending_dedicated control; stands = ap (λ (bs : FiniteMap Bearer). get bs dedicated) bearers ∙ get-insert_same (insert empty user (made_bearer q control)) dedicated (pending_dedicated control) };
+                  gives = refl;
+                },
+              ),
+            ),
+          ),
+        ),
+      ),
+    ),
+  )
 
 pub step6 : Delivers w5 Serving (Create_bearer_response x ∷ []) w6
 step6 = on_time w5 Serving (Create_bearer_response x) w6 (
@@ -249,36 +292,12 @@ step6 = on_time w5 Serving (Create_bearer_response x) w6 (
     step = inr (
       refl,
       inr (
-        new_to_packet,
+        new_beside w5.packet.node (Create_session_response a ∷ []) refl,
         inr (
           refl,
           (
             given,
-            inr (
-              record { pending = record { session = Some control; bearer = Some dedicated; request = Create_bearer_request r }; waits = get-insert_same empty 0 _ },
-              inr (
-                record { request = r; asked = refl; session = control; about = refl; bearer = dedicated; about_bearer = refl; named = inl refl },
-                inr (
-                  record { low = omega arith; high = omega arith },
-                  inr (
-                    record { context = record { identity = 6; cause = cause_of 16; serving_user = Some (tunnel_end 4 dedicated serving_ip); packet_user = Some r.context.user }; alone = refl },
-                    inr (
-                      record { low = omega arith; high = omega arith },
-                      inr (
-                        refl,
-                        inr (
-                          can_open,
-                          record {
-                            at = record { bearer = pending_dedicated control; stands = get-insert_same (insert empty user (made_bearer q control)) dedicated (pending_dedicated control) };
-                            gives = refl;
-                          },
-                        ),
-                      ),
-                    ),
-                  ),
-                ),
-              ),
-            ),
+            bearer_answered w5.packet.node refl refl (get-insert_same empty 0 awaited),
             refl,
           ),
         ),
