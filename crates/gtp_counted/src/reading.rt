@@ -7,6 +7,7 @@ ghost use Rattle.gtp_counted.specs.Counts.{inner_of, NoneFailed, OneFailed};
 ghost use Rattle.gtp_counted.specs.Parts.{TakesPart, IsUntaken, IsUnread};
 
 use crate::counted::{Counted, Failed};
+use memchr::memchr;
 use std::alloc::AllocError;
 use std::io::{BufRead, ErrorKind, Read};
 
@@ -30,14 +31,10 @@ fn size_through(octets: &[u8], byte: u8) -> usize
     ensures some { 0 < length octets.now → 0 < result }
     ensures before { All (λ x. x ≢ byte) (take (result - 1) octets.now) }
 {
-    let mut at = 0;
-    while at < octets.len() {
-        if octets[at] == byte {
-            return at + 1;
-        }
-        at += 1;
+    match memchr(byte, octets) {
+        Some(at) => at + 1,
+        None => octets.len(),
     }
-    at
 }
 
 /// Appends these octets, or as many as there is room for.

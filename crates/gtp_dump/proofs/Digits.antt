@@ -2,7 +2,7 @@
 use Rattle.std.proofs.Common.{◌≡◌, ℕ, ◌==◌, Bool, true, false, List, [], ◌∷◌, ◌++◌, drop, if◌then◌else◌, refl, sym, ap, ◌∙◌, append-nil, append_assoc}
 use Rattle.gtp_dump.specs.Text.{is_between, begins_prefix, with_digits, digits_in}
 
-none : digits_in [] ≡ []
+pub none : digits_in [] ≡ []
 unfolding digits_in
 none = refl
 
@@ -13,7 +13,7 @@ after_prefix a [] is = let wrong : true ≡ false = sym is in cc
 after_prefix a (b ∷ rest) is = ap (λ (t : Bool). if t then digits_in rest else with_digits a (digits_in (b ∷ rest))) is
 
 -- any other character is one of itself
-otherwise : (a : ℕ) (rest : List ℕ) → begins_prefix a rest ≡ false → digits_in (a ∷ rest) ≡ with_digits a (digits_in rest)
+pub otherwise : (a : ℕ) (rest : List ℕ) → begins_prefix a rest ≡ false → digits_in (a ∷ rest) ≡ with_digits a (digits_in rest)
 unfolding digits_in
 otherwise a [] isn't = refl
 otherwise a (b ∷ rest) isn't = ap (λ (t : Bool). if t then digits_in rest else with_digits a (digits_in (b ∷ rest))) isn't

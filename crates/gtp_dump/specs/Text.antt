@@ -28,6 +28,11 @@ digits_in [] = []
 digits_in (a ∷ []) = with_digits a []
 digits_in (a ∷ b ∷ rest) = if is_prefix a b then digits_in rest else with_digits a (digits_in (b ∷ rest))
 
+-- the text has digits, and they spell these octets
+pub record HasOctets (text octets : List ℕ) : Type 0 where
+  pub some : digits_in text ≢ []
+  pub spelled : decode_of (digits_in text) ≡ Ok octets
+
 -- whether the text begins with the word of a plane, and what follows
 abbrev pub Names : List ℕ → Option Plane → List ℕ → Type 0
 Names text (Some Control) rest = text ≡ codes "control" ++ rest
@@ -54,8 +59,7 @@ pub record Spells (asked : Option Plane) (line : List ℕ) (plane : Plane) (octe
   pub named : Option Plane
   pub rest : List ℕ
   pub names : Names line named rest
-  pub some : digits_in rest ≢ []
-  pub spelled : decode_of (digits_in rest) ≡ Ok octets
+  pub has : HasOctets rest octets
   pub plane_is : plane ≡ plane_of named asked octets
 
 -- the line has no digits

@@ -136,9 +136,9 @@ fn shown(alloc: Global, form: Form, index: u64, dumped: &Dumped) -> Result<Shown
     ensures { IfOk result (λ shown. Shows form dumped.now.plane dumped.now.octets.items index
         shown.text.items shown.faulty) }
 {
-    let mut text = Vec::new(alloc);
-    put_index(&mut text, form, index)?;
     let lines = lines_of(alloc, form, dumped)?;
+    let mut text = Vec::with_capacity(alloc, lines.text.len())?;
+    put_index(&mut text, form, index)?;
     put(&mut text, &lines.text)?;
     Ok(Shown {
         text,

@@ -1,7 +1,8 @@
 //! One line of a hex dump.
 
-ghost use Rattle.std.specs.Prelude.{◌≡◌, ◌≤◌, length, IsTrue, None, Ok, Err, IfOk, IfSome};
-ghost use Rattle.gtp_dump.specs.Text.{is_between, begins_prefix, digits_in, Names, plane_by_version, Spells, IsBlank, IsBad};
+ghost use Rattle.std.specs.Prelude.{◌≡◌, ◌≤◌, [], length, IsTrue, None, Ok, Err, IfOk, IfSome, IsErr};
+ghost use Rattle.hex.specs.Hex.{decode_of};
+ghost use Rattle.gtp_dump.specs.Text.{is_between, begins_prefix, digits_in, HasOctets, Names, plane_by_version, Spells, IsBlank, IsBad};
 
 use gtp_values::{Memory, Plane};
 use hex::FromHexError;
@@ -67,6 +68,39 @@ fn digits_in(alloc: Global, text: &[u8]) -> Result<Vec<u8>, Memory>
     Ok(digits)
 }
 
+/// The octets of a text that has their digits and no more than blanks before and after them; none of any other text.
+fn octets_at_once(alloc: Global, text: &[u8]) -> Option<Vec<u8>>
+    ensures { IfSome result (λ octets. HasOctets text.now octets.items) }
+{
+    let digits = text.trim_ascii();
+    if digits.is_empty() {
+        return None;
+    }
+    hex::decode(alloc, digits).ok()
+}
+
+/// The octets of a text, or none in one without digits.
+fn octets_of(alloc: Global, text: &[u8]) -> Result<Option<Vec<u8>>, LineFault>
+    ensures some { IfOk result (λ found. IfSome found (λ octets. HasOctets text.now octets.items)) }
+    ensures none { result ≡ Ok None → digits_in text.now ≡ [] }
+    ensures bad { result ≡ Err LineFault.BadHex → IsErr (decode_of (digits_in text.now)) }
+{
+    if let Some(octets) = octets_at_once(alloc, text) {
+        return Ok(Some(octets));
+    }
+    let Ok(digits) = digits_in(alloc, text) else {
+        return Err(LineFault::Memory);
+    };
+    if digits.is_empty() {
+        return Ok(None);
+    }
+    match hex::decode(alloc, digits.as_slice()) {
+        Ok(octets) => Ok(Some(octets)),
+        Err(FromHexError::OutOfMemory) => Err(LineFault::Memory),
+        Err(_) => Err(LineFault::BadHex),
+    }
+}
+
 /// The plane whose word the text begins with, and what follows.
 fn named(text: &[u8]) -> (Option<Plane>, &[u8])
     ensures { Names text.now result.0 result.1.now }
@@ -108,16 +142,10 @@ pub fn read_line(
         return Err(LineFault::BadHex);
     }
     let (plane, text) = named(line);
-    let Ok(digits) = digits_in(alloc, text) else {
-        return Err(LineFault::Memory);
-    };
-    if digits.is_empty() {
-        return Ok(None);
-    }
-    let octets = match hex::decode(alloc, digits.as_slice()) {
-        Ok(octets) => octets,
-        Err(FromHexError::OutOfMemory) => return Err(LineFault::Memory),
-        Err(_) => return Err(LineFault::BadHex),
+    let octets = match octets_of(alloc, text) {
+        Ok(Some(octets)) => octets,
+        Ok(None) => return Ok(None),
+        Err(fault) => return Err(fault),
     };
     let plane = plane.or(asked).unwrap_or_else(|| plane_by_version(&octets));
     Ok(Some(Dumped { plane, octets }))

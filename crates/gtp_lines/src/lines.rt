@@ -13,6 +13,9 @@ use gtp_v2::{DatagramView, MessageView, view};
 use gtp_values::{Memory, Plane};
 use std::alloc::{AllocError, Global};
 
+/// Room for the lines of most datagrams, in octets.
+const USUAL_OCTETS: usize = 1024;
+
 /// The lines of a datagram, in ASCII, and whether they are those of a fault.
 #[derive(Debug, Drop)]
 pub struct Shown {
@@ -52,7 +55,7 @@ fn put_datagram(out: &mut Vec<u8>, seen: &DatagramView) -> Result<(), AllocError
 fn control_lines(alloc: Global, octets: &[u8]) -> Result<Shown, Memory>
     ensures { IfOk result (λ shown. ControlLines octets.now shown.text.items shown.faulty) }
 {
-    let mut text = Vec::new(alloc);
+    let mut text = Vec::with_capacity(alloc, USUAL_OCTETS)?;
     match view(octets) {
         Ok(seen) => {
             put_datagram(&mut text, &seen)?;
@@ -72,7 +75,7 @@ fn control_lines(alloc: Global, octets: &[u8]) -> Result<Shown, Memory>
 fn user_lines(alloc: Global, octets: &[u8]) -> Result<Shown, Memory>
     ensures { IfOk result (λ shown. UserLines octets.now shown.text.items shown.faulty) }
 {
-    let mut text = Vec::new(alloc);
+    let mut text = Vec::with_capacity(alloc, USUAL_OCTETS)?;
     match gtp_user::decode(octets) {
         Ok(message) => {
             put_user_message(&mut text, &message)?;

@@ -62,7 +62,7 @@ pub fn put_teid(out: &mut Vec<u8>, teid: Teid) -> Result<(), AllocError>
 
 /// Appends an address of version 4. Takes no memory of its own.
 #[tactic(auto, using(crate::proofs::Appends::appending))]
-fn put_v4(out: &mut Vec<u8>, address: &[u8; 4]) -> Result<(), AllocError>
+pub fn put_v4(out: &mut Vec<u8>, address: &[u8; 4]) -> Result<(), AllocError>
     ensures ok { OnOk result (out.new.items ≡ out.old.items ++ ipv4_text address.now) }
 {
     put_number(out, u64::from(address[0]))?;

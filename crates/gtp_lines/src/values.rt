@@ -6,9 +6,11 @@ ghost use Rattle.gtp_ie.specs.Value.{value_at};
 ghost use Rattle.gtp_ie.specs.Form.{number_of, name_of};
 ghost use Rattle.gtp_lines.specs.Values.{shown, body_shown, raw_shown, offending_shown, rates_shown, v4_shown, v6_shown, field_shown, named_shown, class_shown};
 
-use crate::text::{put, put_digits, put_display, put_hex, put_number, put_octets, put_teid};
+use crate::text::{
+    put, put_digits, put_display, put_hex, put_number, put_octets, put_teid, put_v4,
+};
 use gtp_ie::{ChargingId, EbiValue, Form, IeValue, PdnType, Pti, Rat, Recovery, Selection};
-use gtp_values::{Ambr, Apn, Cause, FTeid, Imsi, Ip, Offending, Paa, Plmn, Qos, Rates, Tft};
+use gtp_values::{Ambr, Apn, Cause, FTeid, Imsi, Offending, Paa, Plmn, Qos, Rates, Tft};
 use std::alloc::AllocError;
 
 /// A value that is shown as text.
@@ -79,7 +81,7 @@ impl Show for Selection {
 impl Show for Imsi {
     #[tactic(auto, unfolding(crate::specs::Values::shown))]
     fn show(&self, out: &mut Vec<u8>) -> Result<(), AllocError> {
-        put_display(out, self)
+        put_digits(out, self.digits())
     }
 }
 
@@ -131,7 +133,7 @@ impl Show for Paa {
         match self {
             Paa::V4(v4) => {
                 put(out, b"ipv4 ")?;
-                put_display(out, &Ip::V4(*v4))
+                put_v4(out, v4)
             }
             Paa::V6 { prefix, address } => {
                 put_field(out, b"ipv6 ", u64::from(*prefix))?;
@@ -143,7 +145,7 @@ impl Show for Paa {
                 put(out, b" ")?;
                 put_hex(out, v6)?;
                 put(out, b" ")?;
-                put_display(out, &Ip::V4(*v4))
+                put_v4(out, v4)
             }
             Paa::Other(other) => put_field(out, b"other ", u64::from(other.number())),
         }
@@ -206,7 +208,7 @@ fn put_some_v4(out: &mut Vec<u8>, address: &Option<[u8; 4]>) -> Result<(), Alloc
         return Ok(());
     };
     put(out, b" v4 ")?;
-    put_display(out, &Ip::V4(*address))
+    put_v4(out, address)
 }
 
 /// Appends an address of version 6, where there is one.

@@ -8,4 +8,4 @@ pub returns-in_ok-put_datagram-in-Ok : goal.returns-in_ok-put_datagram-in-Ok
 returns-in_ok-put_datagram-in-Ok c =
     let seen = c.in-Ok.seen in
     lines_lie c.args.octets.now seen.message seen.second seen.back _ c.in-Ok.ensures.lie
-    (c.in_ok-put_datagram-in-Ok.ensures.ok ∙ ap (λ text. text ++ datagram_lines seen.message seen.second) c.new-text.ensures.items)
+    (c.in_ok-put_datagram-in-Ok.ensures.ok ∙ ap (λ text. text ++ datagram_lines seen.message seen.second) c.in_ok-text.ensures.items)

@@ -6,4 +6,4 @@ use Rattle.gtp_lines.proofs.lines.user_lines.Goals as goal
 pub returns-in_ok-put_user_message-in-Ok : goal.returns-in_ok-put_user_message-in-Ok
 returns-in_ok-put_user_message-in-Ok c =
     let lines = user_lines (message_value c.in-Ok.message) in
-    (message_value c.in-Ok.message, c.in-Ok.ensures.found, c.in_ok-put_user_message-in-Ok.ensures.ok ∙ ap (λ text. text ++ lines) c.new-text.ensures.items)
+    (message_value c.in-Ok.message, c.in-Ok.ensures.found, c.in_ok-put_user_message-in-Ok.ensures.ok ∙ ap (λ text. text ++ lines) c.in_ok-text.ensures.items)
