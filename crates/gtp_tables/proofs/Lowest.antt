@@ -1,20 +1,20 @@
 -- The lowest places that are free, found by marks and in the first window.
 use Rattle.std.proofs.Common.{◌≡◌, ◌∙◌, ℕ, ◌+◌, ◌<◌, ◌≤◌, Bool, true, false, List, length, take, Option, Some, None, min, get_or, refl, sym, ap, subst, arith}
-use Rattle.std.specs.Prelude.{◌||◌, is_none, IfSome}
+use Rattle.std.specs.Prelude.{◌||◌, ◌==◌, not, replicate, is_none, IfSome}
 use Rattle.std.specs.List.{list_any}
 use Rattle.std.specs.Option.{option_map}
 use Rattle.std.specs.FinMap.{values}
-use Rattle.std.proofs.lemmas.List.{take_all}
+use Rattle.std.proofs.lemmas.List.{take_all, get_or-replicate}
 use Rattle.std.proofs.lemmas.List.Folds.{list_any_more}
 use Rattle.gtp_tables.specs.declared.context.Session.{Session}
 use Rattle.gtp_tables.specs.Contexts.{Contexts, seen, takes}
 use Rattle.gtp_tables.specs.Free.{Asked, Pools, IpVersion, V4, V6, count_of, address_at, asks_for, HasAddress, IsLowestPart}
-use Rattle.gtp_tables.specs.Lowest.{IsLowest, IsFirstFree, IsLowestPlace, is_taken}
+use Rattle.gtp_tables.specs.Lowest.{IsLowest, IsFirstFree, IsLowestPlace, is_marked, is_taken}
 use Rattle.gtp_tables.proofs.Seen.{address_taken, address_free}
 
 -- the marks of a window are of the places that are taken
-abbrev pub AreMarked : Bool → IpVersion → Pools → List Session → List Bool → Type 0
-AreMarked restarted version pools sessions marks = (p : ℕ) → p < count_of pools version → get_or marks p false ≡ is_taken restarted version pools sessions p
+abbrev pub AreMarked : Bool → IpVersion → Pools → List Session → List ℕ → Type 0
+AreMarked restarted version pools sessions marks = (p : ℕ) → p < count_of pools version → is_marked marks p ≡ is_taken restarted version pools sessions p
 
 -- what is taken alike has one lowest place that is free
 pub taken_alike : (count : ℕ) (taken other : ℕ → Bool) → ((p : ℕ) → p < count → taken p ≡ other p) → (found : Option ℕ) → IsFirstFree count taken found → IsFirstFree count other found
@@ -36,8 +36,12 @@ in_front restarted version pools front sessions count places found is =
     subst (λ (n : ℕ). IsFirstFree n (is_taken restarted version pools sessions) found) count
     (taken_alike (count_of front version) (is_taken restarted version front sessions) (is_taken restarted version pools sessions) (λ p lt. ap (λ a. list_any (takes restarted version a) sessions) (places p)) found is)
 
+-- no place is marked at first
+pub none_marked : (p : ℕ) → p < 1024 → is_marked (replicate 1024 0) p ≡ false
+none_marked p lt = ap (λ mark. not (mark == 0)) (get_or-replicate 1024 p 0 0 lt)
+
 -- one more session has its place marked
-pub one_more_marked : (restarted : Bool) (version : IpVersion) (pools : Pools) (sessions : List Session) (k : ℕ) (session : Session) (marks more : List Bool) → k < length sessions → session ≡ get_or sessions k session → AreMarked restarted version pools (take k sessions) marks → ((p : ℕ) → p < count_of pools version → get_or more p false ≡ (get_or marks p false || takes restarted version (address_at pools version p) session)) → AreMarked restarted version pools (take (k + 1) sessions) more
+pub one_more_marked : (restarted : Bool) (version : IpVersion) (pools : Pools) (sessions : List Session) (k : ℕ) (session : Session) (marks more : List ℕ) → k < length sessions → session ≡ get_or sessions k session → AreMarked restarted version pools (take k sessions) marks → ((p : ℕ) → p < count_of pools version → is_marked more p ≡ (is_marked marks p || takes restarted version (address_at pools version p) session)) → AreMarked restarted version pools (take (k + 1) sessions) more
 one_more_marked restarted version pools sessions k session marks more within is so_far step p lt =
     let test : Session → Bool = takes restarted version (address_at pools version p) in
     step p lt
@@ -46,8 +50,8 @@ one_more_marked restarted version pools sessions k session marks more within is 
     ∙ sym (list_any_more test sessions k session within)))
 
 -- the lowest place that is not marked, once all sessions have theirs marked
-pub found_by_marks : (restarted : Bool) (version : IpVersion) (pools : Pools) (sessions : List Session) (k : ℕ) (marks : List Bool) → length sessions ≤ k → AreMarked restarted version pools (take k sessions) marks → (found : Option ℕ) → IsFirstFree (count_of pools version) (λ p. get_or marks p false) found → IsLowestPlace restarted version pools sessions found
-found_by_marks restarted version pools sessions k marks all marked found is = taken_alike (count_of pools version) (λ p. get_or marks p false) (is_taken restarted version pools sessions) (subst (λ (some : List Session). AreMarked restarted version pools some marks) (take_all k sessions all) marked) found is
+pub found_by_marks : (restarted : Bool) (version : IpVersion) (pools : Pools) (sessions : List Session) (k : ℕ) (marks : List ℕ) → length sessions ≤ k → AreMarked restarted version pools (take k sessions) marks → (found : Option ℕ) → IsFirstFree (count_of pools version) (is_marked marks) found → IsLowestPlace restarted version pools sessions found
+found_by_marks restarted version pools sessions k marks all marked found is = taken_alike (count_of pools version) (is_marked marks) (is_taken restarted version pools sessions) (subst (λ (some : List Session). AreMarked restarted version pools some marks) (take_all k sessions all) marked) found is
 
 -- what holds of each version
 pub of_both : (P : IpVersion → Type 0) → P V4 → P V6 → (version : IpVersion) → P version

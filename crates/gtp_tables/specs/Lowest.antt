@@ -1,5 +1,5 @@
 -- The lowest places that are free.
-use Rattle.std.specs.Prelude.{◌≡◌, ℕ, ◌<◌, List, Bool, true, false, Option, Some, None}
+use Rattle.std.specs.Prelude.{◌≡◌, ℕ, ◌<◌, List, Bool, true, false, not, ◌==◌, slice_index, Option, Some, None}
 use Rattle.std.specs.List.{list_any}
 use Rattle.gtp_tables.specs.declared.context.Session.{Session}
 use Rattle.gtp_tables.specs.declared.pool.Places.{Places}
@@ -16,6 +16,10 @@ pub record IsLowest (count : ℕ) (taken : ℕ → Bool) (place : ℕ) : Type 0 
 abbrev pub IsFirstFree : ℕ → (ℕ → Bool) → Option ℕ → Type 0
 IsFirstFree count taken None = (p : ℕ) → p < count → taken p ≡ true
 IsFirstFree count taken (Some place) = IsLowest count taken place
+
+-- whether a place is marked: not by zero
+abbrev pub is_marked : List ℕ → ℕ → Bool
+is_marked marks place = not (slice_index marks place == 0)
 
 -- whether a session that is seen has the address with this place
 abbrev pub is_taken : Bool → IpVersion → Pools → List Session → ℕ → Bool

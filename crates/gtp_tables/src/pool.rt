@@ -1,18 +1,19 @@
 //! Addresses that a packet gateway gives to sessions.
 
 ghost use Rattle.std.specs.Prelude.{◌≡◌, ◌≢◌, ◌↔◌, ◌+◌, ◌-◌, min, ◌<◌, ◌≤◌, ◌^◌, ◌||◌, ◌++◌, ℕ, true, false, Some, drop, nat_eq};
-ghost use Rattle.std.specs.Prelude.{IsOk, IfOk, IfErr, IfSome, IfNone, slice_index_or};
+ghost use Rattle.std.specs.Prelude.{IsOk, IfOk, IfErr, IfSome, IfNone};
 ghost use Rattle.std.specs.Option.{option_map};
 ghost use Rattle.gtp_values.specs.declared.fault.ValueFault.TheVariants.{OutOfRange};
 ghost use Rattle.gtp_tables.specs.Contexts.{is_seen, takes};
 ghost use Rattle.std.specs.Int.{w32, w64, to_be_bytes, from_be_bytes};
 ghost use Rattle.gtp_tables.specs.Free.{count_of, address_at, asks_for, IsPlaceOf};
-ghost use Rattle.gtp_tables.specs.Lowest.{IsFirstFree, IsLowestPlace, is_taken, place_in};
+ghost use Rattle.gtp_tables.specs.Lowest.{IsFirstFree, IsLowestPlace, is_marked, is_taken, place_in};
 ghost use Rattle.gtp_tables.specs.Part.{part_in};
 ghost use Rattle.gtp_tables.specs.Pool.{IsPool, ArePrefixes, prefix_of, no_prefixes};
 
 use crate::context::{Session, State};
 use gtp_values::{Addr, ValueFault};
+use memchr::memchr;
 use std::marker::Model;
 
 /// The most addresses of a pool.
@@ -21,6 +22,12 @@ const MOST: u32 = 65_536;
 /// How many addresses are looked for in one go over the sessions. It is above the most sessions
 /// that there can be, so that the first go finds a free address where the pool has one.
 const WINDOW: u32 = 1024;
+
+/// The mark of a place in a window whose address no session has.
+const FREE: u8 = 0;
+
+/// The mark of a place in a window whose address a session has.
+const TAKEN: u8 = 1;
 
 /// The IP versions, of which each has a pool.
 #[derive(Clone, Copy, Debug, PartialEq, Eq)]
@@ -450,14 +457,14 @@ impl Pools {
     }
 
     /// Marks the place of a session's address, where it is one of a window and the session is seen.
-    fn mark(&self, version: IpVersion, taken: &mut [bool; 1024], session: &Session, restarted: bool)
+    fn mark(&self, version: IpVersion, marks: &mut [u8; 1024], session: &Session, restarted: bool)
         requires { count_of self.now version ≤ 1024 }
         ensures { (p : ℕ) → p < count_of self.now version
-            → slice_index_or taken.new p false ≡ (slice_index_or taken.old p false
+            → is_marked marks.new p ≡ (is_marked marks.old p
             || takes restarted version (address_at self.now version p) session.now) }
     {
         if let Some(place) = self.seen_place(version, session, restarted) {
-            taken[place as usize] = true;
+            marks[place as usize] = TAKEN;
         }
     }
 
@@ -471,11 +478,11 @@ impl Pools {
         requires { count_of self.now version ≤ 1024 }
         ensures { IsLowestPlace restarted version self.now sessions.now result }
     {
-        let mut taken = [false; 1024];
+        let mut marks = [FREE; 1024];
         for session in sessions {
-            self.mark(version, &mut taken, session, restarted);
+            self.mark(version, &mut marks, session, restarted);
         }
-        self.first_free(version, &taken)
+        self.first_free(version, &marks)
     }
 
     /// The same of a window of each version, in one go over the sessions.
@@ -484,8 +491,8 @@ impl Pools {
         ensures { (version : IpVersion)
             → IsLowestPlace restarted version self.now sessions.now (place_in result version) }
     {
-        let mut v4 = [false; 1024];
-        let mut v6 = [false; 1024];
+        let mut v4 = [FREE; 1024];
+        let mut v6 = [FREE; 1024];
         for session in sessions {
             self.mark(IpVersion::V4, &mut v4, session, restarted);
             self.mark(IpVersion::V6, &mut v6, session, restarted);
@@ -497,12 +504,11 @@ impl Pools {
     }
 
     /// The first place of a window of this version that is not marked.
-    fn first_free(&self, version: IpVersion, taken: &[bool; 1024]) -> Option<u32>
+    fn first_free(&self, version: IpVersion, marks: &[u8; 1024]) -> Option<u32>
         requires { count_of self.now version ≤ 1024 }
-        ensures { IsFirstFree (count_of self.now version)
-            (λ p. slice_index_or taken.now p false) result }
+        ensures { IsFirstFree (count_of self.now version) (is_marked marks.now) result }
     {
-        let place = first_unmarked(taken)?;
+        let place = first_unmarked(marks)?;
         (place < self.count_of(version)).then_some(place)
     }
 }
@@ -515,13 +521,9 @@ pub(crate) fn is_seen(session: &Session, restarted: bool) -> bool
 }
 
 /// The first place of a window that is not marked.
-fn first_unmarked(taken: &[bool; 1024]) -> Option<u32>
-    ensures { IsFirstFree 1024 (λ p. slice_index_or taken.now p false) result }
+fn first_unmarked(marks: &[u8; 1024]) -> Option<u32>
+    ensures { IsFirstFree 1024 (is_marked marks.now) result }
 {
-    for place in 0..WINDOW {
-        if !taken[place as usize] {
-            return Some(place);
-        }
-    }
-    None
+    let place = memchr(FREE, marks)?;
+    Some(place as u32)
 }
