@@ -2,6 +2,9 @@
 
 use crate::stop::Stop;
 use crate::trial::Trial;
+use gtp_codec_tests::datagrams::{
+    BEARER_REQUEST, BEARER_RESPONSE, SESSION_REQUEST, SESSION_RESPONSE,
+};
 use gtp_v2::{V2Fault, decode, encode};
 use std::alloc::Global;
 
@@ -23,13 +26,26 @@ fn is_canonical(trial: &mut Trial, octets: &[u8]) -> bool {
     }
 }
 
-/// Appends a line with the digits of a datagram, which is first decoded and encoded.
-pub fn put_datagram(text: &mut Vec<u8>, trial: &mut Trial, octets: &[u8]) -> Result<(), Stop> {
-    if !is_canonical(trial, octets) {
+/// Appends a line with the digits of a datagram, which is decoded and encoded.
+fn put_datagram(text: &mut Vec<u8>, trial: &mut Trial, digits: &str) -> Result<(), Stop> {
+    let octets = hex::decode(trial.alloc, digits).map_err(|_| Stop::Refused)?;
+    if !is_canonical(trial, &octets) {
         return Err(Stop::Wrong("a datagram that was decoded and encoded"));
     }
-    let digits = hex::encode(trial.alloc, octets).map_err(|_| Stop::Refused)?;
     text.extend_from_slice(digits.as_bytes())
         .map_err(|_| Stop::Refused)?;
     text.push(b'\n').map_err(|_| Stop::Refused)
+}
+
+/// Appends the requests and answers of a session and of a dedicated bearer, each decoded and encoded.
+pub fn put_datagrams(text: &mut Vec<u8>, trial: &mut Trial) -> Result<(), Stop> {
+    for digits in [
+        SESSION_REQUEST,
+        SESSION_RESPONSE,
+        BEARER_REQUEST,
+        BEARER_RESPONSE,
+    ] {
+        put_datagram(text, trial, digits)?;
+    }
+    Ok(())
 }

@@ -1,22 +1,19 @@
 //! What the libraries leave when an allocation is refused. `tests/refused/check` refuses each allocation of this program
-//! in turn, from outside. A run, a report, a command, a datagram that is received, decoded or encoded must then leave
-//! everything as before, and succeed when the call is made again, or the run goes on. Any other refused allocation ends
-//! the program.
+//! in turn, from outside. A run, a report, a datagram that is decoded or encoded must then leave everything as before, and
+//! succeed when the call is made again, or the run goes on. Any other refused allocation ends the program.
 //!
-//! The scenario is on standard input. Standard output has the report of its run, and in hexadecimal the datagrams of its
-//! first session and its first dedicated bearer. Exit status: 0 if nothing was refused; 3 if an allocation was refused
+//! The scenario is on standard input. Standard output has the report of its run, and in hexadecimal the datagrams of a
+//! session and a dedicated bearer. Exit status: 0 if nothing was refused; 3 if an allocation was refused
 //! and everything was as it must be, and standard error tells where the run ended, if it ended early; 1 if something was
 //! not as it must be, which standard error names.
 #![tactic(auto)]
 
-mod calls;
 mod codec;
-mod exchange;
 mod runs;
 mod stop;
 mod trial;
 
-use crate::exchange::put_exchange;
+use crate::codec::put_datagrams;
 use crate::runs::report_of_run;
 use crate::stop::Stop;
 use crate::trial::{Early, Trial};
@@ -31,11 +28,11 @@ fn scenario<R: Input + AllocGlobal>(rt: &R, alloc: Global) -> Result<Scenario, S
     read_scenario(alloc, text.as_bytes()).map_err(Stop::from)
 }
 
-/// The report of the run of a scenario, and the datagrams of its exchange.
+/// The report of the run of a scenario, and the datagrams.
 fn output_of(trial: &mut Trial, scenario: &Scenario) -> Result<Vec<u8>, Stop> {
     let events = events_of(trial.alloc, &scenario.entries).map_err(|_| Stop::Refused)?;
     let mut text = report_of_run(trial, &scenario.config, &events)?;
-    put_exchange(&mut text, trial, &scenario.config, &events)?;
+    put_datagrams(&mut text, trial)?;
     Ok(text)
 }
 
