@@ -1,7 +1,7 @@
-//! Tests that cross crates, of what no scenario says: both gateways against hostile peers and at their limits, calls
-//! of a world that no event makes, what no report shows of a scenario, and readers and writers that fail. All else
-//! is data, in `tests/scenarios` and `examples/scenarios`. What their contracts say is not tested again. The lower
-//! crates have their tests in `gtp_codec_tests` and `gtp_state_tests`.
+//! Tests that cross crates, of what no data says: what no line shows of one gateway, and all of its TEIDs; calls of a
+//! world that no event makes; what no report shows of a scenario; and readers and writers that fail. All else is data,
+//! in `tests/conversations`, `tests/scenarios` and `examples/scenarios`. What their contracts say is not tested again.
+//! The lower crates have their tests in `gtp_codec_tests` and `gtp_state_tests`.
 #![tactic(auto)]
 
 #[cfg(test)]
