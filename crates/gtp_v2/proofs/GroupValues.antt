@@ -56,7 +56,7 @@ groups_values accepting rows (e ∷ es) groups h =
     let d = bind_ok (each_at (group_at accepting rows) es) (λ others. done RowFault (b.0 ∷ others)) groups b.2 in
     sym (ok_same RowFault (b.0 ∷ d.0) groups d.2) ∙ ap (λ first. first ∷ d.0) (group_values accepting rows e b.0 b.1) ∙ ap (λ others. values_in rows (inner_of e) ∷ others) (groups_values accepting rows es d.0 d.1)
 
-some_are : (need : Need) (kind instance : ℕ) (r : Result (List (List (List Value))) RowFault) (groups : List (List (List Value))) → (r >>= λ gs. if length gs == 0 then no_group need kind instance else Ok gs) ≡ Ok groups → r ≡ Ok groups
+pub some_are : (need : Need) (kind instance : ℕ) (r : Result (List (List (List Value))) RowFault) (groups : List (List (List Value))) → (r >>= λ gs. if length gs == 0 then no_group need kind instance else Ok gs) ≡ Ok groups → r ≡ Ok groups
 some_are needs.Mandatory kind instance (Ok []) groups h = absurd cc
 some_are needs.Conditional kind instance (Ok []) groups h = absurd cc
 some_are needs.Optional kind instance (Ok []) groups h = h
@@ -66,7 +66,7 @@ some_are need kind instance (Ok (g ∷ gs)) groups h = by_length (length (g ∷ 
   by_length false is h = h
 some_are need kind instance (Err f) groups h = absurd cc
 
-groups_found : (kind instance : ℕ) (es : List Element) (line : Line) (field : Field) (state : State) → line_at state line es ≡ Ok field → is_groups kind instance line ≡ true → groups_of field ≡ map (values_in (rows_of line)) (map inner_of (all_of kind instance es))
+pub groups_found : (kind instance : ℕ) (es : List Element) (line : Line) (field : Field) (state : State) → line_at state line es ≡ Ok field → is_groups kind instance line ≡ true → groups_of field ≡ map (values_in (rows_of line)) (map inner_of (all_of kind instance es))
 unfolding some_groups
 groups_found kind instance es (Grouped row rows) field state one same =
     let of = all_of (kind_of row) (instance_of row) es in

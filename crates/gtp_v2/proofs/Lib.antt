@@ -22,7 +22,9 @@ pub mod Unknown
 pub mod Checks
 pub mod Views
 pub mod GroupValues
+pub mod ContextValues
 pub mod ListValues
+pub mod Stands
 pub mod CheckedLines
 pub mod Carried
 pub mod Pairs

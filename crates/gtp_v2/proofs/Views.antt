@@ -16,7 +16,7 @@ use Rattle.gtp_v2.specs.declared.fault.V2Fault.{V2Fault}
 use Rattle.gtp_v2.specs.declared.fault.V2Fault.TheVariants as faults
 use Rattle.gtp_v2.specs.Table.{Row, Mandatory, Conditional, Accepted, Optional, Line, Single, Grouped, Several, Field, Plain, State, start, after, Table, kind_of, instance_of}
 use Rattle.gtp_v2.specs.reading.Rows.{row_at, needed, needed_at, needed_if_at, one_at, named, line_at, lines_at, whole}
-use Rattle.gtp_v2.specs.Viewed.{optional_at, welcome, value_or_none, Viewed, found_among, found_by, plain_of, is_row, is_needed, needs_among, needs_by, always_has, in_row, has_among, has_by, has_row, row_of, front_value}
+use Rattle.gtp_v2.specs.Viewed.{optional_at, welcome, value_or_none, Viewed, found_among, found_by, plain_of, is_row, is_needed, needs_among, needs_by, always_has, in_row, line_among, line_by, has_row, row_of, front_value}
 use Rattle.gtp_v2.specs.reading.Checked.{forgotten}
 use Rattle.gtp_v2.specs.Headed.{Headed}
 use Rattle.gtp_v2.specs.Message.{Content, Fields, head_of}
@@ -35,7 +35,7 @@ one_is kind instance e v h = by_value (value_at kind e.body) h where
   by_value (Err Short) h = absurd cc
   by_value (Err Bad) h = absurd cc
 
-needed_is : (conditional : Bool) (kind instance : ℕ) (es : List Element) (v : Value) → needed_at conditional kind instance es ≡ Ok v → optional_at kind instance es ≡ Some v
+pub needed_is : (conditional : Bool) (kind instance : ℕ) (es : List Element) (v : Value) → needed_at conditional kind instance es ≡ Ok v → optional_at kind instance es ≡ Some v
 unfolding needed_at optional_at
 needed_is conditional kind instance es v h = by_first (first_of kind instance es) h where
   by_first : (o : Option Element) → needed conditional kind instance o ≡ Ok v → welcome kind o ≡ Some v
@@ -186,7 +186,7 @@ field_is kind instance v read values is =
     row_found kind instance v.elements q.0.0 q.0.1 f.0 f.1 f.2 ∙ ap front_value q.2
 
 -- where the table has the line, the message has its field
-there_among : (asked : Line → Bool) (state : State) (lines : List Line) (es : List Element) (fields : List Field) → lines_at state lines es ≡ Ok fields → has_among asked lines ≡ true → (p : Line × Field) × (found_among asked lines fields ≡ Some p)
+there_among : (asked : Line → Bool) (state : State) (lines : List Line) (es : List Element) (fields : List Field) → lines_at state lines es ≡ Ok fields → is_some (line_among asked lines) ≡ true → (p : Line × Field) × (found_among asked lines fields ≡ Some p)
 unfolding lines_at
 there_among asked state [] es fields h has = absurd cc
 there_among asked state (line ∷ lines) es fields h has =
@@ -194,11 +194,11 @@ there_among asked state (line ∷ lines) es fields h has =
     let d = bind_ok (lines_at (after state b.0) lines es) (λ others. done RowFault (b.0 ∷ others)) fields b.2 in
     subst (λ (fs : List Field). (p : Line × Field) × (found_among asked (line ∷ lines) fs ≡ Some p)) (ok_same RowFault (b.0 ∷ d.0) fields d.2) (by_test (asked line) b.0 d.0 has (λ later. there_among asked (after state b.0) lines es d.0 d.1 later))
   where
-    by_test : (b : Bool) (field : Field) (others : List Field) → cond b true (has_among asked lines) ≡ true → (has_among asked lines ≡ true → (p : Line × Field) × (found_among asked lines others ≡ Some p)) → (p : Line × Field) × (cond b (Some (line, field)) (found_among asked lines others) ≡ Some p)
+    by_test : (b : Bool) (field : Field) (others : List Field) → is_some (cond b (Some line) (line_among asked lines)) ≡ true → (is_some (line_among asked lines) ≡ true → (p : Line × Field) × (found_among asked lines others ≡ Some p)) → (p : Line × Field) × (cond b (Some (line, field)) (found_among asked lines others) ≡ Some p)
     by_test true field others has later = ((line, field), refl)
     by_test false field others has later = later has
 
-there_by : (asked : Line → Bool) (table : Option Table) (content : Content) (es : List Element) → ReadBy table content es → has_by asked table ≡ true → (p : Line × Field) × (found_by asked table content ≡ Some p)
+pub there_by : (asked : Line → Bool) (table : Option Table) (content : Content) (es : List Element) → ReadBy table content es → is_some (line_by asked table) ≡ true → (p : Line × Field) × (found_by asked table content ≡ Some p)
 there_by asked None content es read has = absurd cc
 there_by asked (Some table) content es read has = subst (λ (c : Content). (p : Line × Field) × (found_by asked (Some table) c ≡ Some p)) (sym read.1) (there_among asked start table.lines es read.0 read.2 has)
 
@@ -246,7 +246,7 @@ needed_by kind instance None content es read needed = absurd cc
 needed_by kind instance (Some table) content es read needed = subst (λ (c : Content). HasOne (found_by (is_row kind instance) (Some table) c)) (sym read.1) (needed_among kind instance start table.lines es read.0 read.2 needed)
 
 -- a message that is viewed has the values that its table needs
-always_is : (kind instance : ℕ) (v : Viewed) → IsRead v → always_has v.message.kind kind instance ≡ true → (x : Value) × (in_row kind instance v.message ≡ Some (x ∷ []))
+pub always_is : (kind instance : ℕ) (v : Viewed) → IsRead v → always_has v.message.kind kind instance ≡ true → (x : Value) × (in_row kind instance v.message ≡ Some (x ∷ []))
 always_is kind instance v read always = needed_by kind instance (table_of v.message.kind) v.message.content v.elements read always
 
 first_reads : (kind instance : ℕ) (first : Option Element) (x : Value) → welcome kind first ≡ Some x → needed false kind instance first ≡ Ok x

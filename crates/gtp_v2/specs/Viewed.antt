@@ -1,6 +1,7 @@
 -- What a view of a message stands for.
-use Rattle.std.specs.Prelude.{◌≡◌, ℕ, ◌+◌, ◌==◌, ◌&&◌, Bool, true, false, List, [], ◌∷◌, ◌++◌, Option, Some, None, if◌then◌else◌, drop, option_map, option_to_list, unwrap_or, Result, Ok, Err}
+use Rattle.std.specs.Prelude.{◌≡◌, ℕ, ◌+◌, ◌==◌, ◌&&◌, Bool, true, false, List, [], ◌∷◌, ◌++◌, Option, Some, None, if◌then◌else◌, drop, is_some, option_map, option_to_list, unwrap_or, Result, Ok, Err}
 use Rattle.gtp_ie.specs.Element.{Element, elements_of, list_of, first_of}
+use Rattle.gtp_ie.specs.Form.{bearer_context}
 use Rattle.gtp_ie.specs.Octets.{AreElements}
 use Rattle.gtp_ie.specs.Value.{Value, value_at}
 use Rattle.gtp_v2.specs.Table.{Row, Mandatory, Conditional, Line, Single, Grouped, Several, Field, Plain, Groups, Table, kind_of, instance_of}
@@ -68,27 +69,33 @@ values_by kind instance table content = option_map (λ (p : Line × Field). plai
 abbrev pub in_row : ℕ → ℕ → MessageValue → Option (List Value)
 in_row kind instance m = values_by kind instance (table_of m.kind) m.content
 
--- the first line that is asked for, if there is one
-abbrev pub has_among : (Line → Bool) → List Line → Bool
-has_among asked [] = false
-has_among asked (line ∷ lines) = if asked line then true else has_among asked lines
+-- the first of these lines that is asked for
+abbrev pub line_among : (Line → Bool) → List Line → Option Line
+line_among asked [] = None
+line_among asked (line ∷ lines) = if asked line then Some line else line_among asked lines
 
-abbrev pub has_by : (Line → Bool) → Option Table → Bool
-has_by asked None = false
-has_by asked (Some table) = has_among asked table.lines
+-- the same of a table
+abbrev pub line_by : (Line → Bool) → Option Table → Option Line
+line_by asked None = None
+line_by asked (Some table) = line_among asked table.lines
 
 -- messages of this type have a row of a type and instance
 abbrev pub has_row : ℕ → ℕ → ℕ → Bool
-has_row message kind instance = has_by (is_row kind instance) (table_of message)
+has_row message kind instance = is_some (line_by (is_row kind instance) (table_of message))
 
 -- what a message has in the row of a type and instance; none where its table has no such row
 abbrev pub row_of : ℕ → ℕ → MessageValue → List Value
 row_of kind instance m = unwrap_or (in_row kind instance m) []
 
+-- a row that always has a value, or a group
+abbrev pub always_there : Row → Bool
+always_there (Mandatory kind instance) = true
+always_there (Conditional kind instance) = true
+always_there row = false
+
 -- a row that always has a value
 abbrev pub is_needed : Line → Bool
-is_needed (Single (Mandatory kind instance)) = true
-is_needed (Single (Conditional kind instance)) = true
+is_needed (Single row) = always_there row
 is_needed line = false
 
 -- the first row of this type and instance always has a value
@@ -141,6 +148,14 @@ list_by kind instance table content = option_map (λ (p : Line × Field). plain_
 abbrev pub in_list : ℕ → ℕ → MessageValue → Option (List Value)
 in_list kind instance m = list_by kind instance (table_of m.kind) m.content
 
+-- messages of this type may have several values of a type and instance
+abbrev pub has_several : ℕ → ℕ → ℕ → Bool
+has_several message kind instance = is_some (line_by (is_list kind instance) (table_of message))
+
+-- the several values of a type and instance in a message; none where its table has no such row
+abbrev pub several_of : ℕ → ℕ → MessageValue → List Value
+several_of kind instance m = unwrap_or (in_list kind instance m) []
+
 -- ---- groups
 
 -- the elements in a group
@@ -172,3 +187,39 @@ groups_by kind instance table content = option_map (λ (p : Line × Field). (row
 -- the rows of the groups of a type and instance in a message, and what the groups have; None where its table has no such groups
 abbrev pub in_groups : ℕ → ℕ → MessageValue → Option (List Row × List (List (List Value)))
 in_groups kind instance m = groups_by kind instance (table_of m.kind) m.content
+
+-- ---- bearer contexts, which are the groups of instance 0
+
+-- the line of bearer contexts in the table of messages of this type
+abbrev pub context_line : ℕ → Option Line
+context_line message = line_by (is_groups bearer_context 0) (table_of message)
+
+-- messages of this type may have bearer contexts
+abbrev pub has_contexts : ℕ → Bool
+has_contexts message = is_some (context_line message)
+
+-- the rows of a bearer context of a message of this type
+abbrev pub context_rows : ℕ → List Row
+context_rows message = unwrap_or (option_map rows_of (context_line message)) []
+
+-- groups of which there always is one
+abbrev pub always_some : Line → Bool
+always_some (Grouped row rows) = always_there row
+always_some line = false
+
+-- messages of this type always have a bearer context
+abbrev pub always_has_context : ℕ → Bool
+always_has_context message = unwrap_or (option_map always_some (context_line message)) false
+
+-- the first of these rows of a type and instance always has a value
+abbrev pub always_among : ℕ → ℕ → List Row → Bool
+always_among kind instance [] = false
+always_among kind instance (row ∷ rows) = if (kind_of row == kind) && (instance_of row == instance) then always_there row else always_among kind instance rows
+
+-- bearer contexts of messages of this type always have a value in the row of a type and instance
+abbrev pub context_always_has : ℕ → ℕ → ℕ → Bool
+context_always_has message kind instance = always_among kind instance (context_rows message)
+
+-- what the rows of each bearer context of a message have; none where its table has no bearer contexts
+abbrev pub contexts_of : MessageValue → List (List (List Value))
+contexts_of m = (unwrap_or (in_groups bearer_context 0 m) ([], [])).1

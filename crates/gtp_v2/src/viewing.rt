@@ -1,7 +1,7 @@
 //! Messages read in the place where they lie.
 
 ghost use Rattle.gtp_ie.specs.Form.{bearer_context};
-ghost use Rattle.std.specs.Prelude.{◌≡◌, ◌+◌, ◌/◌, ◌<◌, ◌≤◌, ◌^◌, [], ◌∷◌, IsTrue, Ok, Err, IfOk, IfErr, IsOkAnd, List, length, map, Some, None, option_map};
+ghost use Rattle.std.specs.Prelude.{◌≡◌, ◌≢◌, ℕ, ◌+◌, ◌/◌, ◌<◌, ◌≤◌, ◌^◌, [], ◌∷◌, All, IsTrue, Ok, Err, IfOk, IfErr, IsOkAnd, List, length, map, Some, None, is_some, option_map};
 ghost use Rattle.gtp_values.specs.Steps.{Gives};
 ghost use Rattle.gtp_ie.specs.Element.{elements_of, list_of, all_of};
 ghost use Rattle.gtp_ie.specs.Value.{Value};
@@ -9,7 +9,8 @@ ghost use Rattle.gtp_v2.specs.reading.Lines.{line_of};
 ghost use Rattle.gtp_v2.specs.Table.{Row};
 ghost use Rattle.gtp_v2.specs.reading.Headed.{headed_of, HasHeader};
 ghost use Rattle.gtp_v2.specs.reading.Checked.{forgotten};
-ghost use Rattle.gtp_v2.specs.Viewed.{optional_at, Viewed, in_row, has_row, row_of, always_has, front_value, in_groups, inner_of, values_in, in_list, values_of};
+ghost use Rattle.gtp_v2.specs.Viewed.{optional_at, Viewed, in_row, has_row, row_of, always_has, front_value, in_groups, inner_of, values_in, in_list, has_several, several_of, values_of};
+ghost use Rattle.gtp_v2.specs.Viewed.{has_contexts, context_rows, contexts_of, always_has_context, context_always_has};
 ghost use Rattle.gtp_v2.specs.Message.{raw_of, MessageGives, MessageAllocates, ContentAllocates};
 ghost use Rattle.gtp_v2.specs.reading.Message.{typed_at, content_at, message_at};
 ghost use Rattle.gtp_v2.specs.Body.{content_of, kind_of, message_value, OctetsOnlyWithoutTable};
@@ -409,6 +410,7 @@ impl<'a> MessageView<'a> {
         ensures element { optional_at T.KIND instance self.now.elements ≡ Some (T.value result) }
         // And it is what the message has in that row.
         ensures field { in_row T.KIND instance self.now.message ≡ Some (T.value result ∷ []) }
+        ensures row { row_of T.KIND instance self.now.message ≡ T.value result ∷ [] }
     {
         let Some(elements) = &self.elements else {
             unreachable!()
@@ -425,6 +427,9 @@ impl<'a> MessageView<'a> {
         // table has one.
         ensures list { (values : List Value) →
             in_list T.KIND instance self.now.message ≡ Some values → result ≡ values }
+        // And they are what stands in that row of a message whose type has one.
+        ensures row { IsTrue (has_several self.now.message.kind T.KIND instance)
+            → result ≡ several_of T.KIND instance self.now.message }
     {
         match &self.elements {
             Some(elements) => Values::of(elements.all(T::KIND, instance)),
@@ -467,6 +472,15 @@ impl<'a> MessageView<'a> {
         // What the message's groups have is what these contexts say, row by row.
         ensures groups { (p : List Row × List (List (List Value))) →
             in_groups bearer_context 0 self.now.message ≡ Some p → p.1 ≡ map (values_in p.0) result }
+        // And what these contexts say is what stands in a message whose type has bearer contexts.
+        ensures rows { IsTrue (has_contexts self.now.message.kind) → contexts_of self.now.message
+            ≡ map (values_in (context_rows self.now.message.kind)) result }
+        // There is one where messages of the type always have one.
+        ensures some { IsTrue (always_has_context self.now.message.kind) → result ≢ [] }
+        // Each has a value in each row that always has one.
+        ensures needed { (kind instance : ℕ) →
+            IsTrue (context_always_has self.now.message.kind kind instance) →
+            All (λ es. IsTrue (is_some (optional_at kind instance es))) result }
     {
         match &self.elements {
             Some(elements) => Contexts::of(&elements.from_first(BEARER_CONTEXT, 0)),

@@ -1,5 +1,5 @@
-use Rattle.std.proofs.Common.{[], ◌∷◌, Some, Result, false, refl, sym, ap, subst, ◌∙◌}
-use Rattle.std.specs.Prelude.{IsOk}
+use Rattle.std.proofs.Common.{[], ◌∷◌, List, Option, Some, Result, false, refl, sym, ap, subst, ◌∙◌}
+use Rattle.std.specs.Prelude.{IsOk, unwrap_or}
 use Rattle.gtp_values.proofs.Outcomes.{ok_same}
 use Rattle.gtp_ie.specs.Value.{Value}
 use Rattle.gtp_v2.specs.declared.fault.RowFault.{RowFault}
@@ -30,3 +30,6 @@ returns-clause-field g c =
     let read = is_read (headed_of c.self.inside.header) c.self.inside.elements c.args.self.now c.self.view_is c.self.invariant in
     let n = value_is g.T.IeValue.KIND c.args.instance c.args.self.now read c.requires in
     n.row ∙ ap (λ (v : Value). Some (v ∷ [])) (ok_same RowFault n.value (g.T.IeValue.value c.mandatory.result) (sym n.reads ∙ ap (needed_at false g.T.IeValue.KIND c.args.instance) (sym kept) ∙ c.mandatory.ensures))
+
+pub returns-clause-row : goal.returns-clause-row
+returns-clause-row g c = ap (λ (o : Option (List Value)). unwrap_or o []) (returns-clause-field g c)

@@ -4,7 +4,7 @@ use Rattle.gtp_ie.specs.Value.{Value}
 use Rattle.gtp_v2.specs.reading.Headed.{headed_of}
 use Rattle.gtp_v2.specs.Viewed.{Viewed, values_of}
 use Rattle.gtp_v2.specs.reading.Viewed.{list_or_none}
-use Rattle.gtp_v2.proofs.ListValues.{list_is}
+use Rattle.gtp_v2.proofs.ListValues.{list_is, several_are}
 use Rattle.gtp_v2.proofs.Views.{is_read}
 use Rattle.gtp_v2.proofs.viewing.MessageView.values.Goals as goal
 
@@ -18,7 +18,7 @@ returns-in-Some g c =
     let kept = sym (ap list_or_none c.in-Some.is) ∙ ap (λ (v : Viewed). v.elements) c.self.view_is in
     let read = is_read (headed_of c.self.inside.header) c.self.inside.elements c.args.self.now c.self.view_is c.self.invariant in
     let are = listed kind c.KIND.result c.args.instance c.in-Some.elements c.args.self.now.elements c.all.result c.of.result c.of.ensures c.all.ensures c.KIND.ensures kept in
-    record { elements = are; list = λ values is. are ∙ list_is kind c.args.instance c.args.self.now read values is }
+    record { elements = are; list = λ values is. are ∙ list_is kind c.args.instance c.args.self.now read values is; row = λ has. are ∙ several_are kind c.args.instance c.args.self.now read has }
 
 pub returns-in-None : goal.returns-in-None
 returns-in-None g c =
@@ -26,4 +26,4 @@ returns-in-None g c =
     let kept = c.none.ensures ∙ (sym (ap list_or_none c.in-None.is) ∙ ap (λ (v : Viewed). v.elements) c.self.view_is) in
     let read = is_read (headed_of c.self.inside.header) c.self.inside.elements c.args.self.now c.self.view_is c.self.invariant in
     let are = listed kind c.KIND-in-None.result c.args.instance c.none.result c.args.self.now.elements c.all-in-None.result c.of-in-None.result c.of-in-None.ensures c.all-in-None.ensures c.KIND-in-None.ensures kept in
-    record { elements = are; list = λ values is. are ∙ list_is kind c.args.instance c.args.self.now read values is }
+    record { elements = are; list = λ values is. are ∙ list_is kind c.args.instance c.args.self.now read values is; row = λ has. are ∙ several_are kind c.args.instance c.args.self.now read has }
