@@ -1,22 +1,21 @@
 -- Bearer contexts, where they lie.
-use Rattle.std.proofs.Common.{◌≡◌, ◌↔◌, List, [], ◌∷◌, map, Option, Some, None, refl, sym, ◌∙◌, ap}
-use Rattle.std.specs.Prelude.{option_to_list}
-use Rattle.gtp_ie.specs.Value.{Value}
+use Rattle.std.proofs.Common.{◌≡◌, ◌↔◌, ℕ, List, [], ◌∷◌, map, refl, ◌∙◌, subst}
+use Rattle.std.specs.Prelude.{All}
+use Rattle.std.proofs.lemmas.List.Elements.{All-head}
+use Rattle.gtp_ie.specs.Element.{Element}
+use Rattle.gtp_v2.specs.Message.{MessageValue}
+use Rattle.gtp_v2.specs.Viewed.{values_in, contexts_of, context_rows}
 
-module _ {X Y : Type 0} (f : X → Y) (y : Y) (ys : List Y) where
-  -- there is a first one
-  pub some_context : (xs : List X) → y ∷ ys ≡ map f xs → xs ≡ [] → ⊥
-  some_context xs is none = let no : y ∷ ys ≡ [] = is ∙ ap (map f) none in cc
+-- what each has, the first one has
+pub first_has : {X : Type 0} (P : X → Type 0) (xs : List X) (x : X) (rest : List X) → All P xs → xs ≡ x ∷ rest → P x
+first_has P xs x rest all is = All-head P x rest (subst (All P) is all)
 
-  pub first_context : (xs : List X) (x : X) (rest : List X) → y ∷ ys ≡ map f xs → xs ≡ x ∷ rest → (y ≡ f x) × (ys ≡ map f rest)
-  first_context xs x rest is some = let same : y ∷ ys ≡ f x ∷ map f rest = is ∙ ap (map f) some in (cc, cc)
-
--- the value of a row that has one
-pub one_value : (o : Option Value) (v : Value) → v ∷ [] ≡ option_to_list o → o ≡ Some v
-one_value None v is = absurd cc
-one_value (Some w) v is = cc
+-- the contexts of a message of this type, by the first of them and the rest
+pub first_read : (kind : ℕ) (m : MessageValue) (cs : List (List Element)) (c : List Element) (rest : List (List Element)) → m.kind ≡ kind → contexts_of m ≡ map (values_in (context_rows m.kind)) cs → cs ≡ c ∷ rest
+    → contexts_of m ≡ values_in (context_rows kind) c ∷ map (values_in (context_rows kind)) rest
+first_read kind m cs c rest of are is = are ∙ (λ i. map (values_in (context_rows (of i))) (is i))
 
 -- nothing is left exactly where no further one was read
-pub none_left : {X Y : Type 0} (f : X → Y) (xs : List X) (ys : List Y) → ys ≡ map f xs → ((xs ≡ []) ↔ (ys ≡ []))
-none_left f [] ys is = (λ _. is, λ _. refl)
-none_left f (x ∷ xs) ys is = (λ none. absurd cc, λ none. let no : [] ≡ f x ∷ map f xs = sym none ∙ is in absurd cc)
+pub none_left : {X Y : Type 0} (f : X → Y) (xs : List X) → ((xs ≡ []) ↔ (map f xs ≡ []))
+none_left f [] = (λ _. refl, λ _. refl)
+none_left f (x ∷ xs) = (λ none. absurd cc, λ none. absurd cc)

@@ -1,17 +1,15 @@
 -- Create Bearer Responses: what they say where they lie, and what the packet gateway does with them.
 use Rattle.std.proofs.Common.{◌≡◌, ◌≢◌, inl, inr, ℕ, true, List, [], ◌∷◌, map, Option, Some, None, option_map, refl, sym, ◌∙◌, ap, subst}
-use Rattle.std.specs.Prelude.{◌==◌, not, option_to_list, IsSome, IsSomeAnd}
+use Rattle.std.specs.Prelude.{◌==◌, not, option_to_list, IsSome}
 use Rattle.std.specs.Bool.{beq}
 use Rattle.std.specs.FinMap.{get, insert, remove}
 use Rattle.std.proofs.lemmas.Bool.{eqb-true}
 use Rattle.gtp_values.proofs.Tests.{both}
 use Rattle.gtp_values.specs.FiniteMap.{FiniteMap}
 use Rattle.gtp_values.specs.declared.identifiers.Teid.{Teid}
-use Rattle.gtp_ie.specs.Element.{Element}
 use Rattle.gtp_ie.specs.Value.{Value}
-use Rattle.gtp_v2.specs.Datagram.{IsMessage}
-use Rattle.gtp_v2.specs.Message.{MessageValue}
-use Rattle.gtp_v2.specs.Viewed.{optional_at, values_in}
+use Rattle.gtp_v2.specs.CreateBearerResponse.{bearer_response_context_rows}
+use Rattle.gtp_v2.specs.Viewed.{values_in}
 use Rattle.gtp_machine.specs.declared.role.Role.{Role}
 use Rattle.gtp_machine.specs.declared.outcome.DropReason.TheVariants.{NoPending, Mismatch}
 use Rattle.gtp_machine.specs.declared.outcome.Outcome.TheVariants.{Opened, Clash, Rejected}
@@ -27,12 +25,10 @@ use Rattle.gtp_machine.specs.Response.{Named}
 use Rattle.gtp_machine.specs.Sound.{IsSound, IsWanted}
 use Rattle.gtp_machine.proofs.Sound.Changes.{is_bearer}
 use Rattle.gtp_machine.proofs.Basics.Facts.{one_value}
-use Rattle.gtp_machine.proofs.Basics.Types.{type_kind}
 use Rattle.gtp_gateway.specs.declared.receive.create_bearer_response.AskedBearer.{AskedBearer}
 use Rattle.gtp_gateway.specs.declared.receive.create_bearer_response.BearerResponse.{BearerResponse}
 use Rattle.gtp_gateway.specs.declared.receive.response_context.ResponseContext.{ResponseContext}
 use Rattle.gtp_gateway.specs.declared.receive.restart_counter.Heard.{Heard}
-use Rattle.gtp_machine.specs.declared.message_type.MessageType.TheVariants as types
 use Rattle.gtp_gateway.specs.declared.command.purpose.Purpose.{Purpose}
 use Rattle.gtp_gateway.specs.declared.command.purpose.Asked.{Asked}
 use Rattle.gtp_gateway.specs.declared.command.purpose.Asked.TheVariants.{CreateBearer}
@@ -40,35 +36,21 @@ use Rattle.gtp_gateway.specs.declared.receive.response.Response.{Response}
 use Rattle.gtp_gateway.specs.declared.tables.opening.ResponseVerdict.TheVariants.{Drops, Finishes, OpensBearer}
 use Rattle.gtp_gateway.specs.command.SendRequest.{about}
 use Rattle.gtp_gateway.specs.receive.CreateBearerResponse.{SaysGiven, SaysOnlyGiven, SaysCreateBearerResponse, FitsCreateBearerOf, IsAskedBearer, CanOpenIn}
-use Rattle.gtp_gateway.specs.receive.ResponseContext.{context_values, AreContexts, ReadsOnly}
+use Rattle.gtp_gateway.specs.receive.ResponseContext.{ReadsOnly}
 use Rattle.gtp_gateway.specs.receive.RestartCounter.{node_heard}
 use Rattle.gtp_gateway.specs.command.Purpose.{bearer_of}
-use Rattle.gtp_machine.specs.MessageType.{type_at}
 use Rattle.gtp_gateway.specs.tables.Opening.{IsWaiting, effect_by}
 use Rattle.gtp_gateway.specs.messages.Spelled.{is_asked, is_for}
 use Rattle.gtp_gateway.proofs.Rules.{meets}
 use Rattle.gtp_gateway.proofs.Unopened.{IsBlank, stands_there, blank_there}
-use Rattle.gtp_gateway.proofs.InPlace.{groups_so, create_bearer_answered}
 use Rattle.gtp_gateway.proofs.Pendings.{asked_here, asked_there, IsTold, told_of, names_here, names_there}
 use Rattle.gtp_gateway.proofs.Opened.{heard_sound}
 
 -- ---- what the message says, where it lies
 
--- what the other rows of a bearer context have (table 7.2.4-2)
-abbrev pub given_others : List Element → List (List Value)
-given_others es = option_to_list (optional_at 87 2 es) ∷ option_to_list (optional_at 87 3 es) ∷ []
-
-pub given_contexts : (octets : List ℕ) (m : MessageValue) (is : IsMessage octets m) (at : type_at m.kind ≡ Some types.CreateBearerResponse) → AreContexts m given_others (create_bearer_answered octets m (type_kind m.kind types.CreateBearerResponse at) is).groups
-given_contexts octets m is at =
-    let a = create_bearer_answered octets m (type_kind m.kind types.CreateBearerResponse at) is in
-    record {
-      stand = subst (λ o. IsSomeAnd o (λ p. (p.1 ≡ a.groups) × ((es : List Element) → values_in p.0 es ≡ context_values given_others es))) (sym (groups_so 96 93 0 _ m a.says)) (refl, λ es. refl);
-      each = a.each;
-    }
-
-pub given_only : (groups : List (List (List Value))) (o : Option ResponseContext) → ReadsOnly given_others groups o → SaysOnlyGiven o (map given groups)
+pub given_only : (groups : List (List (List Value))) (o : Option ResponseContext) → ReadsOnly bearer_response_context_rows groups o → SaysOnlyGiven o (map given groups)
 given_only groups (Some c) (es, is, reads) = (
-  given (context_values given_others es),
+  given (values_in bearer_response_context_rows es),
   ap (map given) is,
   record {
     identity = ap (λ (v : Option Value). number_at (option_to_list v)) reads.identity;

@@ -1,23 +1,19 @@
 -- Create Session Responses: what they say where they lie, and what the serving gateway does with them.
 use Rattle.std.proofs.Common.{◌≡◌, inl, inr, ℕ, true, false, List, [], ◌∷◌, map, Option, Some, None, option_map, refl, sym, ◌∙◌, ap, subst}
-use Rattle.std.specs.Prelude.{◌==◌, ◌&&◌, not, is_some, option_to_list, IsSomeAnd}
+use Rattle.std.specs.Prelude.{◌==◌, ◌&&◌, not, is_some, option_to_list}
 use Rattle.std.specs.FinMap.{get, insert, remove}
 use Rattle.std.proofs.lemmas.Bool.{eqb-true}
 use Rattle.gtp_values.proofs.Tests.{both}
 use Rattle.gtp_values.specs.FiniteMap.{FiniteMap}
-use Rattle.gtp_values.specs.TunnelEnd.{TunnelEnd}
 use Rattle.gtp_values.specs.declared.identifiers.Teid.{Teid}
-use Rattle.gtp_values.specs.declared.paa.Paa.{Paa}
-use Rattle.gtp_ie.specs.Element.{Element}
-use Rattle.gtp_ie.specs.Value.{Value, OfFTeid, OfPaa}
-use Rattle.gtp_v2.specs.Datagram.{IsMessage}
-use Rattle.gtp_v2.specs.Message.{MessageValue}
-use Rattle.gtp_v2.specs.Viewed.{optional_at, front_value, values_in}
+use Rattle.gtp_ie.specs.Value.{Value}
+use Rattle.gtp_v2.specs.CreateSessionResponse.{session_response_context_rows}
+use Rattle.gtp_v2.specs.Viewed.{values_in}
 use Rattle.gtp_machine.specs.declared.role.Role.{Role}
 use Rattle.gtp_machine.specs.declared.outcome.DropReason.TheVariants.{NoPending, Mismatch}
 use Rattle.gtp_machine.specs.declared.outcome.Outcome.TheVariants.{Opened, Rejected}
 use Rattle.gtp_machine.specs.Choice.{HasPending}
-use Rattle.gtp_machine.specs.Decoded.{number_at, cause_at, first_in, end_in, paa_in, created}
+use Rattle.gtp_machine.specs.Decoded.{number_at, cause_at, created}
 use Rattle.gtp_machine.specs.Element.{IsAccepting}
 use Rattle.gtp_machine.specs.Input.{Came_to, nothing}
 use Rattle.gtp_machine.specs.Message.{Message, CreateSessionRequest, CreateSessionResponse, CreatedBearer, Create_session_request, header_of, first_created}
@@ -27,14 +23,12 @@ use Rattle.gtp_machine.specs.Response.{Named}
 use Rattle.gtp_machine.specs.Serving.{FitsCreateSession, DescribesSession, opened_session, opened_bearer, CreateSessionAnswered as SessionRow}
 use Rattle.gtp_machine.specs.Sound.{IsSound}
 use Rattle.gtp_machine.proofs.Sound.Changes.{is_session}
-use Rattle.gtp_machine.proofs.Basics.Types.{type_kind}
 use Rattle.gtp_gateway.specs.declared.receive.restart_counter.Heard.{Heard}
 use Rattle.gtp_gateway.specs.receive.RestartCounter.{node_heard}
 use Rattle.gtp_gateway.proofs.Rules.{meets}
 use Rattle.gtp_gateway.proofs.Unopened.{IsBlank, stands_there, blank_there}
 use Rattle.gtp_gateway.proofs.Opened.{heard_sound}
 use Rattle.gtp_gateway.specs.declared.receive.response_context.ResponseContext.{ResponseContext}
-use Rattle.gtp_machine.specs.declared.message_type.MessageType.TheVariants as types
 use Rattle.gtp_gateway.specs.declared.command.purpose.Purpose.{Purpose}
 use Rattle.gtp_gateway.specs.declared.command.purpose.Asked.{Asked}
 use Rattle.gtp_gateway.specs.declared.command.purpose.Asked.TheVariants.{CreateSession}
@@ -44,44 +38,18 @@ use Rattle.gtp_gateway.specs.declared.receive.create_session_response.DescribedS
 use Rattle.gtp_gateway.specs.declared.receive.create_session_response.SessionResponse.{SessionResponse}
 use Rattle.gtp_gateway.specs.declared.tables.opening.ResponseVerdict.TheVariants.{Drops, Finishes, OpensSession}
 use Rattle.gtp_gateway.specs.command.SendRequest.{about}
-use Rattle.gtp_gateway.specs.receive.ResponseContext.{context_values, AreContexts, ReadsOnly}
+use Rattle.gtp_gateway.specs.receive.ResponseContext.{ReadsOnly}
 use Rattle.gtp_gateway.specs.command.Purpose.{session_of, bearer_of}
-use Rattle.gtp_machine.specs.MessageType.{type_at}
 use Rattle.gtp_gateway.specs.receive.CreateSessionResponse.{SaysCreated, SaysOnlyCreated, SaysCreateSessionResponse, FitsCreateSessionOf, IsAskedSession, IsDescribed}
 use Rattle.gtp_gateway.specs.tables.Opening.{IsWaiting, effect_by}
 use Rattle.gtp_gateway.specs.messages.Spelled.{is_asked, is_for}
-use Rattle.gtp_gateway.proofs.InPlace.{groups_so, create_session_answered}
 use Rattle.gtp_gateway.proofs.Pendings.{asked_here, asked_there}
 
 -- ---- what the message says, where it lies
 
--- what the other rows of a bearer context have (table 7.2.2-2)
-abbrev pub created_others : List Element → List (List Value)
-created_others es = option_to_list (optional_at 87 2 es) ∷ option_to_list (optional_at 80 0 es) ∷ option_to_list (optional_at 94 0 es) ∷ []
-
-pub created_contexts : (octets : List ℕ) (m : MessageValue) (is : IsMessage octets m) (at : type_at m.kind ≡ Some types.CreateSessionResponse) → AreContexts m created_others (create_session_answered octets m (type_kind m.kind types.CreateSessionResponse at) is).groups
-created_contexts octets m is at =
-    let a = create_session_answered octets m (type_kind m.kind types.CreateSessionResponse at) is in
-    record {
-      stand = subst (λ o. IsSomeAnd o (λ p. (p.1 ≡ a.groups) × ((es : List Element) → values_in p.0 es ≡ context_values created_others es))) (sym (groups_so 33 93 0 _ m a.says)) (refl, λ es. refl);
-      each = a.each;
-    }
-
-pub end_is : (vs : List Value) (o : Option TunnelEnd) → option_map OfFTeid o ≡ front_value vs → first_in end_in vs ≡ o
-end_is [] None is = refl
-end_is [] (Some e) is = absurd cc
-end_is (v ∷ vs) None is = absurd cc
-end_is (v ∷ vs) (Some e) is = let same : v ≡ OfFTeid e = cc in ap end_in same
-
-pub paa_is : (vs : List Value) (o : Option Paa) → option_map OfPaa o ≡ front_value vs → first_in paa_in vs ≡ o
-paa_is [] None is = refl
-paa_is [] (Some e) is = absurd cc
-paa_is (v ∷ vs) None is = absurd cc
-paa_is (v ∷ vs) (Some e) is = let same : v ≡ OfPaa e = cc in ap paa_in same
-
-pub created_only : (groups : List (List (List Value))) (o : Option ResponseContext) → ReadsOnly created_others groups o → SaysOnlyCreated o (map created groups)
+pub created_only : (groups : List (List (List Value))) (o : Option ResponseContext) → ReadsOnly session_response_context_rows groups o → SaysOnlyCreated o (map created groups)
 created_only groups (Some c) (es, is, reads) = (
-  created (context_values created_others es),
+  created (values_in session_response_context_rows es),
   ap (map created) is,
   record { identity = ap (λ (v : Option Value). number_at (option_to_list v)) reads.identity; cause = ap (λ (v : Option Value). cause_at (option_to_list v)) reads.cause; user = reads.user },
 )

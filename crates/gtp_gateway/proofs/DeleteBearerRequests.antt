@@ -14,20 +14,17 @@ use Rattle.gtp_v2.specs.declared.body.Body.TheVariants as bodies
 use Rattle.gtp_v2.specs.declared.body.delete_bearer_response.RemovalResponseContext.{RemovalResponseContext}
 use Rattle.gtp_v2.specs.DeleteBearerResponse.{removal_response_context_rows, removal_response_context_values}
 use Rattle.gtp_v2.specs.Marks.{RowsMarked}
-use Rattle.gtp_ie.specs.Element.{Element}
 use Rattle.gtp_ie.specs.Value.{Value, OfCause, OfEbi, OfRecovery}
 use Rattle.gtp_v2.specs.Datagram.{IsMessage}
-use Rattle.gtp_v2.specs.DeleteBearerRequest.{delete_bearer_request}
-use Rattle.gtp_v2.specs.Grammar.{LinesAre}
-use Rattle.gtp_v2.specs.Table.{Field, Plain, Groups, start, after}
-use Rattle.gtp_v2.specs.Message.{Content, Fields, MessageValue}
+use Rattle.gtp_v2.specs.Table.{Plain, Groups, start, after}
+use Rattle.gtp_v2.specs.Message.{MessageValue}
 use Rattle.gtp_tables.proofs.Kept.{passing, get_kept}
 use Rattle.gtp_machine.specs.Command.{NamesBearer}
 use Rattle.gtp_machine.specs.Element.{cause_of}
 use Rattle.gtp_machine.specs.Input.{Effect}
 use Rattle.gtp_machine.specs.Answer.{answered}
 use Rattle.gtp_machine.specs.Decoded.{contexts_in, row_in, list_in, first_in, number_of, removed, message_of}
-use Rattle.gtp_machine.specs.Message.{RemovedBearer, DeleteBearerRequest, Delete_bearer_request, Delete_bearer_response}
+use Rattle.gtp_machine.specs.Message.{RemovedBearer, Delete_bearer_request, Delete_bearer_response}
 use Rattle.gtp_machine.specs.Node.{Arrival, Bearer, Node}
 use Rattle.gtp_machine.specs.declared.role.Role.{Role}
 use Rattle.gtp_machine.specs.Reading.{control_message, removed_bearer}
@@ -35,22 +32,22 @@ use Rattle.gtp_machine.proofs.Octets.ByName.{removed_read}
 use Rattle.gtp_machine.specs.Serving.{RemovesEach, DeleteBearerTaken, DeleteBearerJudged, all_removed, any_removed, removal_cause}
 use Rattle.gtp_machine.specs.Spelling.{removed_rows, typed, where_there}
 use Rattle.gtp_machine.proofs.Basics.Types.{type_kind}
+use Rattle.gtp_machine.proofs.Octets.Readings.{reads_as}
 use Rattle.gtp_gateway.specs.declared.tables.change.Change.TheVariants.{Stays}
 use Rattle.gtp_gateway.specs.declared.receive.delete_request.DeleteRequest.{DeleteRequest}
 use Rattle.gtp_gateway.specs.declared.receive.delete_bearer_request.identities.NamedBearer.{NamedBearer}
 use Rattle.gtp_machine.specs.declared.message_type.MessageType.TheVariants as types
 use Rattle.gtp_gateway.specs.declared.step.ControlStep.{ControlStep}
 use Rattle.gtp_gateway.specs.receive.DeleteBearerRequest.{is_at, goes_for, is_found, was_named, NamesOne, NamesEach, identity_named, cause_named, removed_by, context_by, without_named, without_each}
-use Rattle.gtp_gateway.specs.receive.DeleteBearerRequest.{ReadsIdentities, SaysDeleteBearer, SaysIdentities, IsForBearers, number_in, delete_bearer_effect}
+use Rattle.gtp_gateway.specs.receive.DeleteBearerRequest.{delete_bearer_by, identities_of, IsForBearers, number_in, delete_bearer_effect}
 use Rattle.gtp_gateway.specs.receive.DeleteRequest.{ReadsDelete}
 use Rattle.gtp_machine.specs.MessageType.{type_at}
 use Rattle.gtp_gateway.specs.messages.Own.{IsOwn}
 use Rattle.gtp_gateway.specs.receive.Row.{IsRow}
 use Rattle.gtp_gateway.specs.GatewayState.{GatewayState}
 use Rattle.gtp_gateway.proofs.Rules.{meets}
-use Rattle.gtp_gateway.proofs.ByProcedure.{linked_is}
-use Rattle.gtp_gateway.proofs.InPlace.{fields_of, Says, reads_so, its_row}
-use Rattle.gtp_v2.specs.Viewed.{has_row, front_value}
+use Rattle.gtp_gateway.proofs.InPlace.{row_said}
+use Rattle.gtp_v2.specs.Viewed.{has_row, row_of}
 
 -- a row of one kind, as a row of another that holds of the same effects at this node
 pub row_as : (T U : Node → Effect → Type 0) (request : Arrival) (role : Role) (old : Node) (step : ControlStep) (new : GatewayState) → ((e : Effect) → T old e → U old e) → IsRow T request role old step new → IsRow U request role old step new
@@ -212,75 +209,45 @@ delete_bearer_own header number cause linked cs counter few =
 -- ---- the machine's column
 
 -- bearers that are named go
-pub ends_judged : (request : Arrival) (r : DeleteRequest) (d : DeleteBearerRequest) (old : Node) (header : ℕ) (ids : List EbiValue) (ns : List NamedBearer) → SaysDeleteBearer r d → SaysIdentities ids d → IsForBearers r header old → length ids ≤ 11 → map identity_named ns ≡ map number_in ids → NamesEach old r.header.0 [] ns
-    → DeleteBearerJudged request d old (answered request (Delete_bearer_response (record { header = header; number = d.number; cause = cause_of (removal_cause (map removed_by ns)); linked = None; contexts = map removed_by ns; recovery = Some old.counter })) (removal_cause (map removed_by ns)) (without_each ns old))
-ends_judged request r d old header ids ns says listed asked few same names =
+pub ends_judged : (request : Arrival) (r : DeleteRequest) (old : Node) (header : ℕ) (ids : List EbiValue) (ns : List NamedBearer) → IsForBearers r header old → length ids ≤ 11 → map identity_named ns ≡ map number_in ids → NamesEach old r.header.0 [] ns
+    → DeleteBearerJudged request (delete_bearer_by r (map number_in ids)) old (answered request (Delete_bearer_response (record { header = header; number = r.seq; cause = cause_of (removal_cause (map removed_by ns)); linked = None; contexts = map removed_by ns; recovery = Some old.counter })) (removal_cause (map removed_by ns)) (without_each ns old))
+ends_judged request r old header ids ns asked few same names =
     let contexts = map removed_by ns in
     let left = without_each ns old in
-    let named : RemovesEach r.header.0 d.identities old contexts left = subst (λ (l : List ℕ). RemovesEach r.header.0 l old contexts left) (same ∙ sym listed) (removes_each old r.header.0 ns names) in
-    let count : length d.identities ≡ length (map number_in ids) = ap length listed in
-    let effect : Effect = answered request (Delete_bearer_response (record { header = header; number = d.number; cause = cause_of (removal_cause contexts); linked = None; contexts = contexts; recovery = Some old.counter })) (removal_cause contexts) left in
-    meets (record { session = asked.session; stands = ap (get old.sessions) says.header ∙ asked.stands })
+    let effect : Effect = answered request (Delete_bearer_response (record { header = header; number = r.seq; cause = cause_of (removal_cause contexts); linked = None; contexts = contexts; recovery = Some old.counter })) (removal_cause contexts) left in
+    meets (record { session = asked.session; stands = asked.stands })
     (meets asked.opened
-    (subst (λ (o : Option ℕ). DeleteBearerTaken request d o old asked.session effect) (sym (says.linked ∙ asked.unlinked))
+    (subst (λ (o : Option ℕ). DeleteBearerTaken request (delete_bearer_by r (map number_in ids)) o old asked.session effect) (sym asked.unlinked)
     (inr (
-      omega (arith, few, count, length-map ids number_in),
+      omega (arith, few, length-map ids number_in),
       record {
         contexts = contexts;
         left = left;
-        removes = subst (λ (h : ℕ). RemovesEach h d.identities old contexts left) (sym says.header) named;
-        gives = λ i. answered request (Delete_bearer_response (record { header = asked.named i; number = d.number; cause = cause_of (removal_cause contexts); linked = None; contexts = contexts; recovery = Some old.counter })) (removal_cause contexts) left;
+        removes = subst (λ (l : List ℕ). RemovesEach r.header.0 l old contexts left) same (removes_each old r.header.0 ns names);
+        gives = λ i. answered request (Delete_bearer_response (record { header = asked.named i; number = r.seq; cause = cause_of (removal_cause contexts); linked = None; contexts = contexts; recovery = Some old.counter })) (removal_cause contexts) left;
       },
     ))))
 
 -- too many are named
-pub many_judged : (request : Arrival) (r : DeleteRequest) (d : DeleteBearerRequest) (old : Node) (header : Teid) (ids : List EbiValue) → SaysDeleteBearer r d → SaysIdentities ids d → IsForBearers r header.0 old → 11 < length ids
-    → DeleteBearerJudged request d old (delete_bearer_effect request d (record { header = header; cause = 94; linked = None; change = Stays }) old)
-many_judged request r d old header ids says listed asked many =
-    let count : length d.identities ≡ length (map number_in ids) = ap length listed in
-    meets (record { session = asked.session; stands = ap (get old.sessions) says.header ∙ asked.stands })
+pub many_judged : (request : Arrival) (r : DeleteRequest) (old : Node) (header : Teid) (identities : List ℕ) → IsForBearers r header.0 old → 11 < length identities
+    → DeleteBearerJudged request (delete_bearer_by r identities) old (delete_bearer_effect request r.seq (record { header = header; cause = 94; linked = None; change = Stays }) old)
+many_judged request r old header identities asked many =
+    meets (record { session = asked.session; stands = asked.stands })
     (meets asked.opened
-    (subst (λ (o : Option ℕ). DeleteBearerTaken request d o old asked.session (delete_bearer_effect request d (record { header = header; cause = 94; linked = None; change = Stays }) old)) (sym (says.linked ∙ asked.unlinked))
+    (subst (λ (o : Option ℕ). DeleteBearerTaken request (delete_bearer_by r identities) o old asked.session (delete_bearer_effect request r.seq (record { header = header; cause = 94; linked = None; change = Stays }) old)) (sym asked.unlinked)
     (inl (
-      λ few. omega (arith, few, many, count, length-map ids number_in),
-      λ i. answered request (Delete_bearer_response (record { header = asked.named i; number = d.number; cause = cause_of 94; linked = None; contexts = []; recovery = Some old.counter })) 94 old,
+      λ few. omega (arith, few, many),
+      λ i. answered request (Delete_bearer_response (record { header = asked.named i; number = r.seq; cause = cause_of 94; linked = None; contexts = []; recovery = Some old.counter })) 94 old,
     ))))
 
 -- ---- the message, by what was read of it
 
--- a Delete Bearer Request
-record IsDeleteBearerRequest (m : MessageValue) : Type 0 where
-  pub linked : List Value
-  pub identities : List Value
-  pub says : Says 99 (Plain linked ∷ Plain identities ∷ []) m
-
-delete_bearer_asked : (octets : List ℕ) (m : MessageValue) → m.kind ≡ 99 → IsMessage octets m → IsDeleteBearerRequest m
-delete_bearer_asked octets m of is = let f = fields_of 99 delete_bearer_request octets m refl of is in by f.fields f.elements f.are f.content
-  where
-    by : (fs : List Field) (es : List Element) → LinesAre start delete_bearer_request.lines es fs → m.content ≡ Fields fs → IsDeleteBearerRequest m
-    by (a ∷ b ∷ []) es are content = record { linked = are.0.0; identities = are.1.0.0; says = record { of = of; content = content ∙ (λ i. Fields (are.0.2 i ∷ are.1.0.2 i ∷ [])) } }
-    by fs es are content = absurd (grind arith)
-
-pub record IsDeleteBearer (m : MessageValue) (r : DeleteRequest) : Type 0 where
-  pub request : DeleteBearerRequest
-  pub is : message_of m ≡ Delete_bearer_request request
-  pub says : SaysDeleteBearer r request
-  pub reads : (ids : List EbiValue) → ReadsIdentities m ids → SaysIdentities ids request
-
-numbers_read : (ids : List EbiValue) → map (λ (v : Value). unwrap_or (number_of v) 0) (map (λ (i : EbiValue). OfEbi i.0) ids) ≡ map number_in ids
+pub numbers_read : (ids : List EbiValue) → map (λ (v : Value). unwrap_or (number_of v) 0) (map (λ (i : EbiValue). OfEbi i.0) ids) ≡ map number_in ids
 numbers_read [] = refl
 numbers_read (i ∷ ids) = λ x. i.0 ∷ numbers_read ids x
 
-same_list : (linked identities others values : List Value) (content : Content) → content ≡ Fields (Plain linked ∷ Plain identities ∷ []) → content ≡ Fields (Plain others ∷ Plain values ∷ []) → identities ≡ values
-same_list linked identities others values content is read = cc
-
-pub delete_bearer_is : (octets : List ℕ) (m : MessageValue) (r : DeleteRequest) → IsMessage octets m → type_at m.kind ≡ Some types.DeleteBearerRequest → ReadsDelete m r → IsDeleteBearer m r
+pub delete_bearer_is : (octets : List ℕ) (m : MessageValue) (r : DeleteRequest) → IsMessage octets m → type_at m.kind ≡ Some types.DeleteBearerRequest → ReadsDelete m r → message_of m ≡ Delete_bearer_request (delete_bearer_by r (identities_of m))
 unfolding row_in list_in
 delete_bearer_is octets m r is at reads =
-    let a = delete_bearer_asked octets m (type_kind m.kind types.DeleteBearerRequest at) is in
-    record {
-      request = _;
-      is = reads_so 99 _ m a.says;
-      says = record { number = sym reads.number; header = sym reads.header; linked = linked_is a.linked r.linked (reads.linked (ap (λ k. has_row k 73 0) a.says.of) ∙ ap front_value (its_row 99 73 0 _ m a.says)) };
-      reads = λ ids listed. ap (map (λ (v : Value). unwrap_or (number_of v) 0)) (same_list a.linked a.identities listed.0 (map (λ (i : EbiValue). OfEbi i.0) ids) m.content a.says.content listed.1) ∙ numbers_read ids;
-    }
+    let linked = row_said OfEbi number_of (λ n. refl) (row_of 73 0 m) r.linked (reads.linked (ap (λ k. has_row k 73 0) (type_kind m.kind types.DeleteBearerRequest at))) in
+    reads_as types.DeleteBearerRequest octets m is at ∙ (λ i. Delete_bearer_request (record { header = sym reads.header i; number = sym reads.number i; linked = linked i; identities = identities_of m }))

@@ -23,7 +23,6 @@ pub mod Taking
 pub mod Finished
 pub mod Removed
 pub mod Procedures
-pub mod ResponseContexts
 pub mod InPlace
 pub mod Pendings
 pub mod Rows
@@ -51,7 +50,6 @@ pub mod QueuesAfter
 pub mod AcceptedStays
 pub mod Allocations
 pub mod Choosings
-pub mod IdentitiesCounted
 pub mod ChosenOnce
 pub mod LeftAlike
 pub mod Determined

@@ -2,13 +2,12 @@
 use Rattle.std.proofs.Common.{◌≡◌, ℕ, List, Some, ap}
 use Rattle.gtp_v2.specs.Message.{MessageValue}
 use Rattle.gtp_v2.specs.Datagram.{IsMessage}
-use Rattle.gtp_machine.specs.Decoded.{row_in, contexts_in, message_of}
+use Rattle.gtp_machine.specs.Decoded.{message_of}
 use Rattle.gtp_machine.specs.Message.{CreateSessionResponse, CreateBearerRequest, Create_session_response, Create_bearer_request}
 use Rattle.gtp_machine.specs.declared.message_type.MessageType.TheVariants as types
 use Rattle.gtp_machine.specs.MessageType.{type_at, type_of}
-use Rattle.gtp_machine.proofs.Basics.Types.{type_kind}
+use Rattle.gtp_machine.proofs.Octets.Readings.{reads_as, bearer_request_read}
 use Rattle.gtp_gateway.proofs.Procedures.{type_said}
-use Rattle.gtp_gateway.proofs.InPlace.{reads_so, create_session_answered, create_bearer_asked}
 
 pub answer_kind : (a : CreateSessionResponse) (m : MessageValue) → message_of m ≡ Create_session_response a → type_at m.kind ≡ Some types.CreateSessionResponse
 answer_kind a m is = type_said m types.CreateSessionResponse (ap type_of is)
@@ -18,9 +17,7 @@ request_kind q m is = type_said m types.CreateBearerRequest (ap type_of is)
 
 -- octets that spell a message of either type read as one
 pub answer_of : (octets : List ℕ) (m : MessageValue) → IsMessage octets m → type_at m.kind ≡ Some types.CreateSessionResponse → (a : CreateSessionResponse) × (message_of m ≡ Create_session_response a)
-unfolding row_in contexts_in
-answer_of octets m is at = (_, reads_so 33 _ m (create_session_answered octets m (type_kind m.kind types.CreateSessionResponse at) is).says)
+answer_of octets m is at = (_, reads_as types.CreateSessionResponse octets m is at)
 
 pub request_of : (octets : List ℕ) (m : MessageValue) → IsMessage octets m → type_at m.kind ≡ Some types.CreateBearerRequest → (q : CreateBearerRequest) × (message_of m ≡ Create_bearer_request q)
-unfolding row_in contexts_in
-request_of octets m is at = (_, reads_so 95 _ m (create_bearer_asked octets m (type_kind m.kind types.CreateBearerRequest at) is).says)
+request_of octets m is at = (_, (bearer_request_read octets m is at).2)

@@ -1,7 +1,6 @@
 -- Which messages a gateway takes, by their type.
-use Rattle.std.proofs.Common.{◌≡◌, ◌⊎◌, inl, inr, ⊎_elim, ℕ, true, false, List, [], ◌∷◌, Option, Some, None, refl, sym, ◌∙◌, ap, subst}
+use Rattle.std.proofs.Common.{◌≡◌, ◌⊎◌, inl, inr, ⊎_elim, true, false, List, [], ◌∷◌, Option, Some, None, refl, sym, ◌∙◌, ap, subst}
 use Rattle.gtp_ie.specs.Value.{Value}
-use Rattle.gtp_v2.specs.Table.{Field}
 use Rattle.gtp_v2.specs.Message.{Content, Fields, Raw, MessageValue}
 use Rattle.gtp_machine.specs.declared.message_type.MessageType.{MessageType}
 use Rattle.gtp_machine.specs.declared.message_type.MessageType.TheVariants as types
@@ -32,29 +31,29 @@ record IsOf (t : Option MessageType) (m : Message) : Type 0 where
   type : (type_of m ≡ t) ⊎ (type_of m ≡ None)
   plane : plane_of m ≡ Control
 
-session : (header number : ℕ) (f : List Field) (groups : List (List (List Value))) → IsOf (Some types.CreateSessionRequest) (session_request_in header number f groups)
-session header number f [] = record { type = inr refl; plane = refl }
-session header number f (g ∷ groups) = record { type = inl refl; plane = refl }
+session : (m : MessageValue) (groups : List (List (List Value))) → IsOf (Some types.CreateSessionRequest) (session_request_in m groups)
+session m [] = record { type = inr refl; plane = refl }
+session m (g ∷ groups) = record { type = inl refl; plane = refl }
 
-bearer : (header number : ℕ) (f : List Field) (groups : List (List (List Value))) → IsOf (Some types.CreateBearerRequest) (bearer_request_in header number f groups)
-bearer header number f [] = record { type = inr refl; plane = refl }
-bearer header number f (g ∷ groups) = record { type = inl refl; plane = refl }
+bearer : (m : MessageValue) (groups : List (List (List Value))) → IsOf (Some types.CreateBearerRequest) (bearer_request_in m groups)
+bearer m [] = record { type = inr refl; plane = refl }
+bearer m (g ∷ groups) = record { type = inl refl; plane = refl }
 
-fields : (t : Option MessageType) (kind header number : ℕ) (f : List Field) → IsOf t (message_by t kind header number f)
-fields (Some types.CreateSessionRequest) kind header number f = session header number f _
-fields (Some types.CreateBearerRequest) kind header number f = bearer header number f _
-fields t kind header number f = record { type = inl refl; plane = refl }
+fields : (t : Option MessageType) (m : MessageValue) → IsOf t (message_by t m)
+fields (Some types.CreateSessionRequest) m = session m _
+fields (Some types.CreateBearerRequest) m = bearer m _
+fields t m = record { type = inl refl; plane = refl }
 
-content : (kind header number : ℕ) (c : Content) → IsOf (type_at kind) (content_message kind header number c)
-content kind header number (Fields f) = fields (type_at kind) kind header number f
-content kind header number (Raw octets) = record { type = inr refl; plane = refl }
+content : (m : MessageValue) (c : Content) → IsOf (type_at m.kind) (content_message c m)
+content m (Fields f) = fields (type_at m.kind) m
+content m (Raw octets) = record { type = inr refl; plane = refl }
 
 -- what a message was read as is of the control plane
 pub on_control : (m : MessageValue) → plane_of (message_of m) ≡ Control
-on_control m = (content m.kind _ m.seq m.content).plane
+on_control m = (content m m.content).plane
 
 pub type_is_of : (m : MessageValue) → (type_of (message_of m) ≡ type_at m.kind) ⊎ (type_of (message_of m) ≡ None)
-type_is_of m = (content m.kind _ m.seq m.content).type
+type_is_of m = (content m m.content).type
 
 -- a message of a type that the gateway does not take is not taken
 pub not_taken : (role : Role) (m : MessageValue) → takes_some role (type_at m.kind) ≡ false → takes_message role (message_of m) ≡ false

@@ -1,11 +1,6 @@
 -- What a control message reads as, by its type (TS 29.274, 6.1). How the rows of each message read stands in its file in `messages`.
-use Rattle.std.specs.Prelude.{ℕ, List, [], ◌∷◌, Option, Some, None}
+use Rattle.std.specs.Prelude.{List, [], ◌∷◌, Option, Some, None}
 use Rattle.gtp_ie.specs.Value.{Value}
-use Rattle.gtp_v2.specs.EchoRequest.{echo_request}
-use Rattle.gtp_v2.specs.EchoResponse.{echo_response}
-use Rattle.gtp_v2.specs.CreateSessionRequest.{create_session_request}
-use Rattle.gtp_v2.specs.CreateBearerRequest.{create_bearer_request}
-use Rattle.gtp_v2.specs.Table.{Field}
 use Rattle.gtp_v2.specs.Message.{Content, Fields, Raw, MessageValue}
 use Rattle.gtp_machine.specs.declared.message_type.MessageType.{MessageType}
 use Rattle.gtp_machine.specs.declared.message_type.MessageType.TheVariants as types
@@ -26,40 +21,36 @@ use Rattle.gtp_machine.specs.Message.{Message, Echo_request, Echo_response, Crea
 use Rattle.gtp_machine.specs.Message.{Create_session_response, Delete_session_request, Delete_session_response, Create_bearer_request}
 use Rattle.gtp_machine.specs.Message.{Create_bearer_response, Delete_bearer_request, Delete_bearer_response, Other_control}
 use Rattle.gtp_machine.specs.MessageType.{type_at}
-use Rattle.gtp_machine.specs.Node.{written}
 
 -- a Create Session Request with these bearer contexts; each that octets spell has one
-abbrev pub session_request_in : ℕ → ℕ → List Field → List (List (List Value)) → Message
-session_request_in header number f [] = Other_control create_session_request.kind
-session_request_in header number f (first ∷ further) = Create_session_request (create_session_request_in header number f first further)
+abbrev pub session_request_in : MessageValue → List (List (List Value)) → Message
+session_request_in m [] = Other_control m.kind
+session_request_in m (first ∷ further) = Create_session_request (create_session_request_in m first further)
 
 -- a Create Bearer Request with these bearer contexts; each that octets spell has one
-abbrev pub bearer_request_in : ℕ → ℕ → List Field → List (List (List Value)) → Message
-bearer_request_in header number f [] = Other_control create_bearer_request.kind
-bearer_request_in header number f (first ∷ further) = Create_bearer_request (create_bearer_request_in header number f first further)
+abbrev pub bearer_request_in : MessageValue → List (List (List Value)) → Message
+bearer_request_in m [] = Other_control m.kind
+bearer_request_in m (first ∷ further) = Create_bearer_request (create_bearer_request_in m first further)
 
--- the message of a type with these fields, under the TEID and the sequence number of its header; a type that no gateway takes says no more
-abbrev pub message_by : Option MessageType → ℕ → ℕ → ℕ → List Field → Message
-message_by (Some types.EchoRequest) kind header number f = Echo_request (echo_in number echo_request f)
-message_by (Some types.EchoResponse) kind header number f = Echo_response (echo_in number echo_response f)
-message_by (Some types.CreateSessionRequest) kind header number f = session_request_in header number f (contexts_in create_session_request f)
-message_by (Some types.CreateSessionResponse) kind header number f = Create_session_response (create_session_response_in header number f)
-message_by (Some types.DeleteSessionRequest) kind header number f = Delete_session_request (delete_session_request_in header number f)
-message_by (Some types.DeleteSessionResponse) kind header number f = Delete_session_response (delete_session_response_in header number f)
-message_by (Some types.CreateBearerRequest) kind header number f = bearer_request_in header number f (contexts_in create_bearer_request f)
-message_by (Some types.CreateBearerResponse) kind header number f = Create_bearer_response (create_bearer_response_in header number f)
-message_by (Some types.DeleteBearerRequest) kind header number f = Delete_bearer_request (delete_bearer_request_in header number f)
-message_by (Some types.DeleteBearerResponse) kind header number f = Delete_bearer_response (delete_bearer_response_in header number f)
-message_by None kind header number f = Other_control kind
+-- the message of a type; a type that no gateway takes says no more
+abbrev pub message_by : Option MessageType → MessageValue → Message
+message_by (Some types.EchoRequest) m = Echo_request (echo_in m)
+message_by (Some types.EchoResponse) m = Echo_response (echo_in m)
+message_by (Some types.CreateSessionRequest) m = session_request_in m (contexts_in m)
+message_by (Some types.CreateSessionResponse) m = Create_session_response (create_session_response_in m)
+message_by (Some types.DeleteSessionRequest) m = Delete_session_request (delete_session_request_in m)
+message_by (Some types.DeleteSessionResponse) m = Delete_session_response (delete_session_response_in m)
+message_by (Some types.CreateBearerRequest) m = bearer_request_in m (contexts_in m)
+message_by (Some types.CreateBearerResponse) m = Create_bearer_response (create_bearer_response_in m)
+message_by (Some types.DeleteBearerRequest) m = Delete_bearer_request (delete_bearer_request_in m)
+message_by (Some types.DeleteBearerResponse) m = Delete_bearer_response (delete_bearer_response_in m)
+message_by None m = Other_control m.kind
 
-abbrev pub message_in : ℕ → ℕ → ℕ → List Field → Message
-message_in kind header number f = message_by (type_at kind) kind header number f
-
--- the message of a type that carries this; the octets of another type are not looked at
-abbrev pub content_message : ℕ → ℕ → ℕ → Content → Message
-content_message kind header number (Fields fields) = message_in kind header number fields
-content_message kind header number (Raw octets) = Other_control kind
+-- the message that carries this; the octets of another type are not looked at
+abbrev pub content_message : Content → MessageValue → Message
+content_message (Fields fields) m = message_by (type_at m.kind) m
+content_message (Raw octets) m = Other_control m.kind
 
 -- what a message of the control plane says (5.1), as a message of the machine; its priority is not looked at
 abbrev pub message_of : MessageValue → Message
-message_of m = content_message m.kind (written m.teid) m.seq m.content
+message_of m = content_message m.content m

@@ -46,3 +46,8 @@ tunnel_end interface teid ip = record { interface = interface; teid = teid; v4 =
 abbrev pub teid_in : Option TunnelEnd → Option ℕ
 teid_in None = None
 teid_in (Some end) = Some end.teid
+
+-- a TEID that may be absent, as it is written: 0 for none
+abbrev pub written : Option ℕ → ℕ
+written None = 0
+written (Some teid) = teid

@@ -1,10 +1,11 @@
 -- One gateway as it stands.
-use Rattle.std.specs.Prelude.{ℕ, List, [], ◌∷◌, ◌++◌, Option, Some, None}
+use Rattle.std.specs.Prelude.{ℕ, List, [], ◌∷◌, ◌++◌, Option, None}
 use Rattle.std.specs.FinMap.{empty}
 use Rattle.gtp_values.specs.declared.address.Endpoint.{Endpoint}
 use Rattle.gtp_values.specs.FiniteMap.{FiniteMap}
 use Rattle.gtp_machine.specs.Message.{Message}
 use Rattle.gtp_machine.specs.Config.{Config}
+pub use Rattle.gtp_machine.specs.Element.{written}
 pub use Rattle.gtp_machine.specs.declared.role.Role.{Role}
 pub use Rattle.gtp_machine.specs.declared.role.Role.TheVariants.{Serving, Packet}
 pub use Rattle.gtp_tables.specs.declared.context.State.{State}
@@ -51,8 +52,3 @@ fresh_node config counter =
 -- a gateway that holds one more answer, after the others
 abbrev pub holding : Arrival → List Message → Node → Node
 holding request answer node = record node { held = node.held ++ (record { request = request; answer = answer } ∷ []) }
-
--- a TEID that may be absent, as it is written: 0 for none
-abbrev pub written : Option ℕ → ℕ
-written None = 0
-written (Some teid) = teid

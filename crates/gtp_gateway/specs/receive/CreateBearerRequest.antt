@@ -1,6 +1,6 @@
 -- Create Bearer Requests, as the serving gateway takes them.
 use Rattle.gtp_machine.specs.declared.message_type.MessageType.TheVariants as types
-use Rattle.gtp_ie.specs.Form.{number_of, bearer_context}
+use Rattle.gtp_ie.specs.Form.{number_of}
 use Rattle.gtp_ie.specs.declared.form.Form.TheVariants as forms
 use Rattle.std.specs.Prelude.{◌≡◌, ◌↔◌, ℕ, Bool, true, false, IsTrue, IsSome, List, [], ◌∷◌, Option, Some, None}
 use Rattle.std.specs.FinMap.{get}
@@ -11,10 +11,10 @@ use Rattle.gtp_tables.specs.Identity.{HasIdentity, IsLowestUnused}
 use Rattle.gtp_ie.specs.Value.{Value, OfEbi, OfFTeid}
 use Rattle.gtp_v2.specs.CreateBearerRequest.{bearer_request_context_rows}
 use Rattle.gtp_v2.specs.Message.{MessageValue}
-use Rattle.gtp_v2.specs.Viewed.{in_row, in_groups, always_has}
+use Rattle.gtp_v2.specs.Viewed.{row_of, contexts_of}
 use Rattle.gtp_machine.specs.declared.causes.TheConstants.{REQUEST_ACCEPTED, NO_RESOURCES_AVAILABLE}
 use Rattle.gtp_machine.specs.Answer.{refusing}
-use Rattle.gtp_machine.specs.Decoded.{row}
+use Rattle.gtp_machine.specs.Decoded.{context_row}
 use Rattle.gtp_machine.specs.Element.{cause_of, tunnel_end}
 use Rattle.gtp_machine.specs.Input.{Effect, dropped}
 use Rattle.gtp_machine.specs.declared.outcome.DropReason.TheVariants.{ContextNotActive}
@@ -37,26 +37,16 @@ use Rattle.gtp_gateway.specs.Parts.{arrival_of}
 use Rattle.gtp_gateway.specs.receive.Row.{IsRow}
 use Rattle.gtp_gateway.specs.GatewayState.{GatewayState}
 
--- the rows of a Create Bearer Request: its linked identity, and bearer contexts, of which the first has an F-TEID
-pub record HasBearerContext (m : MessageValue) : Type 0 where
-  pub linked : IsTrue (always_has m.kind (number_of forms.Ebi) 0)
-  pub first : List (List Value)
-  pub further : List (List (List Value))
-  pub user : Value
-  pub groups : in_groups bearer_context 0 m ≡ Some (bearer_request_context_rows, first ∷ further)
-  pub ends : row 2 first ≡ user ∷ []
-
--- what was read of the bearer contexts is what stands in them
-pub record ReadsContexts (r : BearerRequest) (first : List (List Value)) (further : List (List (List Value))) : Type 0 where
-  pub user : row 2 first ≡ OfFTeid r.user ∷ []
-  pub alone : IsTrue r.is_alone ↔ (further ≡ [])
-
 -- what was read of a message is what stands in its rows
 pub record ReadsCreateBearer (m : MessageValue) (r : BearerRequest) : Type 0 where
   pub number : r.seq ≡ m.seq
   pub header : r.header.0 ≡ written m.teid
-  pub linked : in_row (number_of forms.Ebi) 0 m ≡ Some (OfEbi r.linked ∷ [])
-  pub contexts : (first : List (List Value)) (further : List (List (List Value))) → in_groups bearer_context 0 m ≡ Some (bearer_request_context_rows, first ∷ further) → ReadsContexts r first further
+  pub linked : row_of (number_of forms.Ebi) 0 m ≡ OfEbi r.linked ∷ []
+  pub first : List (List Value)
+  pub further : List (List (List Value))
+  pub contexts : contexts_of m ≡ first ∷ further
+  pub user : context_row bearer_request_context_rows forms.FTeid 1 first ≡ OfFTeid r.user ∷ []
+  pub alone : IsTrue r.is_alone ↔ (further ≡ [])
 
 -- the machine's message says what was read
 pub record SaysCreateBearer (r : BearerRequest) (q : messages.CreateBearerRequest) : Type 0 where

@@ -42,11 +42,9 @@ use Rattle.gtp_gateway.specs.messages.Sent.{datagram_by, ReadsBack}
 use Rattle.gtp_gateway.specs.tables.Opening.{waiting_heard}
 use Rattle.gtp_gateway.specs.GatewayState.{GatewayState}
 use Rattle.gtp_gateway.specs.receive.Taken.{plain_report}
-use Rattle.gtp_ie.specs.Form.{bearer_context}
 use Rattle.gtp_ie.specs.Value.{Value, OfEbi, OfQos, OfFTeid}
-use Rattle.gtp_v2.specs.CreateSessionRequest.{session_request_context_rows}
 use Rattle.gtp_v2.specs.Message.{MessageValue}
-use Rattle.gtp_v2.specs.Viewed.{in_groups}
+use Rattle.gtp_v2.specs.Viewed.{contexts_of}
 use Rattle.gtp_values.specs.PdnAddress.{PdnAddress, allocation}
 use Rattle.gtp_values.specs.TunnelEnd.{TunnelEnd}
 use Rattle.gtp_gateway.specs.declared.receive.create_session_request.read.RequestedDefault.{RequestedDefault}
@@ -58,7 +56,7 @@ default_values d = (OfEbi d.identity ∷ []) ∷ (OfQos d.qos ∷ []) ∷ (OfFTe
 -- what was read of the default bearer is what stands in the first bearer context
 pub record ReadsContext (m : MessageValue) (d : RequestedDefault) : Type 0 where
   pub further : List (List (List Value))
-  pub groups : in_groups bearer_context 0 m ≡ Some (session_request_context_rows, default_values d ∷ further)
+  pub contexts : contexts_of m ≡ default_values d ∷ further
   pub alone : (d.is_alone ≡ true) ↔ (further ≡ [])
 
 -- the machine's message says what was read

@@ -1,17 +1,19 @@
 -- Delete Bearer Requests, as the serving gateway takes them.
-use Rattle.std.specs.Prelude.{◌≡◌, ◌≢◌, ℕ, ◌==◌, Bool, true, false, List, [], ◌∷◌, ◌++◌, map, Option, Some, None, is_some}
+use Rattle.std.specs.Prelude.{◌≡◌, ◌≢◌, ℕ, ◌==◌, Bool, true, false, List, [], ◌∷◌, ◌++◌, map, Option, Some, None, is_some, unwrap_or}
 use Rattle.std.specs.List.{list_any}
 use Rattle.std.specs.FinMap.{get}
 use Rattle.gtp_values.specs.declared.address.Endpoint.{Endpoint}
 use Rattle.gtp_values.specs.declared.identifiers.Teid.{Teid}
 use Rattle.gtp_ie.specs.declared.value.ebi.EbiValue.{EbiValue}
-use Rattle.gtp_ie.specs.Value.{Value, OfEbi}
-use Rattle.gtp_v2.specs.Message.{Fields, MessageValue}
-use Rattle.gtp_v2.specs.Table.{Plain}
+use Rattle.gtp_ie.specs.Form.{number_of as number_of_form}
+use Rattle.gtp_ie.specs.declared.form.Form.TheVariants as forms
+use Rattle.gtp_v2.specs.Message.{MessageValue}
+use Rattle.gtp_v2.specs.Viewed.{several_of}
 use Rattle.gtp_v2.specs.declared.body.delete_bearer_response.RemovalResponseContext.{RemovalResponseContext}
 use Rattle.gtp_machine.specs.declared.causes.TheConstants.{REQUEST_ACCEPTED, CONTEXT_NOT_FOUND}
 use Rattle.gtp_machine.specs.Answer.{answered}
 use Rattle.gtp_machine.specs.Command.{NamesBearer}
+use Rattle.gtp_machine.specs.Decoded.{number_of}
 use Rattle.gtp_machine.specs.Element.{cause_of}
 use Rattle.gtp_machine.specs.Input.{Effect, dropped}
 use Rattle.gtp_machine.specs.declared.outcome.DropReason.TheVariants.{ContextNotActive}
@@ -31,22 +33,16 @@ use Rattle.gtp_gateway.specs.Parts.{arrival_of}
 use Rattle.gtp_gateway.specs.receive.Row.{IsRow}
 use Rattle.gtp_gateway.specs.GatewayState.{GatewayState}
 
--- these are the identities in the list of a message
-abbrev pub ReadsIdentities : MessageValue → List EbiValue → Type 0
-ReadsIdentities m identities = (linked : List Value) × (m.content ≡ Fields (Plain linked ∷ Plain (map (λ (i : EbiValue). OfEbi i.0) identities) ∷ []))
+-- the machine's Delete Bearer Request that was read, with these identities in its list
+abbrev pub delete_bearer_by : DeleteRequest → List ℕ → messages.DeleteBearerRequest
+delete_bearer_by r identities = record { header = r.header.0; number = r.seq; linked = r.linked; identities = identities }
 
--- the machine's message says what was read before the list
-pub record SaysDeleteBearer (r : DeleteRequest) (d : messages.DeleteBearerRequest) : Type 0 where
-  pub number : d.number ≡ r.seq
-  pub header : d.header ≡ r.header.0
-  pub linked : d.linked ≡ r.linked
+-- the identities in the list of a message
+abbrev pub identities_of : MessageValue → List ℕ
+identities_of m = map (λ v. unwrap_or (number_of v) 0) (several_of (number_of_form forms.Ebi) 1 m)
 
 abbrev pub number_in : EbiValue → ℕ
 number_in i = i.0
-
--- and what stands in the list
-abbrev pub SaysIdentities : List EbiValue → messages.DeleteBearerRequest → Type 0
-SaysIdentities identities d = d.identities ≡ map number_in identities
 
 -- ---- bearers that are named
 
@@ -102,9 +98,9 @@ without_each (n ∷ named) node = without_each named (without_named n.teid node)
 
 -- ---- what the request comes to
 
--- the effect that an answer without bearer contexts stands for
-abbrev pub delete_bearer_effect : Arrival → messages.DeleteBearerRequest → DeleteBearerAnswer → Node → Effect
-delete_bearer_effect request d a old = answered request (Delete_bearer_response (record { header = a.header.0; number = d.number; cause = cause_of a.cause; linked = a.linked; contexts = []; recovery = Some old.counter })) a.cause (changed_by a.change old)
+-- the effect that an answer without bearer contexts stands for, to a request with this number
+abbrev pub delete_bearer_effect : Arrival → ℕ → DeleteBearerAnswer → Node → Effect
+delete_bearer_effect request number a old = answered request (Delete_bearer_response (record { header = a.header.0; number = number; cause = cause_of a.cause; linked = a.linked; contexts = []; recovery = Some old.counter })) a.cause (changed_by a.change old)
 
 -- the request names dedicated bearers of a session that was opened, whose remote goes into the header of the answer
 pub record IsForBearers (r : DeleteRequest) (header : ℕ) (old : Node) : Type 0 where
@@ -114,26 +110,25 @@ pub record IsForBearers (r : DeleteRequest) (header : ℕ) (old : Node) : Type 0
   pub unlinked : r.linked ≡ None
   pub named : header ≡ written session.remote
 
--- an answer is the machine's, and what it changes can change
+-- an answer is the machine's, whatever the list has, and what it changes can change
 pub record JudgesAnswer (r : DeleteRequest) (old : Node) (a : DeleteBearerAnswer) : Type 0 where
-  pub judged : (request : Arrival) (d : messages.DeleteBearerRequest) → SaysDeleteBearer r d → DeleteBearerJudged request d old (delete_bearer_effect request d a old)
+  pub judged : (request : Arrival) (identities : List ℕ) → DeleteBearerJudged request (delete_bearer_by r identities) old (delete_bearer_effect request r.seq a old)
   pub can : CanChange a.change old
 
 -- the verdict is the machine's, as far as the list is not looked at
 abbrev pub JudgesDeleteBearer : DeleteRequest → Node → DeleteBearerVerdict → Type 0
-JudgesDeleteBearer r old NotOpened = (request : Arrival) (d : messages.DeleteBearerRequest) → SaysDeleteBearer r d → DeleteBearerJudged request d old (dropped old ContextNotActive)
+JudgesDeleteBearer r old NotOpened = (request : Arrival) (identities : List ℕ) → DeleteBearerJudged request (delete_bearer_by r identities) old (dropped old ContextNotActive)
 JudgesDeleteBearer r old (Answered answer) = JudgesAnswer r old answer
 JudgesDeleteBearer r old (Bearers header) = IsForBearers r header.0 old
 
 -- a request with this number was answered so
 abbrev pub AnswersDeleteBearer : Endpoint → List ℕ → ℕ → DeleteBearerAnswer → GatewayState → ControlStep → GatewayState → Type 0
-AnswersDeleteBearer source octets number answer old step new = (d : messages.DeleteBearerRequest) → d.number ≡ number → IsRow (λ node e. e ≡ delete_bearer_effect (arrival_of source octets) d answer node) (arrival_of source octets) old.role old.node step new
+AnswersDeleteBearer source octets number answer old step new = IsRow (λ node e. e ≡ delete_bearer_effect (arrival_of source octets) number answer node) (arrival_of source octets) old.role old.node step new
 
 -- a Delete Bearer Request with these identities was taken
 abbrev pub EndsNamed : Endpoint → List ℕ → DeleteRequest → List EbiValue → GatewayState → ControlStep → GatewayState → Type 0
-EndsNamed source octets r identities old step new = (d : messages.DeleteBearerRequest) → SaysDeleteBearer r d → SaysIdentities identities d → IsRow (DeleteBearerJudged (arrival_of source octets) d) (arrival_of source octets) old.role old.node step new
+EndsNamed source octets r identities old step new = IsRow (DeleteBearerJudged (arrival_of source octets) (delete_bearer_by r (map number_in identities))) (arrival_of source octets) old.role old.node step new
 
--- a Delete Bearer Request was taken, whatever identities are read in its list
+-- a Delete Bearer Request was taken, with the identities in the list of its message
 abbrev pub TakesDeleteBearerRequest : Endpoint → List ℕ → MessageValue → DeleteRequest → GatewayState → ControlStep → GatewayState → Type 0
-TakesDeleteBearerRequest source octets m r old step new =
-    (d : messages.DeleteBearerRequest) → SaysDeleteBearer r d → ((identities : List EbiValue) → ReadsIdentities m identities → SaysIdentities identities d) → IsRow (DeleteBearerAsked (arrival_of source octets) d) (arrival_of source octets) old.role old.node step new
+TakesDeleteBearerRequest source octets m r old step new = IsRow (DeleteBearerAsked (arrival_of source octets) (delete_bearer_by r (identities_of m))) (arrival_of source octets) old.role old.node step new

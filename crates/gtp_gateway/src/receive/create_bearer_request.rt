@@ -3,11 +3,13 @@
 pub mod judge;
 
 ghost use Rattle.gtp_gateway.specs.receive.Queues.{QueuesAfterMessage};
-ghost use Rattle.std.specs.Prelude.{◌≡◌, true, IfOk, OnOk, OnErr};
+ghost use Rattle.std.specs.Prelude.{◌≡◌, true, Some, IfOk, OnOk, OnErr};
 ghost use Rattle.gtp_machine.specs.Reading.{control_message};
 ghost use Rattle.gtp_machine.specs.Message as messages;
+ghost use Rattle.gtp_machine.specs.MessageType.{type_at};
+ghost use Rattle.gtp_machine.specs.declared.message_type.MessageType.TheVariants as types;
 ghost use Rattle.gtp_gateway.specs.receive.Choosing.{MakesLowestBearer};
-ghost use Rattle.gtp_gateway.specs.receive.CreateBearerRequest.{HasBearerContext, ReadsCreateBearer, SaysCreateBearer, HasFitCause, bearer_answer, TakesCreateBearerRequest};
+ghost use Rattle.gtp_gateway.specs.receive.CreateBearerRequest.{ReadsCreateBearer, SaysCreateBearer, HasFitCause, bearer_answer, TakesCreateBearerRequest};
 ghost use Rattle.gtp_machine.specs.Node.{Arrival};
 ghost use Rattle.gtp_machine.specs.Serving.{CreateBearerAsked};
 ghost use Rattle.gtp_gateway.specs.receive.Allocations.{AlwaysSendsOrOpens};
@@ -45,7 +47,7 @@ pub struct BearerRequest {
 
 /// What a Create Bearer Request says.
 pub fn create_bearer_request_in(view: &MessageView<'_>) -> BearerRequest
-    requires { HasBearerContext view.now.message }
+    requires { type_at view.now.message.kind ≡ Some types.CreateBearerRequest }
     ensures { ReadsCreateBearer view.now.message result }
 {
     let mut contexts = view.contexts();

@@ -4,14 +4,11 @@ pub mod dedicated;
 pub mod identities;
 
 ghost use Rattle.gtp_gateway.specs.receive.Queues.{QueuesAfterMessage};
-ghost use Rattle.std.specs.Prelude.{◌≡◌, ◌<◌, length, false, IfOk, OnOk, OnErr};
+ghost use Rattle.std.specs.Prelude.{◌≡◌, ℕ, ◌<◌, List, length, false, IfOk, OnOk, OnErr};
 ghost use Rattle.gtp_v2.specs.DeleteBearerRequest.{delete_bearer_request};
-ghost use Rattle.gtp_v2.specs.Datagram.{IsMessage};
-ghost use Rattle.gtp_v2.specs.Viewed.{Carries};
-ghost use Rattle.gtp_machine.specs.Message as messages;
 ghost use Rattle.gtp_machine.specs.Node.{Arrival};
 ghost use Rattle.gtp_machine.specs.Serving.{DeleteBearerAsked};
-ghost use Rattle.gtp_gateway.specs.receive.DeleteBearerRequest.{JudgesDeleteBearer, SaysDeleteBearer, AnswersDeleteBearer, TakesDeleteBearerRequest};
+ghost use Rattle.gtp_gateway.specs.receive.DeleteBearerRequest.{delete_bearer_by, JudgesDeleteBearer, AnswersDeleteBearer, TakesDeleteBearerRequest};
 ghost use Rattle.gtp_gateway.specs.tables.Change.{CanChange};
 ghost use Rattle.gtp_gateway.specs.receive.Allocations.{AlwaysSendsOrOpens};
 ghost use Rattle.gtp_gateway.specs.Parts.{node_of};
@@ -134,16 +131,15 @@ impl Parts {
     ) -> Result<ControlStep, Memory>
         requires whole { IsSoundState (state_of self.old) }
         requires fresh { IsFresh source octets.now (state_of self.old) self.old.held.pairs }
-        requires spelled { IsMessage octets.now view.now.message × Carries octets.now view.now }
         requires kind { view.now.message.kind ≡ delete_bearer_request.kind }
         ensures taken { IfOk result (λ step. TakesDeleteBearerRequest source octets.now
             view.now.message request.now (state_of self.old) step (state_of self.new)) }
         ensures goes { OnOk result
             (QueuesAfterMessage source octets.now (state_of self.old) (state_of self.new)) }
         ensures unmade { IfOk result (λ step. step.report.made ≡ false) }
-        ensures memory { OnErr result ((arrival : Arrival) (d : messages.DeleteBearerRequest)
-            → SaysDeleteBearer request.now d
-            → AlwaysSendsOrOpens (DeleteBearerAsked arrival d) (node_of self.old)) }
+        ensures memory { OnErr result ((arrival : Arrival) (identities : List ℕ) → AlwaysSendsOrOpens
+            (DeleteBearerAsked arrival (delete_bearer_by request.now identities))
+            (node_of self.old)) }
         ensures err { OnErr result (state_of self.new ≡ state_of self.old) }
     {
         if self.held.is_full() {

@@ -2,9 +2,9 @@
 
 ghost use Rattle.gtp_ie.specs.Form.{number_of};
 ghost use Rattle.gtp_ie.specs.declared.form.Form.TheVariants as forms;
-ghost use Rattle.std.specs.Prelude.{◌≡◌, ◌↔◌, ◌∷◌, [], IsTrue, Some};
+ghost use Rattle.std.specs.Prelude.{◌≡◌, ◌↔◌, ◌∷◌, [], IsTrue};
 ghost use Rattle.gtp_ie.specs.Value.{OfCause};
-ghost use Rattle.gtp_v2.specs.Viewed.{in_row, always_has};
+ghost use Rattle.gtp_v2.specs.Viewed.{row_of, always_has};
 ghost use Rattle.gtp_reliable.specs.Pending.{purpose_of, SameTimes};
 ghost use Rattle.gtp_machine.specs.Node.{written};
 ghost use Rattle.gtp_machine.specs.Removal.{finished_about};
@@ -33,8 +33,7 @@ pub fn response_in(view: &MessageView<'_>) -> Response
     requires { IsTrue (always_has view.now.message.kind (number_of forms.Cause) 0) }
     ensures seq { result.seq ≡ view.now.message.seq }
     ensures header { result.header.0 ≡ written view.now.message.teid }
-    ensures cause { in_row (number_of forms.Cause) 0 view.now.message
-        ≡ Some (OfCause result.cause ∷ []) }
+    ensures cause { row_of (number_of forms.Cause) 0 view.now.message ≡ OfCause result.cause ∷ [] }
 {
     Response {
         seq: view.seq(),

@@ -3,12 +3,10 @@
 
 ghost use Rattle.gtp_ie.specs.Form.{number_of};
 ghost use Rattle.gtp_ie.specs.declared.form.Form.TheVariants as forms;
-ghost use Rattle.std.specs.Prelude.{◌≡◌, ◌↔◌, IsTrue, List, is_some};
-ghost use Rattle.gtp_ie.specs.Element.{Element};
-ghost use Rattle.gtp_ie.specs.Value.{Value};
-ghost use Rattle.gtp_v2.specs.Viewed.{optional_at};
+ghost use Rattle.std.specs.Prelude.{◌≡◌, ◌↔◌, IsTrue, is_some};
+ghost use Rattle.gtp_v2.specs.Viewed.{optional_at, context_rows, contexts_of};
 ghost use Rattle.gtp_machine.specs.Element.{IsAccepting, address_of, teid_in};
-ghost use Rattle.gtp_gateway.specs.receive.ResponseContext.{AreContexts, ReadsContext, ReadsOnly};
+ghost use Rattle.gtp_gateway.specs.receive.ResponseContext.{HasCauses, ReadsContext, ReadsOnly};
 
 use gtp_v2::{ContextView, EbiValue, MessageView};
 use gtp_values::{Addr, Below, Cause, FTeid, Paa};
@@ -63,10 +61,8 @@ fn context_in(context: &ContextView<'_>) -> ResponseContext
 
 /// What the only bearer context of a response says, where there is exactly one.
 pub fn only_context_in(view: &MessageView<'_>) -> Option<ResponseContext>
-    requires { (others : List Element → List (List Value)) × (groups : List (List (List Value)))
-        × AreContexts view.now.message others groups }
-    ensures { (others : List Element → List (List Value)) (groups : List (List (List Value)))
-        → AreContexts view.now.message others groups → ReadsOnly others groups result }
+    requires { HasCauses view.now.message.kind }
+    ensures { ReadsOnly (context_rows view.now.message.kind) (contexts_of view.now.message) result }
 {
     let mut contexts = view.contexts();
     let Some(first) = contexts.next() else {

@@ -30,9 +30,9 @@ use Rattle.gtp_machine.specs.declared.message_type.MessageType.TheVariants as ty
 use Rattle.gtp_machine.specs.MessageType.{type_at}
 use Rattle.gtp_machine.specs.Element.{IsAccepting, cause_of, teid_in}
 use Rattle.gtp_machine.specs.Message.{CreatedBearer, GivenBearer, Message}
-use Rattle.gtp_machine.specs.Node.{Arrival, written}
+use Rattle.gtp_machine.specs.Node.{Arrival}
 use Rattle.gtp_machine.specs.Input.{Control_came, ControlReading, Control_message, MessageType, Defect, Too_short, Out_of_range}
-use Rattle.gtp_machine.specs.Decoded.{row_in, contexts_in, end_in, first_in, cause_at, row, values_in, groups_in, created, given, session_request_in, bearer_request_in, message_by, message_in, message_of}
+use Rattle.gtp_machine.specs.Decoded.{row_in, contexts_in, end_in, first_in, cause_at, row, values_in, groups_in, created, given, session_request_in, bearer_request_in, message_by, message_of}
 use Rattle.gtp_machine.specs.Reading.{control_fault, control_reading_of, control_reading, element_fault, defect_in, request_type, missing_in, DatagramReading, Alone, Both, announces, messages_read, datagram_fault, pair_reading_of, IsDatagramReadOf, taken_as}
 use Rattle.gtp_machine.specs.Sound.{NamesItsEnds, IsWellFormed, ReadsWhole, PairReadsWhole, TakenWhole}
 use Rattle.gtp_machine.proofs.Octets.Datagrams.{datagram_by_grammar}
@@ -116,19 +116,19 @@ context_end others b es (ebi ∷ cause ∷ user ∷ rows) is are a =
     end_there 2 es user (needed 87 2 ((b && accepts ebi) && accepts cause) es user (and_from _ _ (and_from _ _ is (one_neutral 73 0 es ebi ebi_accepts are.0)) (accepted cause a)) are.1.1.0)
 
 -- a Create Session Response
-session_whole : (header number : ℕ) (es : List Element) (f : List Field) → LinesAre start create_session_response.lines es f → NamesItsEnds (message_in 33 header number f)
+session_whole : (m : MessageValue) (es : List Element) (f : List Field) → LinesAre start create_session_response.lines es f → NamesItsEnds (message_of (record m { kind = 33; content = Fields f }))
 unfolding row_in contexts_in
-session_whole header number es [] lines a = absurd lines
-session_whole header number es (cause ∷ []) lines a = absurd lines.1
-session_whole header number es (cause ∷ control ∷ []) lines a = absurd lines.1.1
-session_whole header number es (cause ∷ control ∷ paa ∷ []) lines a = absurd lines.1.1.1
-session_whole header number es (cause ∷ control ∷ paa ∷ ambr ∷ []) lines a = absurd lines.1.1.1.1
-session_whole header number es (Groups g ∷ control ∷ paa ∷ ambr ∷ contexts ∷ rest) lines a = absurd (none_accepts a)
-session_whole header number es (Plain cause ∷ Groups g ∷ paa ∷ ambr ∷ contexts ∷ rest) lines a = absurd (groups_not_plain g _ lines.1.0.2)
-session_whole header number es (Plain cause ∷ Plain control ∷ Groups g ∷ ambr ∷ contexts ∷ rest) lines a = absurd (groups_not_plain g _ lines.1.1.0.2)
-session_whole header number es (Plain cause ∷ Plain control ∷ Plain paa ∷ Groups g ∷ contexts ∷ rest) lines a = absurd (groups_not_plain g _ lines.1.1.1.0.2)
-session_whole header number es (Plain cause ∷ Plain control ∷ Plain paa ∷ Plain ambr ∷ Plain values ∷ rest) lines a = absurd (plain_not_groups values _ lines.1.1.1.1.0.2)
-session_whole header number es (Plain cause ∷ Plain control ∷ Plain paa ∷ Plain ambr ∷ Groups contexts ∷ rest) lines a = (end_there 1 es control control_is, each)
+session_whole m es [] lines a = absurd lines
+session_whole m es (cause ∷ []) lines a = absurd lines.1
+session_whole m es (cause ∷ control ∷ []) lines a = absurd lines.1.1
+session_whole m es (cause ∷ control ∷ paa ∷ []) lines a = absurd lines.1.1.1
+session_whole m es (cause ∷ control ∷ paa ∷ ambr ∷ []) lines a = absurd lines.1.1.1.1
+session_whole m es (Groups g ∷ control ∷ paa ∷ ambr ∷ contexts ∷ rest) lines a = absurd (none_accepts a)
+session_whole m es (Plain cause ∷ Groups g ∷ paa ∷ ambr ∷ contexts ∷ rest) lines a = absurd (groups_not_plain g _ lines.1.0.2)
+session_whole m es (Plain cause ∷ Plain control ∷ Groups g ∷ ambr ∷ contexts ∷ rest) lines a = absurd (groups_not_plain g _ lines.1.1.0.2)
+session_whole m es (Plain cause ∷ Plain control ∷ Plain paa ∷ Groups g ∷ contexts ∷ rest) lines a = absurd (groups_not_plain g _ lines.1.1.1.0.2)
+session_whole m es (Plain cause ∷ Plain control ∷ Plain paa ∷ Plain ambr ∷ Plain values ∷ rest) lines a = absurd (plain_not_groups values _ lines.1.1.1.1.0.2)
+session_whole m es (Plain cause ∷ Plain control ∷ Plain paa ∷ Plain ambr ∷ Groups contexts ∷ rest) lines a = (end_there 1 es control control_is, each)
   where
     plain : (values others : List Value) → Plain values ≡ Plain others → others ≡ values
     plain values others same = sym (ap values_in same)
@@ -163,13 +163,13 @@ session_whole header number es (Plain cause ∷ Plain control ∷ Plain paa ∷ 
         (its.0, ap (λ (k : CreatedBearer). teid_in k.user) found.same ∙ its.1)
 
 -- a Create Bearer Response
-bearer_whole : (header number : ℕ) (es : List Element) (f : List Field) → LinesAre start create_bearer_response.lines es f → NamesItsEnds (message_in 96 header number f)
+bearer_whole : (m : MessageValue) (es : List Element) (f : List Field) → LinesAre start create_bearer_response.lines es f → NamesItsEnds (message_of (record m { kind = 96; content = Fields f }))
 unfolding row_in contexts_in
-bearer_whole header number es [] lines a = absurd lines
-bearer_whole header number es (cause ∷ []) lines a = absurd lines.1
-bearer_whole header number es (Groups g ∷ contexts ∷ rest) lines a = absurd (none_accepts a)
-bearer_whole header number es (Plain cause ∷ Plain values ∷ rest) lines a = absurd (plain_not_groups values _ lines.1.0.2)
-bearer_whole header number es (Plain cause ∷ Groups contexts ∷ rest) lines a = each
+bearer_whole m es [] lines a = absurd lines
+bearer_whole m es (cause ∷ []) lines a = absurd lines.1
+bearer_whole m es (Groups g ∷ contexts ∷ rest) lines a = absurd (none_accepts a)
+bearer_whole m es (Plain cause ∷ Plain values ∷ rest) lines a = absurd (plain_not_groups values _ lines.1.0.2)
+bearer_whole m es (Plain cause ∷ Groups contexts ∷ rest) lines a = each
   where
     each : (c : GivenBearer) → Among c (map given contexts) → IsAccepting c.cause → (t : ℕ) × (teid_in c.serving_user ≡ Some t)
     each c among accepting =
@@ -179,27 +179,29 @@ bearer_whole header number es (Plain cause ∷ Groups contexts ∷ rest) lines a
         let its = context_end (drop 3 bearer_response_context_rows) (accepts cause) found.is.0 found.x (accepted cause a) found.is.2 (subst (λ (k : GivenBearer). IsAccepting k.cause) found.same accepting) in
         (its.0, ap (λ (k : GivenBearer). teid_in k.serving_user) found.same ∙ its.1)
 
-session_request_whole : (header number : ℕ) (f : List Field) (contexts : List (List (List Value))) → NamesItsEnds (session_request_in header number f contexts)
-session_request_whole header number f [] = tt
-session_request_whole header number f (first ∷ further) = tt
+session_request_whole : (m : MessageValue) (contexts : List (List (List Value))) → NamesItsEnds (session_request_in m contexts)
+session_request_whole m [] = tt
+session_request_whole m (first ∷ further) = tt
 
-bearer_request_whole : (header number : ℕ) (f : List Field) (contexts : List (List (List Value))) → NamesItsEnds (bearer_request_in header number f contexts)
-bearer_request_whole header number f [] = tt
-bearer_request_whole header number f (first ∷ further) = tt
+bearer_request_whole : (m : MessageValue) (contexts : List (List (List Value))) → NamesItsEnds (bearer_request_in m contexts)
+bearer_request_whole m [] = tt
+bearer_request_whole m (first ∷ further) = tt
 
 -- what octets spell is whole
-fields_whole : (octets : List ℕ) (m : MessageValue) (f : List Field) → m.content ≡ Fields f → IsMessage octets m → NamesItsEnds (message_in m.kind (written m.teid) m.seq f)
+fields_whole : (octets : List ℕ) (m : MessageValue) (f : List Field) → m.content ≡ Fields f → IsMessage octets m → NamesItsEnds (message_of (record m { content = Fields f }))
 fields_whole octets m f says is = by (type_at m.kind) refl
   where
-    by : (t : Option MessageType) → type_at m.kind ≡ t → NamesItsEnds (message_by t m.kind (written m.teid) m.seq f)
-    by (Some types.CreateSessionRequest) at = session_request_whole (written m.teid) m.seq f _
+    by : (t : Option MessageType) → type_at m.kind ≡ t → NamesItsEnds (message_by t (record m { content = Fields f }))
+    by (Some types.CreateSessionRequest) at = session_request_whole (record m { content = Fields f }) _
     by (Some types.CreateSessionResponse) at =
-        let lines = typed_lines 33 create_session_response octets m f (λ h content kind c. subst (λ k. CarriesBy (table_of k) h content) kind c) (type_kind m.kind types.CreateSessionResponse at) says is in
-        session_whole (written m.teid) m.seq lines.0 f lines.1
-    by (Some types.CreateBearerRequest) at = bearer_request_whole (written m.teid) m.seq f _
+        let of = type_kind m.kind types.CreateSessionResponse at in
+        let lines = typed_lines 33 create_session_response octets m f (λ h content kind c. subst (λ k. CarriesBy (table_of k) h content) kind c) of says is in
+        subst (λ (k : ℕ). NamesItsEnds (message_by (Some types.CreateSessionResponse) (record m { kind = k; content = Fields f }))) (sym of) (session_whole m lines.0 f lines.1)
+    by (Some types.CreateBearerRequest) at = bearer_request_whole (record m { content = Fields f }) _
     by (Some types.CreateBearerResponse) at =
-        let lines = typed_lines 96 create_bearer_response octets m f (λ h content kind c. subst (λ k. CarriesBy (table_of k) h content) kind c) (type_kind m.kind types.CreateBearerResponse at) says is in
-        bearer_whole (written m.teid) m.seq lines.0 f lines.1
+        let of = type_kind m.kind types.CreateBearerResponse at in
+        let lines = typed_lines 96 create_bearer_response octets m f (λ h content kind c. subst (λ k. CarriesBy (table_of k) h content) kind c) of says is in
+        subst (λ (k : ℕ). NamesItsEnds (message_by (Some types.CreateBearerResponse) (record m { kind = k; content = Fields f }))) (sym of) (bearer_whole m lines.0 f lines.1)
     by t at = tt
 
 message_whole : (octets : List ℕ) (m : MessageValue) → IsMessage octets m → NamesItsEnds (message_of m)

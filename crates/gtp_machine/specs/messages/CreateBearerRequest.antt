@@ -4,8 +4,10 @@ use Rattle.gtp_values.specs.TunnelEnd.{TunnelEnd}
 use Rattle.gtp_values.specs.declared.qos.Qos.{Qos}
 use Rattle.gtp_ie.specs.Value.{Value, OfEbi, OfQos, OfTft, OfFTeid, OfChargingId, OfPti}
 use Rattle.gtp_ie.specs.declared.form.Form.TheVariants as forms
-use Rattle.gtp_v2.specs.CreateBearerRequest.{create_bearer_request, bearer_request_context_rows}
+use Rattle.gtp_v2.specs.CreateBearerRequest.{bearer_request_context_rows}
+use Rattle.gtp_v2.specs.Message.{MessageValue}
 use Rattle.gtp_v2.specs.Table.{Field, Plain, Groups}
+use Rattle.gtp_machine.specs.Element.{written}
 use Rattle.gtp_machine.specs.messages.Rows.{context_row, end_at, first_in, number_at, number_of, octets_at, qos_at, row_in, where_there}
 
 -- a bearer context
@@ -37,12 +39,12 @@ wanted rows =
     }
 
 -- how its rows read, with its first bearer context and the further ones
-abbrev pub create_bearer_request_in : ℕ → ℕ → List Field → List (List Value) → List (List (List Value)) → CreateBearerRequest
-create_bearer_request_in header number f first further = record {
-  header = header;
-  number = number;
-  transaction = first_in number_of (row_in create_bearer_request forms.Pti 0 f);
-  linked = number_at (row_in create_bearer_request forms.Ebi 0 f);
+abbrev pub create_bearer_request_in : MessageValue → List (List Value) → List (List (List Value)) → CreateBearerRequest
+create_bearer_request_in m first further = record {
+  header = written m.teid;
+  number = m.seq;
+  transaction = first_in number_of (row_in forms.Pti 0 m);
+  linked = number_at (row_in forms.Ebi 0 m);
   context = wanted first;
   further = map wanted further;
 }

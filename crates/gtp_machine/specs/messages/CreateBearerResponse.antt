@@ -4,9 +4,10 @@ use Rattle.gtp_values.specs.TunnelEnd.{TunnelEnd}
 use Rattle.gtp_values.specs.declared.cause.Cause.{Cause}
 use Rattle.gtp_ie.specs.Value.{Value, OfCause, OfRecovery, OfEbi, OfFTeid}
 use Rattle.gtp_ie.specs.declared.form.Form.TheVariants as forms
-use Rattle.gtp_v2.specs.CreateBearerResponse.{create_bearer_response, bearer_response_context_rows}
+use Rattle.gtp_v2.specs.CreateBearerResponse.{bearer_response_context_rows}
+use Rattle.gtp_v2.specs.Message.{MessageValue}
 use Rattle.gtp_v2.specs.Table.{Field, Plain, Groups}
-use Rattle.gtp_machine.specs.Element.{teid_in}
+use Rattle.gtp_machine.specs.Element.{teid_in, written}
 use Rattle.gtp_machine.specs.messages.Rows.{cause_at, context_row, contexts_in, end_in, first_in, number_at, number_of, row_in, where_there}
 
 -- a bearer context
@@ -35,13 +36,13 @@ given rows =
     }
 
 -- how its rows read
-abbrev pub create_bearer_response_in : ℕ → ℕ → List Field → CreateBearerResponse
-create_bearer_response_in header number f = record {
-  header = header;
-  number = number;
-  cause = cause_at (row_in create_bearer_response forms.Cause 0 f);
-  contexts = map given (contexts_in create_bearer_response f);
-  recovery = first_in number_of (row_in create_bearer_response forms.Recovery 0 f);
+abbrev pub create_bearer_response_in : MessageValue → CreateBearerResponse
+create_bearer_response_in m = record {
+  header = written m.teid;
+  number = m.seq;
+  cause = cause_at (row_in forms.Cause 0 m);
+  contexts = map given (contexts_in m);
+  recovery = first_in number_of (row_in forms.Recovery 0 m);
 }
 
 -- the rows of a bearer context

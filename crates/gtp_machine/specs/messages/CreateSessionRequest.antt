@@ -7,9 +7,10 @@ use Rattle.gtp_values.specs.declared.qos.Ambr.{Ambr}
 use Rattle.gtp_values.specs.declared.qos.Qos.{Qos}
 use Rattle.gtp_ie.specs.Value.{Value, OfImsi, OfRecovery, OfApn, OfAmbr, OfEbi, OfPaa, OfQos, OfRat, OfPlmn, OfFTeid, OfPdnType, OfSelection}
 use Rattle.gtp_ie.specs.declared.form.Form.TheVariants as forms
-use Rattle.gtp_v2.specs.CreateSessionRequest.{create_session_request, session_request_context_rows}
+use Rattle.gtp_v2.specs.CreateSessionRequest.{session_request_context_rows}
+use Rattle.gtp_v2.specs.Message.{MessageValue}
 use Rattle.gtp_v2.specs.Table.{Field, Plain, Groups}
-use Rattle.gtp_machine.specs.Element.{Subscriber}
+use Rattle.gtp_machine.specs.Element.{Subscriber, written}
 use Rattle.gtp_machine.specs.messages.Rows.{ambr_in, context_row, end_at, first_in, network_in, number_at, number_of, octets_at, paa_in, qos_at, row_in, where_there}
 
 -- the bearer context of a Create Session Request
@@ -45,22 +46,22 @@ requested rows =
     }
 
 -- how its rows read, with its first bearer context and the further ones
-abbrev pub create_session_request_in : ℕ → ℕ → List Field → List (List Value) → List (List (List Value)) → CreateSessionRequest
-create_session_request_in header number f first further = record {
-  header = header;
-  number = number;
-  imsi = octets_at (row_in create_session_request forms.Imsi 0 f);
-  rat = number_at (row_in create_session_request forms.Rat 0 f);
-  network = first_in network_in (row_in create_session_request forms.Plmn 0 f);
-  control = end_at (row_in create_session_request forms.FTeid 0 f);
-  access_point = octets_at (row_in create_session_request forms.Apn 0 f);
-  selection = first_in number_of (row_in create_session_request forms.Selection 0 f);
-  pdn = number_at (row_in create_session_request forms.PdnType 0 f);
-  address = first_in paa_in (row_in create_session_request forms.Paa 0 f);
-  ambr = first_in ambr_in (row_in create_session_request forms.Ambr 0 f);
+abbrev pub create_session_request_in : MessageValue → List (List Value) → List (List (List Value)) → CreateSessionRequest
+create_session_request_in m first further = record {
+  header = written m.teid;
+  number = m.seq;
+  imsi = octets_at (row_in forms.Imsi 0 m);
+  rat = number_at (row_in forms.Rat 0 m);
+  network = first_in network_in (row_in forms.Plmn 0 m);
+  control = end_at (row_in forms.FTeid 0 m);
+  access_point = octets_at (row_in forms.Apn 0 m);
+  selection = first_in number_of (row_in forms.Selection 0 m);
+  pdn = number_at (row_in forms.PdnType 0 m);
+  address = first_in paa_in (row_in forms.Paa 0 m);
+  ambr = first_in ambr_in (row_in forms.Ambr 0 m);
   context = requested first;
   further = map requested further;
-  recovery = first_in number_of (row_in create_session_request forms.Recovery 0 f);
+  recovery = first_in number_of (row_in forms.Recovery 0 m);
 }
 
 -- the rows of a bearer context

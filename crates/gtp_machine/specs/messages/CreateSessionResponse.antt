@@ -7,9 +7,10 @@ use Rattle.gtp_values.specs.declared.qos.Ambr.{Ambr}
 use Rattle.gtp_values.specs.declared.qos.Qos.{Qos}
 use Rattle.gtp_ie.specs.Value.{Value, OfCause, OfRecovery, OfAmbr, OfEbi, OfPaa, OfQos, OfFTeid, OfChargingId}
 use Rattle.gtp_ie.specs.declared.form.Form.TheVariants as forms
-use Rattle.gtp_v2.specs.CreateSessionResponse.{create_session_response, session_response_context_rows}
+use Rattle.gtp_v2.specs.CreateSessionResponse.{session_response_context_rows}
+use Rattle.gtp_v2.specs.Message.{MessageValue}
 use Rattle.gtp_v2.specs.Table.{Field, Plain, Groups}
-use Rattle.gtp_machine.specs.Element.{teid_in}
+use Rattle.gtp_machine.specs.Element.{teid_in, written}
 use Rattle.gtp_machine.specs.messages.Rows.{ambr_in, cause_at, context_row, contexts_in, end_in, first_in, number_at, number_of, paa_in, qos_in, row_in, where_there}
 
 -- a bearer context
@@ -43,16 +44,16 @@ created rows =
     }
 
 -- how its rows read
-abbrev pub create_session_response_in : ℕ → ℕ → List Field → CreateSessionResponse
-create_session_response_in header number f = record {
-  header = header;
-  number = number;
-  cause = cause_at (row_in create_session_response forms.Cause 0 f);
-  control = first_in end_in (row_in create_session_response forms.FTeid 1 f);
-  address = first_in paa_in (row_in create_session_response forms.Paa 0 f);
-  ambr = first_in ambr_in (row_in create_session_response forms.Ambr 0 f);
-  contexts = map created (contexts_in create_session_response f);
-  recovery = first_in number_of (row_in create_session_response forms.Recovery 0 f);
+abbrev pub create_session_response_in : MessageValue → CreateSessionResponse
+create_session_response_in m = record {
+  header = written m.teid;
+  number = m.seq;
+  cause = cause_at (row_in forms.Cause 0 m);
+  control = first_in end_in (row_in forms.FTeid 1 m);
+  address = first_in paa_in (row_in forms.Paa 0 m);
+  ambr = first_in ambr_in (row_in forms.Ambr 0 m);
+  contexts = map created (contexts_in m);
+  recovery = first_in number_of (row_in forms.Recovery 0 m);
 }
 
 -- the rows of a bearer context

@@ -3,8 +3,10 @@ use Rattle.std.specs.Prelude.{ℕ, List, [], ◌∷◌, map, Option}
 use Rattle.gtp_values.specs.declared.cause.Cause.{Cause}
 use Rattle.gtp_ie.specs.Value.{Value, OfCause, OfRecovery, OfEbi}
 use Rattle.gtp_ie.specs.declared.form.Form.TheVariants as forms
-use Rattle.gtp_v2.specs.DeleteBearerResponse.{delete_bearer_response, removal_response_context_rows}
+use Rattle.gtp_v2.specs.DeleteBearerResponse.{removal_response_context_rows}
+use Rattle.gtp_v2.specs.Message.{MessageValue}
 use Rattle.gtp_v2.specs.Table.{Field, Plain, Groups}
+use Rattle.gtp_machine.specs.Element.{written}
 use Rattle.gtp_machine.specs.messages.Rows.{cause_at, context_row, contexts_in, first_in, number_at, number_of, row_in, where_there}
 
 -- a bearer context
@@ -30,14 +32,14 @@ removed rows =
     }
 
 -- how its rows read
-abbrev pub delete_bearer_response_in : ℕ → ℕ → List Field → DeleteBearerResponse
-delete_bearer_response_in header number f = record {
-  header = header;
-  number = number;
-  cause = cause_at (row_in delete_bearer_response forms.Cause 0 f);
-  linked = first_in number_of (row_in delete_bearer_response forms.Ebi 0 f);
-  contexts = map removed (contexts_in delete_bearer_response f);
-  recovery = first_in number_of (row_in delete_bearer_response forms.Recovery 0 f);
+abbrev pub delete_bearer_response_in : MessageValue → DeleteBearerResponse
+delete_bearer_response_in m = record {
+  header = written m.teid;
+  number = m.seq;
+  cause = cause_at (row_in forms.Cause 0 m);
+  linked = first_in number_of (row_in forms.Ebi 0 m);
+  contexts = map removed (contexts_in m);
+  recovery = first_in number_of (row_in forms.Recovery 0 m);
 }
 
 -- the rows of a bearer context

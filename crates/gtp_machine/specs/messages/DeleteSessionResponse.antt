@@ -3,8 +3,9 @@ use Rattle.std.specs.Prelude.{ℕ, List, [], ◌∷◌, Option}
 use Rattle.gtp_values.specs.declared.cause.Cause.{Cause}
 use Rattle.gtp_ie.specs.Value.{OfCause, OfRecovery}
 use Rattle.gtp_ie.specs.declared.form.Form.TheVariants as forms
-use Rattle.gtp_v2.specs.DeleteSessionResponse.{delete_session_response}
+use Rattle.gtp_v2.specs.Message.{MessageValue}
 use Rattle.gtp_v2.specs.Table.{Field, Plain}
+use Rattle.gtp_machine.specs.Element.{written}
 use Rattle.gtp_machine.specs.messages.Rows.{cause_at, first_in, number_of, row_in, where_there}
 
 pub record DeleteSessionResponse : Type 0 where
@@ -14,12 +15,12 @@ pub record DeleteSessionResponse : Type 0 where
   pub recovery : Option ℕ
 
 -- how its rows read
-abbrev pub delete_session_response_in : ℕ → ℕ → List Field → DeleteSessionResponse
-delete_session_response_in header number f = record {
-  header = header;
-  number = number;
-  cause = cause_at (row_in delete_session_response forms.Cause 0 f);
-  recovery = first_in number_of (row_in delete_session_response forms.Recovery 0 f);
+abbrev pub delete_session_response_in : MessageValue → DeleteSessionResponse
+delete_session_response_in m = record {
+  header = written m.teid;
+  number = m.seq;
+  cause = cause_at (row_in forms.Cause 0 m);
+  recovery = first_in number_of (row_in forms.Recovery 0 m);
 }
 
 -- its rows

@@ -2,7 +2,8 @@
 use Rattle.std.specs.Prelude.{ℕ, List, [], ◌∷◌}
 use Rattle.gtp_ie.specs.Value.{OfRecovery}
 use Rattle.gtp_ie.specs.declared.form.Form.TheVariants as forms
-use Rattle.gtp_v2.specs.Table.{Field, Plain, Table}
+use Rattle.gtp_v2.specs.Message.{MessageValue}
+use Rattle.gtp_v2.specs.Table.{Field, Plain}
 use Rattle.gtp_machine.specs.messages.Rows.{number_at, row_in}
 
 pub record Echo : Type 0 where
@@ -10,8 +11,8 @@ pub record Echo : Type 0 where
   pub recovery : ℕ  -- the sender's restart counter
 
 -- how its rows read
-abbrev pub echo_in : ℕ → Table → List Field → Echo
-echo_in number table f = record { number = number; recovery = number_at (row_in table forms.Recovery 0 f) }
+abbrev pub echo_in : MessageValue → Echo
+echo_in m = record { number = m.seq; recovery = number_at (row_in forms.Recovery 0 m) }
 
 -- its rows
 abbrev pub echo_fields : Echo → List Field

@@ -8,13 +8,13 @@ use Rattle.gtp_values.specs.declared.qos.Ambr.{Ambr}
 use Rattle.gtp_values.specs.declared.qos.Qos.{Qos}
 use Rattle.gtp_values.specs.declared.qos.Rates.{Rates}
 use Rattle.gtp_values.specs.declared.paa.Paa.{Paa}
-use Rattle.gtp_ie.specs.Form.{number_of as number_of_form, bearer_context}
+use Rattle.gtp_ie.specs.Form.{number_of as number_of_form}
 use Rattle.gtp_ie.specs.declared.form.Form.{Form}
 use Rattle.gtp_ie.specs.Value.{Value, OfImsi, OfCause, OfRecovery, OfApn, OfAmbr, OfEbi, OfPaa, OfQos, OfRat, OfPlmn, OfTft, OfFTeid}
 use Rattle.gtp_ie.specs.Value.{OfChargingId, OfPdnType, OfPti, OfSelection}
 use Rattle.gtp_v2.specs.declared.table.Row.{Row}
-use Rattle.gtp_v2.specs.Table.{kind_of, instance_of, Field, Plain, Groups, Table}
-use Rattle.gtp_v2.specs.Viewed.{values_by, list_by, groups_by}
+use Rattle.gtp_v2.specs.Table.{kind_of, instance_of, Field, Plain, Groups}
+use Rattle.gtp_v2.specs.Viewed.{row_of, several_of, contexts_of}
 use Rattle.gtp_v2.specs.Message.{Fields, MessageValue}
 use Rattle.gtp_machine.specs.Element.{cause_of}
 
@@ -122,17 +122,17 @@ abbrev pub groups_in : Field → List (List (List Value))
 groups_in (Plain values) = []
 groups_in (Groups groups) = groups
 
--- the values in the row of a form and instance, of a message with this table
-unfoldable pub row_in : Table → Form → ℕ → List Field → List Value
-row_in table form instance f = unwrap_or (values_by (number_of_form form) instance (Some table) (Fields f)) []
+-- the values in the row of a form and instance
+unfoldable pub row_in : Form → ℕ → MessageValue → List Value
+row_in form instance m = row_of (number_of_form form) instance m
 
 -- the values in the list of a form and instance
-unfoldable pub list_in : Table → Form → ℕ → List Field → List Value
-list_in table form instance f = unwrap_or (list_by (number_of_form form) instance (Some table) (Fields f)) []
+unfoldable pub list_in : Form → ℕ → MessageValue → List Value
+list_in form instance m = several_of (number_of_form form) instance m
 
--- the bearer contexts of instance 0
-unfoldable pub contexts_in : Table → List Field → List (List (List Value))
-contexts_in table f = (unwrap_or (groups_by bearer_context 0 (Some table) (Fields f)) ([], [])).1
+-- the bearer contexts
+unfoldable pub contexts_in : MessageValue → List (List (List Value))
+contexts_in m = contexts_of m
 
 -- ---- how they are written
 

@@ -45,8 +45,7 @@ fn none_is_left(contexts: &mut Contexts<'_>) -> bool
 
 /// What the message says of the default bearer.
 fn requested_default(view: &MessageView<'_>) -> RequestedDefault
-    requires spelled { (octets : List ℕ) × IsMessage octets view.now.message }
-    requires of { view.now.message.kind ≡ create_session_request.kind }
+    requires { view.now.message.kind ≡ create_session_request.kind }
     ensures { ReadsContext view.now.message result }
 {
     let mut contexts = view.contexts();

@@ -4,8 +4,6 @@ ghost use Rattle.gtp_gateway.specs.receive.Queues.{QueuesAfterMessage};
 ghost use Rattle.gtp_gateway.specs.user.Receive.{RequestsWaitOn};
 ghost use Rattle.std.specs.Prelude.{◌≡◌, ◌<◌, ◌≤◌, [], map, length, false, Some, None, IfOk, OnOk, OnErr};
 ghost use Rattle.gtp_v2.specs.DeleteBearerRequest.{delete_bearer_request};
-ghost use Rattle.gtp_v2.specs.Datagram.{IsMessage};
-ghost use Rattle.gtp_v2.specs.Viewed.{Carries};
 ghost use Rattle.gtp_machine.specs.Element.{cause_of};
 ghost use Rattle.gtp_machine.specs.Message.{Delete_bearer_response};
 ghost use Rattle.gtp_machine.specs.Reading.{control_message};
@@ -163,7 +161,6 @@ impl Parts {
         requires fresh { IsFresh source octets.now (state_of self.old) self.old.held.pairs }
         requires few { length self.old.held.pairs < 4096 }
         requires asked { IsForBearers request.now header.0 (node_of self.old) }
-        requires spelled { IsMessage octets.now view.now.message × Carries octets.now view.now }
         requires kind { view.now.message.kind ≡ delete_bearer_request.kind }
         ensures taken { IfOk result (λ step. TakesDeleteBearerRequest source octets.now
             view.now.message request.now (state_of self.old) step (state_of self.new)) }

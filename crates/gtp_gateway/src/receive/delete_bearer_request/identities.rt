@@ -1,19 +1,14 @@
 //! The list of identities of a Delete Bearer Request, and the bearers that it names.
 
-ghost use Rattle.std.specs.Prelude.{◌≡◌, ◌<◌, ◌↔◌, ℕ, List, map, length, IsTrue, IfOk};
-ghost use Rattle.gtp_ie.specs.Element.{all_of};
-ghost use Rattle.gtp_ie.specs.Form.{number_of};
-ghost use Rattle.gtp_ie.specs.declared.form.Form.TheVariants as forms;
+ghost use Rattle.std.specs.Prelude.{◌≡◌, ◌<◌, ◌↔◌, map, length, IsTrue, IfOk};
 ghost use Rattle.gtp_v2.specs.DeleteBearerRequest.{delete_bearer_request};
-ghost use Rattle.gtp_v2.specs.Datagram.{IsMessage};
 ghost use Rattle.gtp_machine.specs.Serving.{removal_cause};
 ghost use Rattle.std.specs.List.{list_all, list_any};
-ghost use Rattle.gtp_gateway.specs.receive.DeleteBearerRequest.{ReadsIdentities, goes_for, is_found, was_named, removed_by, context_by};
+ghost use Rattle.gtp_gateway.specs.receive.DeleteBearerRequest.{number_in, identities_of, goes_for, is_found, was_named, removed_by, context_by};
 
 use crate::messages::elements::plain_cause;
-use gtp_ie::IeValue;
 use gtp_machine::causes;
-use gtp_v2::{EbiValue, MessageView, RemovalResponseContext};
+use gtp_v2::{EbiValue, MessageView, RemovalResponseContext, Values};
 use gtp_values::{Memory, Teid};
 use std::alloc::Global;
 
@@ -30,9 +25,9 @@ pub struct NamedBearer {
 
 /// The identities in the list of a Delete Bearer Request.
 pub fn identities_in(alloc: Global, view: &MessageView<'_>) -> Result<Vec<EbiValue>, Memory>
-    requires spelled { (octets : List ℕ) × IsMessage octets view.now.message }
-    requires kind { view.now.message.kind ≡ delete_bearer_request.kind }
-    ensures { IfOk result (λ identities. ReadsIdentities view.now.message identities.items) }
+    requires { view.now.message.kind ≡ delete_bearer_request.kind }
+    ensures { IfOk result (λ identities. map number_in identities.items
+        ≡ identities_of view.now.message) }
 {
     let mut identities = Vec::new(alloc);
     for identity in view.values::<EbiValue>(1) {
@@ -41,15 +36,19 @@ pub fn identities_in(alloc: Global, view: &MessageView<'_>) -> Result<Vec<EbiVal
     Ok(identities)
 }
 
-/// Whether the list of a Delete Bearer Request has more identities than bearers have, by its
-/// elements.
-pub fn has_too_many(view: &MessageView<'_>) -> bool
-    ensures { IsTrue result ↔ (11 < length (all_of (number_of forms.Ebi) 1 view.now.elements)) }
+/// Whether these are more identities than bearers have.
+fn are_too_many(mut identities: Values<'_, EbiValue>) -> bool
+    ensures { IsTrue result ↔ (11 < length identities.entry) }
 {
-    view.elements()
-        .all(EbiValue::KIND, 1)
-        .nth(MOST_IDENTITIES)
-        .is_some()
+    identities.nth(MOST_IDENTITIES).is_some()
+}
+
+/// Whether the list of a Delete Bearer Request has more identities than bearers have.
+pub fn has_too_many(view: &MessageView<'_>) -> bool
+    ensures { view.now.message.kind ≡ delete_bearer_request.kind →
+        (IsTrue result ↔ (11 < length (identities_of view.now.message))) }
+{
+    are_too_many(view.values(1))
 }
 
 impl NamedBearer {

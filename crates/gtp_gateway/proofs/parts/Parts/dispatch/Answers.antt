@@ -10,6 +10,7 @@ use Rattle.gtp_machine.specs.Serving.{CreateBearerAsked, CreateSessionAnswered, 
 use Rattle.gtp_machine.specs.declared.message_type.MessageType.{MessageType}
 use Rattle.gtp_machine.specs.declared.message_type.MessageType.TheVariants as types
 use Rattle.gtp_machine.proofs.Basics.Types.{type_kind}
+use Rattle.gtp_gateway.specs.receive.DeleteBearerRequest.{delete_bearer_by, identities_of}
 use Rattle.gtp_gateway.specs.receive.DeleteSessionRequest.{delete_session_by}
 use Rattle.gtp_gateway.specs.receive.RestartCounter.{node_heard}
 use Rattle.gtp_gateway.specs.Parts.{arrival_of}
@@ -19,7 +20,7 @@ use Rattle.gtp_gateway.proofs.ByProcedure.{unheard, deletion_request_is, echo_re
 use Rattle.gtp_gateway.proofs.DeleteBearerRequests.{delete_bearer_is}
 use Rattle.gtp_gateway.proofs.GivenUp.{wait_on}
 use Rattle.gtp_gateway.proofs.QueuesAfter.{on_ok, tied_of, on_goes}
-use Rattle.gtp_gateway.proofs.CreateBearerRequests.{has_context, create_bearer_is}
+use Rattle.gtp_gateway.proofs.CreateBearerRequests.{create_bearer_is}
 use Rattle.gtp_gateway.proofs.Allocations.{on_err, needs_echo, needs_by}
 use Rattle.gtp_gateway.specs.receive.Allocations.{AlwaysSendsOrOpens}
 use Rattle.gtp_machine.specs.Node.{Node}
@@ -110,7 +111,7 @@ returns-in-CreateBearerRequest-clause-taken c =
     c.take_create_bearer_request.ensures.taken
 
 pub create_bearer_request_in-request-requires : goal.create_bearer_request_in-request-requires
-create_bearer_request_in-request-requires c = has_context c.args.octets.now c.args.view.now.message c.requires.spelled (c.requires.of ∙ ap (λ (p : MessageType). Some p) c.in-CreateBearerRequest.is)
+create_bearer_request_in-request-requires c = c.requires.of ∙ ap (λ (p : MessageType). Some p) c.in-CreateBearerRequest.is
 
 pub response_in-response-requires-in-DeleteBearerResponse : goal.response_in-response-requires-in-DeleteBearerResponse
 response_in-response-requires-in-DeleteBearerResponse c = ap (λ (k : ℕ). always_has k 2 0) (type_kind c.args.view.now.message.kind types.DeleteBearerResponse (c.requires.of ∙ ap (λ (p : MessageType). Some p) c.in-DeleteBearerResponse.is))
@@ -133,9 +134,9 @@ returns-in-DeleteBearerRequest-clause-taken c =
     let old = state_of c.args.self.now in
     let m = c.args.view.now.message in
     let request = arrival_of c.args.source c.args.octets.now in
-    let says = delete_bearer_is c.args.octets.now m c.delete_request_in-request-in-DeleteBearerRequest.result c.requires.spelled (c.requires.of ∙ ap (λ (p : MessageType). Some p) c.in-DeleteBearerRequest.is) c.delete_request_in-request-in-DeleteBearerRequest.ensures in
-    IfOk-weaker c.take_delete_bearer_request.result _ _ (λ step taken. row_by (DeleteBearerAsked request says.request) request c.args.message_type types.DeleteBearerRequest (message_of m) (Delete_bearer_request says.request) old.role old.role (node_heard c.args.heard old.node) old.node step (state_of c.take_delete_bearer_request.new.self) c.requires.has c.in-DeleteBearerRequest.is says.is refl (unheard c.args.heard (message_of m) old c.requires.weighed (ap recovery_of says.is)) (λ n e row. row)
-    (taken says.request says.says says.reads))
+    let is = delete_bearer_is c.args.octets.now m c.delete_request_in-request-in-DeleteBearerRequest.result c.requires.spelled (c.requires.of ∙ ap (λ (p : MessageType). Some p) c.in-DeleteBearerRequest.is) c.delete_request_in-request-in-DeleteBearerRequest.ensures in
+    IfOk-weaker c.take_delete_bearer_request.result _ _ (λ step taken. row_by (DeleteBearerAsked request (delete_bearer_by c.delete_request_in-request-in-DeleteBearerRequest.result (identities_of m))) request c.args.message_type types.DeleteBearerRequest (message_of m) (Delete_bearer_request (delete_bearer_by c.delete_request_in-request-in-DeleteBearerRequest.result (identities_of m))) old.role old.role (node_heard c.args.heard old.node) old.node step (state_of c.take_delete_bearer_request.new.self) c.requires.has c.in-DeleteBearerRequest.is is refl (unheard c.args.heard (message_of m) old c.requires.weighed (ap recovery_of is)) (λ n e row. row)
+    taken)
     c.take_delete_bearer_request.ensures.taken
 
 pub returns-in-CreateBearerResponse-clause-taken : goal.returns-in-CreateBearerResponse-clause-taken
@@ -206,9 +207,9 @@ returns-in-DeleteBearerRequest-clause-memory c =
     let old = state_of c.args.self.now in
     let m = c.args.view.now.message in
     let request = arrival_of c.args.source c.args.octets.now in
-    let says = delete_bearer_is c.args.octets.now m c.delete_request_in-request-in-DeleteBearerRequest.result c.requires.spelled (c.requires.of ∙ ap (λ (p : MessageType). Some p) c.in-DeleteBearerRequest.is) c.delete_request_in-request-in-DeleteBearerRequest.ensures in
-    on_err_weaker c.take_delete_bearer_request.result (λ needs. subst (λ (n : Node). AlwaysSendsOrOpens (TakesBy old.role request (message_of m)) n) (unheard c.args.heard (message_of m) old c.requires.weighed (ap recovery_of says.is))
-    (needs_by old.role request (message_of m) old.node c.args.message_type types.DeleteBearerRequest (Delete_bearer_request says.request) c.requires.has c.in-DeleteBearerRequest.is says.is (needs request says.request says.says)))
+    let is = delete_bearer_is c.args.octets.now m c.delete_request_in-request-in-DeleteBearerRequest.result c.requires.spelled (c.requires.of ∙ ap (λ (p : MessageType). Some p) c.in-DeleteBearerRequest.is) c.delete_request_in-request-in-DeleteBearerRequest.ensures in
+    on_err_weaker c.take_delete_bearer_request.result (λ needs. subst (λ (n : Node). AlwaysSendsOrOpens (TakesBy old.role request (message_of m)) n) (unheard c.args.heard (message_of m) old c.requires.weighed (ap recovery_of is))
+    (needs_by old.role request (message_of m) old.node c.args.message_type types.DeleteBearerRequest (Delete_bearer_request (delete_bearer_by c.delete_request_in-request-in-DeleteBearerRequest.result (identities_of m))) c.requires.has c.in-DeleteBearerRequest.is is (needs request (identities_of m))))
     c.take_delete_bearer_request.ensures.memory
 
 pub returns-in-CreateSessionResponse-clause-memory : goal.returns-in-CreateSessionResponse-clause-memory

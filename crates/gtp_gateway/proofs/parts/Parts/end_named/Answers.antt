@@ -8,7 +8,7 @@ use Rattle.gtp_machine.specs.Reading.{control_message}
 use Rattle.gtp_machine.specs.Serving.{DeleteBearerJudged, removal_cause}
 use Rattle.gtp_machine.specs.Spelling.{spelled}
 use Rattle.gtp_gateway.specs.declared.receive.delete_bearer_request.identities.NamedBearer.{NamedBearer}
-use Rattle.gtp_gateway.specs.receive.DeleteBearerRequest.{NamesEach, identity_named, number_in, removed_by, without_each}
+use Rattle.gtp_gateway.specs.receive.DeleteBearerRequest.{delete_bearer_by, NamesEach, identity_named, number_in, removed_by, without_each}
 use Rattle.gtp_gateway.specs.receive.Answer.{after_held}
 use Rattle.gtp_gateway.specs.Parts.{arrival_of}
 use Rattle.gtp_gateway.specs.messages.Sent.{ReadsBack}
@@ -20,7 +20,7 @@ use Rattle.gtp_gateway.proofs.Rows.{answers}
 use Rattle.gtp_gateway.proofs.parts.Parts.end_named.Goals as goal
 
 pub returns-clause-taken : goal.returns-clause-taken
-returns-clause-taken c = λ d says listed.
+returns-clause-taken c =
     let old = state_of c.args.self.now in
     let request = arrival_of c.args.source c.args.octets.now in
     let r = c.args.request.now in
@@ -30,18 +30,18 @@ returns-clause-taken c = λ d says listed.
     let value : ns ≡ c.in_ok-named.named.items = c.as_slice-bearers.ensures.value in
     let names : NamesEach old.node r.header.0 [] ns = subst (λ (l : List NamedBearer). NamesEach old.node r.header.0 [] l) (sym value) c.in_ok-named.ensures.names in
     let same : map identity_named ns ≡ map number_in ids = ap (map identity_named) value ∙ c.in_ok-named.ensures.identities in
-    let m : Message = Delete_bearer_response (record { header = header; number = d.number; cause = cause_of (removal_cause (map removed_by ns)); linked = None; contexts = map removed_by ns; recovery = Some old.node.counter }) in
-    let said : control_message c.in_ok-message.message ≡ m = c.in_ok-message.ensures.says ∙ (λ i. Delete_bearer_response (record { header = header; number = sym says.number i; cause = cause_of (removal_cause (map removed_by ns)); linked = None; contexts = map removed_by ns; recovery = Some old.node.counter })) in
+    let m : Message = Delete_bearer_response (record { header = header; number = r.seq; cause = cause_of (removal_cause (map removed_by ns)); linked = None; contexts = map removed_by ns; recovery = Some old.node.counter }) in
+    let said : control_message c.in_ok-message.message ≡ m = c.in_ok-message.ensures.says in
     let ready = c.in_ok-ready.ensures in
     let config = ap (λ s. s.config) c.end_each.ensures.config ∙ ap (λ (s : GatewayState). s.node.config) c.ready_answer.ensures.same in
     let left = c.end_each.ensures.node ∙ ap (λ (s : GatewayState). without_each ns s.node) c.ready_answer.ensures.same in
-    answers (DeleteBearerJudged request d) request old (state_of c.send_answer.new.self) c.sent.result c.send_answer.result m c.cause_of_all.result (without_each ns old.node) c.sent.ensures
+    answers (DeleteBearerJudged request (delete_bearer_by r (map number_in ids))) request old (state_of c.send_answer.new.self) c.sent.result c.send_answer.result m c.cause_of_all.result (without_each ns old.node) c.sent.ensures
     (c.send_answer.ensures.sent ∙ (λ i. record { plane = Control; from = control_end (config i).own.control; to = c.args.source; octets = (ready.octets ∙ ap spelled said) i }))
     (subst (λ m. ReadsBack (m ∷ [])) said ready.back)
     (c.send_answer.ensures.node ∙ (λ i. holding (arrival_of c.args.source (ready.request i)) ((ready.read ∙ ap (λ m. m ∷ []) said) i) (left i)))
     (c.send_answer.ensures.role ∙ (c.end_each.ensures.role ∙ ap (λ (s : GatewayState). s.role) c.ready_answer.ensures.same))
-    (subst (λ (cause : ℕ). DeleteBearerJudged request d old.node (answered request m cause (without_each ns old.node))) (sym c.cause_of_all.ensures)
-    (ends_judged request r d old.node header ids ns says listed c.requires.asked c.requires.short same names))
+    (subst (λ (cause : ℕ). DeleteBearerJudged request (delete_bearer_by r (map number_in ids)) old.node (answered request m cause (without_each ns old.node))) (sym c.cause_of_all.ensures)
+    (ends_judged request r old.node header ids ns c.requires.asked c.requires.short same names))
 
 pub returns-clause-goes : goal.returns-clause-goes
 returns-clause-goes c =

@@ -11,7 +11,7 @@ use Rattle.gtp_gateway.specs.receive.Piggybacked.{state_after_first, IsSecondTak
 use Rattle.gtp_gateway.specs.receive.CreateSessionResponse.{SaysCreateSessionResponse, ReadsCreateSessionResponse, JudgesAnswer}
 use Rattle.gtp_gateway.specs.GatewayState.{state_of}
 use Rattle.gtp_gateway.specs.receive.Taken.{plain_report, followed_by}
-use Rattle.gtp_gateway.proofs.CreateBearerRequests.{IsCreateBearer, has_context, create_bearer_is}
+use Rattle.gtp_gateway.proofs.CreateBearerRequests.{IsCreateBearer, create_bearer_is}
 use Rattle.gtp_gateway.proofs.Allocations.{on_err}
 use Rattle.gtp_gateway.proofs.PairTaken.{pair_received, pair_needs}
 use Rattle.gtp_gateway.proofs.parts.Parts.take_pair.Goals as goal
@@ -30,7 +30,7 @@ says_request view r q reads is =
     subst (SaysCreateBearer r) same reads.says
 
 pub create_bearer_request_in-request-requires : goal.create_bearer_request_in-request-requires
-create_bearer_request_in-request-requires c = let lie = c.requires.lie.1 in has_context c.args.back.now c.args.second.now.message lie.3.spelled c.requires.second
+create_bearer_request_in-request-requires c = c.requires.second
 
 pub returns-clause-taken : goal.returns-clause-taken
 returns-clause-taken c = λ octets lie a q pair.

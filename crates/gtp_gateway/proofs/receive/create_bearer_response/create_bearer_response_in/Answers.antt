@@ -1,32 +1,32 @@
-use Rattle.std.proofs.Common.{ℕ, [], ◌∷◌, Some, sym, ◌∙◌, ap}
-use Rattle.gtp_machine.specs.Decoded.{row_in, contexts_in}
-use Rattle.gtp_v2.specs.Viewed.{always_has}
+use Rattle.std.proofs.Common.{ℕ, refl, sym, ap, subst}
+use Rattle.gtp_v2.specs.Viewed.{always_has, contexts_of, context_rows}
+use Rattle.gtp_machine.specs.Decoded.{row_in, contexts_in, cause_at}
 use Rattle.gtp_machine.specs.declared.message_type.MessageType.TheVariants as types
 use Rattle.gtp_machine.proofs.Basics.Types.{type_kind}
-use Rattle.gtp_gateway.proofs.CreateBearerResponses.{given_others, given_contexts, given_only}
-use Rattle.gtp_gateway.proofs.ByProcedure.{cause_is}
-use Rattle.gtp_gateway.proofs.InPlace.{reads_so, row_so, create_bearer_answered}
+use Rattle.gtp_machine.proofs.Octets.Readings.{reads_as}
+use Rattle.gtp_gateway.specs.receive.ResponseContext.{HasCauses, ReadsOnly}
+use Rattle.gtp_gateway.proofs.CreateBearerResponses.{given_only}
 use Rattle.gtp_gateway.proofs.receive.create_bearer_response.create_bearer_response_in.Goals as goal
 
 pub response_in-requires : goal.response_in-requires
 response_in-requires c = ap (λ (k : ℕ). always_has k 2 0) (type_kind c.args.view.now.message.kind types.CreateBearerResponse c.requires.of)
 
 pub only_context_in-requires : goal.only_context_in-requires
-only_context_in-requires c = (given_others, _, given_contexts c.requires.spelled.0 c.args.view.now.message c.requires.spelled.1 c.requires.of)
+only_context_in-requires c = subst HasCauses (sym (type_kind c.args.view.now.message.kind types.CreateBearerResponse c.requires.of)) (record { contexts = refl; identity = refl; cause = refl })
 
 pub returns : goal.returns
 unfolding row_in contexts_in
 returns c =
     let m = c.args.view.now.message in
-    let a = create_bearer_answered c.requires.spelled.0 m (type_kind m.kind types.CreateBearerResponse c.requires.of) c.requires.spelled.1 in
+    let of = type_kind m.kind types.CreateBearerResponse c.requires.of in
     let r = c.response_in in
     record {
       response = _;
-      is = reads_so 96 _ m a.says;
+      is = reads_as types.CreateBearerResponse c.requires.spelled.0 m c.requires.spelled.1 c.requires.of;
       says = record {
         number = sym r.ensures.seq;
         header = sym r.ensures.header;
-        cause = cause_is (Some (a.cause ∷ [])) r.result.cause (sym (row_so 96 2 0 _ m a.says) ∙ r.ensures.cause);
-        contexts = given_only a.groups c.only_context_in.result (c.only_context_in.ensures given_others a.groups (given_contexts c.requires.spelled.0 m c.requires.spelled.1 c.requires.of));
+        cause = ap cause_at r.ensures.cause;
+        contexts = given_only (contexts_of m) c.only_context_in.result (subst (λ (k : ℕ). ReadsOnly (context_rows k) (contexts_of m) c.only_context_in.result) of c.only_context_in.ensures);
       };
     }

@@ -1,35 +1,37 @@
-use Rattle.std.proofs.Common.{ℕ, [], ◌∷◌, Some, sym, ◌∙◌, ap}
-use Rattle.gtp_machine.specs.Decoded.{row_in, contexts_in}
+use Rattle.std.proofs.Common.{ℕ, refl, sym, ◌∙◌, ap, subst}
+use Rattle.gtp_ie.specs.Value.{OfFTeid, OfPaa}
+use Rattle.gtp_v2.specs.Viewed.{always_has, contexts_of, context_rows, has_row, row_of}
+use Rattle.gtp_machine.specs.Decoded.{row_in, contexts_in, cause_at, end_in, paa_in}
 use Rattle.gtp_machine.specs.Element.{address_of, teid_in}
-use Rattle.gtp_v2.specs.Viewed.{always_has}
 use Rattle.gtp_machine.specs.declared.message_type.MessageType.TheVariants as types
 use Rattle.gtp_machine.proofs.Basics.Types.{type_kind}
-use Rattle.gtp_gateway.proofs.ByProcedure.{cause_is}
-use Rattle.gtp_gateway.proofs.InPlace.{reads_so, row_so, create_session_answered}
-use Rattle.gtp_gateway.proofs.CreateSessionResponses.{created_others, created_contexts, created_only, end_is, paa_is}
+use Rattle.gtp_machine.proofs.Octets.Readings.{reads_as}
+use Rattle.gtp_gateway.specs.receive.ResponseContext.{HasCauses, ReadsOnly}
+use Rattle.gtp_gateway.proofs.CreateSessionResponses.{created_only}
+use Rattle.gtp_gateway.proofs.InPlace.{row_said}
 use Rattle.gtp_gateway.proofs.receive.create_session_response.create_session_response_in.Goals as goal
 
 pub response_in-requires : goal.response_in-requires
 response_in-requires c = ap (λ (k : ℕ). always_has k 2 0) (type_kind c.args.view.now.message.kind types.CreateSessionResponse c.requires.of)
 
 pub only_context_in-requires : goal.only_context_in-requires
-only_context_in-requires c = (created_others, _, created_contexts c.requires.spelled.0 c.args.view.now.message c.requires.spelled.1 c.requires.of)
+only_context_in-requires c = subst HasCauses (sym (type_kind c.args.view.now.message.kind types.CreateSessionResponse c.requires.of)) (record { contexts = refl; identity = refl; cause = refl })
 
 pub returns : goal.returns
 unfolding row_in contexts_in
 returns c =
     let m = c.args.view.now.message in
-    let a = create_session_answered c.requires.spelled.0 m (type_kind m.kind types.CreateSessionResponse c.requires.of) c.requires.spelled.1 in
+    let of = type_kind m.kind types.CreateSessionResponse c.requires.of in
     let r = c.response_in in
     record {
       response = _;
-      is = reads_so 33 _ m a.says;
+      is = reads_as types.CreateSessionResponse c.requires.spelled.0 m c.requires.spelled.1 c.requires.of;
       says = record {
         number = sym r.ensures.seq;
         header = sym r.ensures.header;
-        cause = cause_is (Some (a.cause ∷ [])) r.result.cause (sym (row_so 33 2 0 _ m a.says) ∙ r.ensures.cause);
-        control = ap teid_in (end_is a.control c.value.result (c.value.ensures.field a.control (row_so 33 87 1 _ m a.says))) ∙ sym c.teid_of.ensures;
-        address = ap address_of (paa_is a.address c.value-2.result (c.value-2.ensures.field a.address (row_so 33 79 0 _ m a.says))) ∙ sym c.address_of.ensures;
-        contexts = created_only a.groups c.only_context_in.result (c.only_context_in.ensures created_others a.groups (created_contexts c.requires.spelled.0 m c.requires.spelled.1 c.requires.of));
+        cause = ap cause_at r.ensures.cause;
+        control = ap teid_in (row_said OfFTeid end_in (λ e. refl) (row_of 87 1 m) c.value.result (c.value.ensures.row (ap (λ k. has_row k 87 1) of))) ∙ sym c.teid_of.ensures;
+        address = ap address_of (row_said OfPaa paa_in (λ p. refl) (row_of 79 0 m) c.value-2.result (c.value-2.ensures.row (ap (λ k. has_row k 79 0) of))) ∙ sym c.address_of.ensures;
+        contexts = created_only (contexts_of m) c.only_context_in.result (subst (λ (k : ℕ). ReadsOnly (context_rows k) (contexts_of m) c.only_context_in.result) of c.only_context_in.ensures);
       };
     }
