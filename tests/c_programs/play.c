@@ -263,6 +263,23 @@ static void not_written(void) {
     CHECK(gtp_version(room, 2, &size) == GTP_TOO_SMALL);
 }
 
+/* The longest whose length two octets state, and one octet more. */
+static void longest(void) {
+    static uint8_t octets[65536], room[65543];
+    uint64_t size = 0;
+    struct gtp_head head; struct gtp_user_head user;
+    memset(&head, 0, sizeof head); memset(&user, 0, sizeof user);
+    head.kind = 34; head.has_teid = 1; user.kind = 255;
+    CHECK(gtp_control_write(room, sizeof room, &head, octets, 65527, &size) == GTP_DONE && size == 65539);
+    CHECK(gtp_control_write(room, sizeof room, &head, octets, 65528, &size) == GTP_BAD_VALUE);
+    CHECK(gtp_packet_write(room, sizeof room, 1, octets, 65535, &size) == GTP_DONE && size == 65543);
+    CHECK(gtp_packet_write(room, sizeof room, 1, octets, 65536, &size) == GTP_BAD_VALUE);
+    CHECK(gtp_user_write(room, sizeof room, &user, octets, 65535, &size) == GTP_DONE && size == 65543);
+    CHECK(gtp_user_write(room, sizeof room, &user, octets, 65536, &size) == GTP_BAD_VALUE);
+    CHECK(gtp_element_write(room, sizeof room, 4, 1, 0, octets, 65535, &size) == GTP_DONE && size == 65539);
+    CHECK(gtp_element_write(room, sizeof room, 4, 1, 0, octets, 65536, &size) == GTP_BAD_VALUE);
+}
+
 /* Bodies of elements that there are not, and the worked ones of TS 29.274 clause 8: what is written for their values. */
 static void bodies(void) {
     uint8_t room[100] = {0};
@@ -299,6 +316,7 @@ static void bodies(void) {
 
 int main(void) {
     not_written();
+    longest();
     exchange(false);
     exchange(true);
     templates();

@@ -139,21 +139,30 @@ static void read_control(const uint8_t *octets, size_t len, bool again) {
     if (head.second_len) read_control(octets + len - head.second_len, head.second_len, again);
 }
 
+/* What a message carries: the types of a notification, else its last octets. */
+static const uint8_t *carried_by(const uint8_t *octets, size_t len, const struct gtp_user_head *head) {
+    size_t types = (octets[0] & 7 ? 12 : 8) + head->extensions_len + 2;
+    return octets + (head->kind == 31 ? types : len - head->payload_len);
+}
+
+/* Whether a message that was written without its extension headers is the same but for them. */
+static bool is_same_user(const struct gtp_user_head *head, const struct gtp_user_head *back) {
+    return back->kind == head->kind && back->teid == head->teid && back->payload_len == head->payload_len
+        && back->has_seq == head->has_seq && back->seq == head->seq && back->has_npdu == head->has_npdu && back->npdu == head->npdu
+        && !memcmp(&back->peer, &head->peer, sizeof back->peer) && back->extensions_len == 0;
+}
+
 /* A message that was read is written, without its extension headers, and read again. */
 static void write_user(const uint8_t *octets, size_t len, const struct gtp_user_head *head) {
     uint8_t none[1] = {0};
     uint64_t needed = 0;
     struct gtp_user_head back; struct gtp_fault fault;
     memset(&back, 0, sizeof back); memset(&fault, 0, sizeof fault);
-    size_t types = (octets[0] & 7 ? 12 : 8) + head->extensions_len + 2;
-    const uint8_t *carried = octets + (head->kind == 31 ? types : len - head->payload_len);
+    const uint8_t *carried = carried_by(octets, len, head);
     CHECK(gtp_user_write(none, 0, head, carried, head->payload_len, &needed) == GTP_TOO_SMALL && needed >= 8 && needed <= len + 4);
     uint8_t *written = malloc(needed);
     EVERY_ROOM(needed, gtp_user_write(buffer, room, head, carried, head->payload_len, &size));
-    CHECK(gtp_user_read(written, needed, &back, &fault) == GTP_DONE && back.kind == head->kind && back.teid == head->teid);
-    CHECK(back.payload_len == head->payload_len && back.has_seq == head->has_seq && back.seq == head->seq);
-    CHECK(back.has_npdu == head->has_npdu && back.npdu == head->npdu && !memcmp(&back.peer, &head->peer, sizeof back.peer));
-    CHECK(back.extensions_len == 0);
+    CHECK(gtp_user_read(written, needed, &back, &fault) == GTP_DONE && is_same_user(head, &back));
     free(written);
 }
 
