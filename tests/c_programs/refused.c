@@ -1,5 +1,6 @@
-/* Each allocation of a run is refused in turn: the call says so, the same call once more goes on, and all answers are those of a
- * run in which none is refused. Linked with --wrap=malloc,--wrap=realloc. Prints how many there were. */
+/* Each allocation of a run, and of each call that writes through memory, is refused in turn: the call says so, the same call once
+ * more goes on, and all answers are those of a run in which none is refused. Linked with --wrap=malloc,--wrap=realloc. Prints how
+ * many there were in the run. */
 #include "check.h"
 
 void *__real_malloc(size_t n);
@@ -62,7 +63,68 @@ static void run(void) {
     CHECK(gtp_gateway_free(&serving) == GTP_DONE && gtp_gateway_free(&packet) == GTP_DONE);
 }
 
+/* The calls that write through memory: a user message, and the body of each type of element. */
+enum { WRITERS = 16 };
+
+static uint8_t written(int writer, uint8_t *room, size_t len, uint64_t *size) {
+    struct gtp_user_head packet = {0};
+    struct gtp_imsi imsi = { 6, { 0, 0, 1, 0, 1, 1 } };
+    struct gtp_cause cause = {0};
+    struct gtp_apn name = { 9, "\x08internet" };
+    struct gtp_ambr rates = { 1000, 1000 };
+    struct gtp_paa allocation = {0};
+    struct gtp_quality quality = wish(1).quality;
+    struct gtp_network network = { { 0, 0, 1, 0, 1, 15 } };
+    struct gtp_fteid end = {0};
+    packet.kind = 255;
+    cause.value = 16;
+    allocation.pdn = 3;
+    end.has_v4 = 1;
+    switch (writer) {
+    case 0: return gtp_user_write(room, len, &packet, text("packet"), 6, size);
+    case 1: return gtp_imsi_write(room, len, &imsi, size);
+    case 2: return gtp_cause_write(room, len, &cause, size);
+    case 3: return gtp_recovery_write(room, len, 7, size);
+    case 4: return gtp_apn_write(room, len, &name, size);
+    case 5: return gtp_ambr_write(room, len, &rates, size);
+    case 6: return gtp_ebi_write(room, len, 5, size);
+    case 7: return gtp_paa_write(room, len, &allocation, size);
+    case 8: return gtp_qos_write(room, len, &quality, size);
+    case 9: return gtp_rat_write(room, len, 6, size);
+    case 10: return gtp_network_write(room, len, &network, size);
+    case 11: return gtp_fteid_write(room, len, &end, size);
+    case 12: return gtp_charging_id_write(room, len, 9, size);
+    case 13: return gtp_pdn_type_write(room, len, 1, size);
+    case 14: return gtp_pti_write(room, len, 1, size);
+    default: return gtp_selection_write(room, len, 1, size);
+    }
+}
+
+/* A call that writes lacks memory exactly where an allocation was refused; it has then written nothing, and once more it writes. */
+static void each_writer_is_refused(void) {
+    uint8_t whole[64], room[64], blank[64];
+    memset(blank, 0xaa, sizeof blank);
+    for (int writer = 0; writer < WRITERS; writer++) {
+        uint64_t octets = 0;
+        asked = 0; refused = -1;
+        counting = 1; uint8_t status = written(writer, whole, sizeof whole, &octets); counting = 0;
+        CHECK(status == GTP_DONE && octets > 0);
+        long all = asked;
+        CHECK(all > 0);
+        for (long at = 0; at < all; at++) {
+            uint64_t size = 99;
+            memcpy(room, blank, sizeof room);
+            asked = 0; refused = at;
+            counting = 1; status = written(writer, room, sizeof room, &size); counting = 0;
+            CHECK(status == GTP_NO_MEMORY && size == 99 && !memcmp(room, blank, sizeof room));
+            CHECK(written(writer, room, sizeof room, &size) == GTP_DONE && size == octets && !memcmp(room, whole, octets));
+        }
+    }
+}
+
 int main(void) {
+    each_writer_is_refused();
+    asked = 0; refused = -1;
     counting = 1; run(); counting = 0;
     long all = asked;
     memcpy(first_run, this_run, first_len = this_len);
