@@ -44,6 +44,15 @@ finish_says order many size n a b c tail so then four says =
           so (read_one (λ y z. y ≡ tail ++ z) b c tail (λ y. refl) then)
     ] refl
 
+-- fewer than four octets are behind
+pub finish_short : (order : Order) (many size : ℕ) (a b c : Option (List ℕ)) (tail : List ℕ) → Known (Passes many true) a b → Consumes b c tail → IsAtEnd c → length tail < 4 → Known (Finishes order many size false) a c
+finish_short order many size a b c tail so then over few =
+    known_then (Passes many true) (λ y z. y ≡ tail) (Finishes order many size false) a b c
+    (λ x y z p q more rest is.
+    let fronts = same_front p.0 more y (is.tail ++ rest) (p.1 ∙ sym is.held) (sym p.2 ∙ is.whole) in
+    omega (arith, ap length (sym q ∙ fronts.1), length-append is.tail rest, is.end, few))
+    so (read_all (λ y z. y ≡ tail) b c tail (λ y. refl) then over)
+
 -- there are fewer octets than are passed over
 pub finish_passed : (order : Order) (many size : ℕ) (a b : Option (List ℕ)) → Known (Passes many false) a b → Known (Finishes order many size false) a b
 finish_passed order many size a b short = known_map (Passes many false) (Finishes order many size false) a b (λ x y p more rest is. p more (is.tail ++ rest) is.held is.whole) short

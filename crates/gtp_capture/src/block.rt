@@ -11,7 +11,7 @@ ghost use Rattle.gtp_capture.specs.declared.octets.Order.{Order as AnyOrder};
 ghost use Rattle.gtp_capture.specs.declared.octets.Order.TheVariants.{High};
 
 use crate::fault::Stop;
-use crate::filling::{fill, refill};
+use crate::filling::{fill, next_octets, refill};
 use crate::interface::Interface;
 use crate::meaning::{is_read_type, item_in};
 use crate::octets::{Order, four};
@@ -70,8 +70,8 @@ fn finish<R: Read>(
     if !pass(reader, left)? {
         return Ok(false);
     }
-    let mut tail = [0u8; 4];
-    if fill(reader, &mut tail)? < 4 {
+    let (tail, found) = next_octets::<R, 4>(reader)?;
+    if found < 4 {
         return Ok(false);
     }
     Ok(four(order, &tail, 0) == size)
@@ -146,8 +146,8 @@ fn next_section<R: Read>(
     ensures unfailed { result ≢ Err Stop.Read
         → failures_of reader.new ≡ failures_of reader.old }
 {
-    let mut front = [0u8; 16];
-    if fill(reader, &mut front)? < 16 {
+    let (front, found) = next_octets::<R, 16>(reader)?;
+    if found < 16 {
         return Ok(Step::Broken);
     }
     match finish_section(reader, head, &front)? {
@@ -226,8 +226,7 @@ pub fn next_block<R: Read>(
     ensures unfailed { result ≢ Err Stop.Read
         → failures_of reader.new ≡ failures_of reader.old }
 {
-    let mut head = [0u8; 8];
-    let found = fill(reader, &mut head)?;
+    let (head, found) = next_octets::<R, 8>(reader)?;
     if found == 0 {
         return Ok(Step::End);
     }

@@ -31,6 +31,30 @@ pub fn fill<R: Read>(reader: &mut Counted<R>, room: &mut [u8]) -> Result<usize, 
     Ok(at)
 }
 
+/// The next octets, as many as an array has, or as many as are left: how many of the array's these are.
+pub fn next_octets<R: Read, const N: usize>(
+    reader: &mut Counted<R>,
+) -> Result<([u8; N], usize), Stop>
+    requires { failures_of reader.old < 2 ^ 64 - 1 }
+    ensures size { IfOk result (λ found. length found.0 ≡ N) }
+    ensures bound { IfOk result (λ found. found.1 ≤ N) }
+    ensures octets { IfOk result (λ found. Consumes (R.remaining (inner_of reader.old))
+        (R.remaining (inner_of reader.new)) (take found.1 found.0)) }
+    ensures whole { IfOk result (λ found. N ≤ found.1
+        → Consumes (R.remaining (inner_of reader.old))
+        (R.remaining (inner_of reader.new)) found.0) }
+    ensures end { IfOk result (λ found. found.1 < N → IsAtEnd (R.remaining (inner_of reader.new))) }
+    ensures err { IfErr result (λ stop. stop ≡ Stop.Read) }
+    ensures failed { result ≡ Err Stop.Read
+        → failures_of reader.new ≡ failures_of reader.old + 1 }
+    ensures unfailed { result ≢ Err Stop.Read
+        → failures_of reader.new ≡ failures_of reader.old }
+{
+    let mut octets = [0u8; N];
+    let found = fill(reader, &mut octets)?;
+    Ok((octets, found))
+}
+
 /// Fills the room with so many octets, or with as many as are left.
 pub fn refill<R: Read>(reader: &mut Counted<R>, room: &mut Vec<u8>, size: usize) -> Result<(), Stop>
     requires { failures_of reader.old < 2 ^ 64 - 1 }

@@ -13,7 +13,7 @@ ghost use Rattle.gtp_capture.specs.declared.head.Unit.{Unit as AnyUnit};
 
 use crate::block::{SECTION, finish_section};
 use crate::fault::Stop;
-use crate::filling::fill;
+use crate::filling::next_octets;
 use crate::octets::{Order, four, from, front};
 use crate::step::{Format, Started};
 use gtp_counted::Counted;
@@ -27,7 +27,7 @@ pub enum Unit {
 }
 
 /// What the head of a capture says of its records.
-#[derive(Clone, Copy, Debug, PartialEq, Eq)]
+#[derive(Clone, Copy, Debug)]
 pub struct Kind {
     pub order: Order,
     pub unit: Unit,
@@ -117,8 +117,8 @@ pub fn read_start<R: Read>(reader: &mut Counted<R>) -> Result<Option<Started>, S
     ensures unfailed { result ≢ Err Stop.Read
         → failures_of reader.new ≡ failures_of reader.old }
 {
-    let mut head = [0u8; 24];
-    if fill(reader, &mut head)? < 24 {
+    let (head, found) = next_octets::<R, 24>(reader)?;
+    if found < 24 {
         return Ok(None);
     }
     match read_kind(&head) {

@@ -11,7 +11,7 @@ use crate::options::find_option;
 use crate::record::LIMIT;
 
 /// What is said of an interface.
-#[derive(Clone, Copy, Debug, PartialEq, Eq)]
+#[derive(Clone, Copy, Debug)]
 pub struct Interface {
     /// The type of link, as tcpdump numbers them.
     pub link: u32,

@@ -7,7 +7,7 @@ ghost use Rattle.gtp_capture.specs.Outcome.{Steps};
 
 use crate::captured::Time;
 use crate::fault::Stop;
-use crate::filling::{fill, refill};
+use crate::filling::{next_octets, refill};
 use crate::head::Kind;
 use crate::octets::four;
 use crate::step::{Found, Head, Item, Step};
@@ -32,8 +32,7 @@ pub fn next_record<R: Read>(
     ensures unfailed { result ≢ Err Stop.Read
         → failures_of reader.new ≡ failures_of reader.old }
 {
-    let mut head = [0u8; 16];
-    let found = fill(reader, &mut head)?;
+    let (head, found) = next_octets::<R, 16>(reader)?;
     if found == 0 {
         return Ok(Step::End);
     }

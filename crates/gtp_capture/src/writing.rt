@@ -9,14 +9,14 @@ use crate::checksum::{complement, sum_onto, udp_complement};
 use std::io::{self, Write};
 
 /// The addresses that a datagram is from and to, both of one version.
-#[derive(Clone, Copy, Debug, PartialEq, Eq)]
+#[derive(Clone, Copy, Debug)]
 pub enum Ends {
     V4 { from: [u8; 4], to: [u8; 4] },
     V6 { from: [u8; 16], to: [u8; 16] },
 }
 
 /// A datagram that is written: when, from where to where, and its octets, at most 65,507 over IPv4 and 65,527 over IPv6.
-#[derive(Clone, Copy, Debug, PartialEq, Eq)]
+#[derive(Clone, Copy, Debug)]
 pub struct WrittenDatagram<'a> {
     /// Since 1970.
     pub seconds: u32,

@@ -5,10 +5,11 @@ ghost use Rattle.std.specs.List.{flat_map};
 ghost use Rattle.json.specs.Tree.{json_tokens};
 ghost use Rattle.gtp_ie.specs.Element.{elements_of};
 ghost use Rattle.gtp_ie.specs.View.{element_of};
-ghost use Rattle.gtp_json.specs.Tree.{member, array_of, object_of};
+ghost use Rattle.gtp_v2.specs.Tables.{table_of};
+ghost use Rattle.gtp_json.specs.Tree.{member, number_of, array_of, object_of};
 ghost use Rattle.gtp_json.specs.reading.Tokens.{written};
 ghost use Rattle.gtp_json.specs.Adds.{Adds};
-ghost use Rattle.gtp_json.specs.Control.{element_head, inner_json, group_members, element_json, element_members, title_members, teid_members, priority_members, head_members, elements_members, carried_members, seen_members, second_members};
+ghost use Rattle.gtp_json.specs.Control.{element_head, inner_json, group_members, element_json, element_members, named_by, title_members, teid_members, priority_members, head_members, elements_members, carried_members, seen_members, second_members};
 ghost use Rattle.gtp_json.specs.Control.{element_code as spec_element_code, code_of, element_fault_detail, element_fault_members, mark_word, fault_detail, fault_members, fault_member, ControlMembers};
 
 use crate::object::Output;
@@ -122,16 +123,24 @@ fn put_elements(out: &mut Output, elements: &Elements) -> Result<(), AllocError>
     out.end_array()
 }
 
-/// Writes the type of a message, by its number and its name.
-#[tactic(auto, unfolding(crate::specs::Control::title_members), using(crate::proofs::Tokens::appending, crate::proofs::Names::name_some, crate::proofs::Names::name_none))]
-fn put_title(out: &mut Output, kind: u8) -> Result<(), AllocError>
-    ensures ok { OnOk result (out.new ≡ out.old ++ written (title_members kind)) }
+/// Writes the name of a type of message, where it has one.
+#[tactic(auto, using(crate::proofs::Tokens::appending, crate::proofs::Names::name_some, crate::proofs::Names::name_none))]
+fn put_name(out: &mut Output, kind: u8) -> Result<(), AllocError>
+    ensures ok { OnOk result (out.new ≡ out.old ++ written (named_by (table_of kind))) }
 {
-    out.number_member("type", u64::from(kind))?;
     match type_name(kind) {
         Some(name) => out.string_member("name", name),
         None => Ok(()),
     }
+}
+
+/// Writes the type of a message, by its number and its name.
+#[tactic(auto, unfolding(crate::specs::Control::title_members), using(crate::proofs::Tokens::appending))]
+fn put_title(out: &mut Output, kind: u8) -> Result<(), AllocError>
+    ensures ok { OnOk result (out.new ≡ out.old ++ written (title_members kind)) }
+{
+    out.number_member("type", u64::from(kind))?;
+    put_name(out, kind)
 }
 
 /// Writes a TEID, where there is one.
@@ -226,6 +235,18 @@ fn element_code(fault: &IeFault) -> &'static str
     }
 }
 
+/// Writes the type, the instance and the place of an element.
+#[tactic(auto, using(crate::proofs::Tokens::appending))]
+fn put_element_at(out: &mut Output, kind: u8, instance: u8, at: usize) -> Result<(), AllocError>
+    ensures ok { OnOk result (out.new ≡ out.old
+        ++ written (member (codes "type") (number_of kind)
+        ++ (member (codes "instance") (number_of instance) ++ member (codes "at") (number_of at)))) }
+{
+    out.number_member("type", u64::from(kind))?;
+    out.number_member("instance", u64::from(instance))?;
+    out.number_member("at", at as u64)
+}
+
 /// Writes what follows the code of a fault of elements.
 #[tactic(auto, using(crate::proofs::Tokens::appending))]
 fn put_element_fault_detail(out: &mut Output, fault: &IeFault) -> Result<(), AllocError>
@@ -234,9 +255,7 @@ fn put_element_fault_detail(out: &mut Output, fault: &IeFault) -> Result<(), All
     match fault {
         IeFault::Truncated { at } => out.number_member("at", *at as u64),
         IeFault::ShortValue { kind, instance, at } | IeFault::BadValue { kind, instance, at } => {
-            out.number_member("type", u64::from(*kind))?;
-            out.number_member("instance", u64::from(*instance))?;
-            out.number_member("at", *at as u64)
+            put_element_at(out, *kind, *instance, *at)
         }
         IeFault::Memory | IeFault::TooLong => Ok(()),
     }

@@ -112,7 +112,7 @@ impl Output {
         ensures ok { OnOk result (self.new ≡ self.old ++ json_tokens (hexadecimal octets.now)) }
     {
         let text = hex::encode(self.alloc, octets)?;
-        self.writer.string(&text)
+        self.string(&text)
     }
 
     /// A string of what a value displays.
@@ -121,7 +121,7 @@ impl Output {
             (λ text. self.new ≡ self.old ++ json_tokens (string_json text))) }
     {
         let text = value.to_string(self.alloc)?;
-        self.writer.string(&text)
+        self.string(&text)
     }
 
     /// A string of decimal digits.
@@ -134,7 +134,7 @@ impl Output {
         for digit in digits {
             text.push(char::from(b'0' + *digit))?;
         }
-        self.writer.string(&text)
+        self.string(&text)
     }
 
     /// A member that is a number.

@@ -1,15 +1,15 @@
 //! The header of a message, as far as its octets are there (TS 29.274 5.1).
 
-ghost use Rattle.std.specs.Prelude.{◌≡◌, ◌≤◌, option_map};
+ghost use Rattle.std.specs.Prelude.{◌≡◌, ◌≤◌, ◌+◌, ◌*◌, ◌/◌, if◌then◌else◌, Some, None, option_map};
 ghost use Rattle.gtp_v2.specs.Viewed.{place_of};
 ghost use Rattle.gtp_lines.specs.All.{after_no_teid, after_teid, head_of as spec_head_of, head_at as spec_head_at, pair_at as spec_pair_at};
-ghost use Rattle.gtp_lines.specs.reading.Header.{headed_of, pair_of};
+ghost use Rattle.gtp_lines.specs.reading.Header.{headed_of, pair_of, first_in};
 
 use byteorder::{BigEndian, ByteOrder};
 use gtp_values::{Below, Seq, Teid};
 
 /// What the octets before the elements say, and the octets after them.
-#[derive(Clone, Copy, Debug)]
+#[derive(Clone, Copy)]
 pub struct Header<'a> {
     pub kind: u8,
     pub teid: Option<Teid>,
@@ -51,16 +51,26 @@ fn without_teid(kind: u8, octets: &[u8]) -> Option<Header<'_>>
 fn with_teid(ranked: bool, kind: u8, octets: &[u8]) -> Option<Header<'_>>
     ensures { option_map headed_of result ≡ after_teid ranked kind octets.now }
 {
-    let [a, b, c, d, e, f, g, last, rest @ ..] = octets else {
+    let [a, b, c, d, numbered @ ..] = octets else {
+        return None;
+    };
+    let [e, f, g, last, rest @ ..] = numbered else {
         return None;
     };
     Some(Header {
         kind,
         teid: Some(Teid(BigEndian::read_u32(&[*a, *b, *c, *d]))),
         seq: Seq::new(BigEndian::read_u24(&[*e, *f, *g])),
-        priority: ranked.then_some(Below::new(*last >> 4)),
+        priority: priority_in(ranked, *last),
         rest,
     })
+}
+
+/// The priority in the last octet of a header, where there is one.
+fn priority_in(ranked: bool, last: u8) -> Option<Below<16>>
+    ensures { result ≡ (if ranked then Some (last / 16) else None) }
+{
+    ranked.then_some(Below::new(last >> 4))
 }
 
 /// The header of a message with this first octet and this type, and these octets after the first four.
@@ -87,6 +97,30 @@ pub fn head_at(octets: &[u8]) -> Option<Header<'_>>
     head_of(*first, *kind, following)
 }
 
+/// The header of a first message of this size that announces a second one, and the octets of that.
+fn first_of(first: u8, kind: u8, size: usize, held: &[u8]) -> Option<(Header<'_>, &[u8])>
+    ensures { option_map pair_of result ≡ first_in first kind size held.now }
+{
+    if first >> 4 & 1 == 0 {
+        return None;
+    }
+    if held.len() < size {
+        return None;
+    }
+    let (front, back) = held.split_at(size);
+    match head_of(first, kind, front) {
+        Some(header) => Some((header, back)),
+        None => None,
+    }
+}
+
+/// The size in two octets, the high one first.
+fn size_of(high: u8, low: u8) -> usize
+    ensures { result ≡ 256 * high + low }
+{
+    usize::from(BigEndian::read_u16(&[high, low]))
+}
+
 /// The header of a first message that announces a second one, and the octets of that; `None` where it states
 /// more octets than are held.
 pub fn pair_at(octets: &[u8]) -> Option<(Header<'_>, &[u8])>
@@ -95,16 +129,5 @@ pub fn pair_at(octets: &[u8]) -> Option<(Header<'_>, &[u8])>
     let [first, kind, high, low, held @ ..] = octets else {
         return None;
     };
-    if *first >> 4 & 1 == 0 {
-        return None;
-    }
-    let stated = usize::from(BigEndian::read_u16(&[*high, *low]));
-    if held.len() < stated {
-        return None;
-    }
-    let (front, back) = held.split_at(stated);
-    match head_of(*first, *kind, front) {
-        Some(header) => Some((header, back)),
-        None => None,
-    }
+    first_of(*first, *kind, size_of(*high, *low), held)
 }

@@ -8,6 +8,7 @@ ghost use Rattle.gtp_values.specs.Imsi.{digits_text};
 ghost use Rattle.gtp_values.specs.Teid.{teid_text};
 ghost use Rattle.gtp_lines.specs.Text.{octets_text};
 
+use crate::values::put_field;
 use gtp_values::{Ip, Teid};
 use itoa::Buffer;
 use std::alloc::AllocError;
@@ -66,12 +67,9 @@ pub fn put_v4(out: &mut Vec<u8>, address: &[u8; 4]) -> Result<(), AllocError>
     ensures ok { OnOk result (out.new.items ≡ out.old.items ++ ipv4_text address.now) }
 {
     put_number(out, u64::from(address[0]))?;
-    put(out, b".")?;
-    put_number(out, u64::from(address[1]))?;
-    put(out, b".")?;
-    put_number(out, u64::from(address[2]))?;
-    put(out, b".")?;
-    put_number(out, u64::from(address[3]))
+    put_field(out, b".", u64::from(address[1]))?;
+    put_field(out, b".", u64::from(address[2]))?;
+    put_field(out, b".", u64::from(address[3]))
 }
 
 /// Appends an address. Takes no memory of its own.

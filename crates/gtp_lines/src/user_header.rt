@@ -7,7 +7,7 @@ ghost use Rattle.gtp_lines.specs.reading.Header.{user_head_of};
 use gtp_values::Teid;
 
 /// What the first octets of a datagram of the user plane say, and those after them.
-#[derive(Clone, Copy, Debug)]
+#[derive(Clone, Copy)]
 pub struct UserHeader<'a> {
     pub kind: u8,
     pub teid: Teid,
