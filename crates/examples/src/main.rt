@@ -19,6 +19,18 @@ const REQUEST: &str = concat!(
     "0a0000010300010001",
 );
 
+/// The addresses of the packet gateway.
+const OWN: Addresses = Addresses {
+    control: Ip::V4([10, 0, 0, 2]),
+    user: Ip::V4([10, 0, 0, 2]),
+};
+
+/// Those of its peer, the serving gateway.
+const PEER: Addresses = Addresses {
+    control: Ip::V4([10, 0, 0, 1]),
+    user: Ip::V4([10, 0, 0, 1]),
+};
+
 /// The first IPv6 address of the packet gateway, 2001:db8::1.
 const FIRST: [u8; 16] = [0x20, 1, 0xd, 0xb8, 0, 0, 0, 0, 0, 0, 0, 0, 0, 0, 0, 1];
 
@@ -44,24 +56,13 @@ fn echo_response(alloc: Global, seq: Seq, counter: u8) -> anyhow::Result<Vec<u8>
     Ok(encode(alloc, &message)?)
 }
 
-/// A packet gateway that has just started, for one access point and ten addresses of each IP version.
-fn packet_gateway(alloc: Global, own: Ip, peer: Ip) -> anyhow::Result<Gateway> {
-    let config = Config::try_new(
-        Addresses {
-            control: own,
-            user: own,
-        },
-        Addresses {
-            control: peer,
-            user: peer,
-        },
-        vec![in alloc; Apn::from_text("internet")?]?,
-        Pool::try_new(0x0a01_0001, 10)?, // 10.1.0.1 and the nine after it
-        Timers::default(),
-    )?;
+/// How a packet gateway is set up: for one access point and ten addresses of each IP version.
+fn settings(alloc: Global) -> anyhow::Result<Config> {
+    let access_points = vec![in alloc; Apn::from_text("internet")?]?;
+    let pool = Pool::try_new(0x0a01_0001, 10)?; // 10.1.0.1 and the nine after it
+    let config = Config::try_new(OWN, PEER, access_points, pool, Timers::default())?;
     // FIRST, and its last eight octets under each of the nine prefixes after it
-    let config = config.with_pool6(FIRST, 10)?;
-    Ok(Gateway::start(alloc, Role::Packet, &config, Counter(1))?)
+    Ok(config.with_pool6(FIRST, 10)?)
 }
 
 /// The sessions of a gateway, each with its address.
@@ -75,12 +76,15 @@ fn print_sessions(rt: &impl Print, gateway: &Gateway) -> anyhow::Result<()> {
     Ok(())
 }
 
-/// Hands a request of the serving gateway to a packet gateway, and prints what it does.
-fn exchange(rt: &impl Print, alloc: Global, request: &[u8]) -> anyhow::Result<()> {
-    let (own, peer) = (Ip::V4([10, 0, 0, 2]), Ip::V4([10, 0, 0, 1]));
-    let mut gateway = packet_gateway(alloc, own, peer)?;
+/// Hands a datagram of the serving gateway to a packet gateway, and prints what it does.
+fn receive(
+    rt: &impl Print,
+    alloc: Global,
+    gateway: &mut Gateway,
+    request: &[u8],
+) -> anyhow::Result<()> {
     let source = Endpoint {
-        ip: peer,
+        ip: PEER.control,
         port: 2123,
     };
 
@@ -89,7 +93,16 @@ fn exchange(rt: &impl Print, alloc: Global, request: &[u8]) -> anyhow::Result<()
     if let Some(sent) = step.out {
         println!(rt; "to {} {}", sent.to.ip, hex::encode(alloc, &sent.octets)?)?; // your socket sends it
     }
-    print_sessions(rt, &gateway)
+    print_sessions(rt, gateway)
+}
+
+/// Starts a packet gateway, and hands it the request.
+fn exchange(rt: &impl Print, alloc: Global, request: &[u8]) -> anyhow::Result<()> {
+    let config = settings(alloc)?;
+    let mut gateway = Gateway::start(alloc, Role::Packet, &config, Counter(1))?;
+    let received = receive(rt, alloc, &mut gateway, request);
+    drop(gateway);
+    received
 }
 
 fn main(rt: HostRuntime) -> anyhow::Result<()> {

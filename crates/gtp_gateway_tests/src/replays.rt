@@ -1,6 +1,6 @@
 //! Replays over readers and writers that do little in a call, or fail in one.
 
-use crate::scenarios::scenario_of;
+use crate::setting::scenario_of;
 use gtp_replay::{Counted, Form, ReplayFault, Verdict, replay};
 use std::alloc::Global;
 use std::io;
@@ -8,29 +8,54 @@ use std::io::{Read, Write};
 use std::process::Abort;
 use std::test::Fail;
 
-/// How the call with this number fails: of two kinds, in turn.
-fn failure(call: u64) -> io::Error {
-    let kind = if call % 2 == 0 {
-        io::ErrorKind::TimedOut
-    } else {
-        io::ErrorKind::BrokenPipe
-    };
-    io::Error::from(kind)
+/// The calls of a reader or a writer.
+#[derive(Clone, Copy)]
+struct Calls {
+    /// How many were made.
+    count: u64,
+    /// Which one fails, from 1: none for 0.
+    fails_at: u64,
+    /// Whether every other one is interrupted, from the first on.
+    is_restless: bool,
 }
 
-/// Gives one octet a call, and fails in the call with this number, from 1.
+impl Calls {
+    /// No call was made, and the one with this number fails.
+    fn failing_at(fails_at: u64) -> Calls {
+        Calls {
+            count: 0,
+            fails_at,
+            is_restless: false,
+        }
+    }
+
+    /// Another call is made: how it fails, if it does. A failure is of two kinds, in turn.
+    fn fault(&mut self) -> Option<io::ErrorKind> {
+        self.count = self.count.saturating_add(1);
+        let is_odd = self.count % 2 == 1;
+        if self.is_restless && is_odd {
+            Some(io::ErrorKind::Interrupted)
+        } else if self.count != self.fails_at {
+            None
+        } else if is_odd {
+            Some(io::ErrorKind::BrokenPipe)
+        } else {
+            Some(io::ErrorKind::TimedOut)
+        }
+    }
+}
+
+/// Gives one octet a call.
 #[derive(Clone, Copy)]
 struct Slow<'a> {
     text: &'a [u8],
-    calls: u64,
-    fails_at: u64,
+    calls: Calls,
 }
 
 impl<'a> Read for Slow<'a> {
     fn read(&mut self, buf: &mut [u8]) -> io::Result<usize> {
-        self.calls = self.calls.saturating_add(1);
-        if self.calls == self.fails_at {
-            return Err(failure(self.calls));
+        if let Some(kind) = self.calls.fault() {
+            return Err(io::Error::from(kind));
         }
         match (self.text.split_first(), buf.first_mut()) {
             (Some((octet, rest)), Some(place)) => {
@@ -43,20 +68,18 @@ impl<'a> Read for Slow<'a> {
     }
 }
 
-/// Takes so many octets a call, and fails in the call with this number, from 1.
+/// Takes so many octets a call.
 #[derive(Drop)]
 struct Narrow {
     taken: Vec<u8>,
     width: usize,
-    calls: u64,
-    fails_at: u64,
+    calls: Calls,
 }
 
 impl Write for Narrow {
     fn write(&mut self, buf: &[u8]) -> io::Result<usize> {
-        self.calls = self.calls.saturating_add(1);
-        if self.calls == self.fails_at {
-            return Err(failure(self.calls));
+        if let Some(kind) = self.calls.fault() {
+            return Err(io::Error::from(kind));
         }
         let (front, _) = buf.split_at(self.width.min(buf.len()));
         self.taken.extend_from_slice(front)?;
@@ -68,48 +91,12 @@ impl Write for Narrow {
     }
 }
 
-/// A reader or a writer of which every other call is interrupted, from the first on.
-#[derive(Drop)]
-struct Restless<T> {
-    inner: T,
-    calls: u64,
-}
-
-impl<T> Restless<T> {
-    /// Whether the next call is interrupted.
-    fn is_interrupted(&mut self) -> bool {
-        self.calls = self.calls.saturating_add(1);
-        self.calls % 2 == 1
-    }
-}
-
-impl<R: Read> Read for Restless<R> {
-    fn read(&mut self, buf: &mut [u8]) -> io::Result<usize> {
-        if self.is_interrupted() {
-            return Err(io::Error::from(io::ErrorKind::Interrupted));
-        }
-        self.inner.read(buf)
-    }
-}
-
-impl<W: Write> Write for Restless<W> {
-    fn write(&mut self, buf: &[u8]) -> io::Result<usize> {
-        if self.is_interrupted() {
-            return Err(io::Error::from(io::ErrorKind::Interrupted));
-        }
-        self.inner.write(buf)
-    }
-
-    fn flush(&mut self) -> io::Result<()> {
-        self.inner.flush()
-    }
-}
-
 /// A scenario of one event, whose report is short.
 fn scenario(alloc: Global) -> Result<String, Fail> {
     scenario_of(
         alloc,
-        10,
+        "10",
+        "60",
         r#"[{"do":"deliver","datagram":0,"expect":"N1"}]"#,
     )
 }
@@ -117,61 +104,77 @@ fn scenario(alloc: Global) -> Result<String, Fail> {
 /// Its report.
 const REPORT: &[u8] = b"event 0 deliver N1\nlate 0\n";
 
-/// What a replay of the scenario comes to, how many calls failed, and what is written.
-type Done = (Result<Verdict, ReplayFault>, u64, Vec<u8>);
-
-/// Over a reader that fails in this call, or in none for 0.
-fn read_so(alloc: Global, text: &[u8], fails_at: u64) -> Done {
-    let mut reader = Counted::new(Slow {
-        text,
-        calls: 0,
-        fails_at,
-    });
-    let mut writer = Counted::new(Vec::new(alloc));
-    let result = replay(alloc, Form::Report, &mut reader, &mut writer);
-    (result, reader.failures(), writer.into_inner())
+/// How a scenario is replayed.
+#[derive(Clone, Copy)]
+struct Manner<'a> {
+    text: &'a [u8],
+    form: Form,
+    reads: Calls,
+    writes: Calls,
+    width: usize,
 }
 
-/// Over a writer of this width that fails in this call, or in none for 0.
-fn written_so(alloc: Global, text: &[u8], width: usize, fails_at: u64) -> Done {
-    let mut reader = Counted::new(text);
+impl<'a> Manner<'a> {
+    /// A report over calls of one octet each, of which none fails.
+    fn of(text: &'a [u8]) -> Manner<'a> {
+        Manner {
+            text,
+            form: Form::Report,
+            reads: Calls::failing_at(0),
+            writes: Calls::failing_at(0),
+            width: 1,
+        }
+    }
+}
+
+/// What a replay comes to, how many calls failed, and what is written.
+type Done = (Result<Verdict, ReplayFault>, u64, Vec<u8>);
+
+/// The scenario is replayed in this manner.
+fn replayed(alloc: Global, manner: &Manner<'_>) -> Done {
+    let mut reader = Counted::new(Slow {
+        text: manner.text,
+        calls: manner.reads,
+    });
     let mut writer = Counted::new(Narrow {
         taken: Vec::new(alloc),
-        width,
-        calls: 0,
-        fails_at,
+        width: manner.width,
+        calls: manner.writes,
     });
-    let result = replay(alloc, Form::Report, &mut reader, &mut writer);
-    (result, writer.failures(), writer.into_inner().taken)
+    let result = replay(alloc, manner.form, &mut reader, &mut writer);
+    let failures = reader.failures().saturating_add(writer.failures());
+    (result, failures, writer.into_inner().taken)
 }
 
 /// No call fails, and all is written.
-fn is_whole(rt: &impl Abort, done: Done) {
-    let (result, failures, written) = done;
+fn is_whole(rt: &impl Abort, alloc: Global, manner: &Manner<'_>, whole: &[u8]) {
+    let (result, failures, written) = replayed(alloc, manner);
     assert!(rt;
         result == Ok(Verdict::Expected) && failures == 0,
         "{result:?}, {failures}"
     );
-    assert!(rt; written.as_slice() == REPORT, "{written:?}");
+    assert!(rt; written.as_slice() == whole, "{written:?}");
 }
 
-/// One call fails, so this is answered, and so many octets of the report are written.
-fn is_cut(rt: &impl Abort, done: Done, fault: ReplayFault, count: usize) {
-    let (result, failures, written) = done;
+/// One call fails, so this is answered, and so much is written.
+fn is_cut(rt: &impl Abort, alloc: Global, manner: &Manner<'_>, fault: ReplayFault, front: &[u8]) {
+    let (result, failures, written) = replayed(alloc, manner);
     assert!(rt;
         result == Err(fault) && failures == 1,
         "{result:?}, {failures}"
     );
-    assert!(rt;
-        written.len() == count && REPORT.starts_with(written.as_slice()),
-        "{written:?}"
-    );
+    assert!(rt; written.as_slice() == front, "{written:?}");
 }
 
+/// A call that was interrupted has not failed, and is made again.
 #[test]
-fn a_reader_that_gives_an_octet_a_call(rt: HostRuntime) -> Result<(), Fail> {
+fn calls_of_an_octet_each(rt: HostRuntime) -> Result<(), Fail> {
     let text = scenario(rt.alloc())?;
-    is_whole(&rt, read_so(rt.alloc(), text.as_bytes(), 0));
+    let mut manner = Manner::of(text.as_bytes());
+    is_whole(&rt, rt.alloc(), &manner, REPORT);
+    manner.reads.is_restless = true;
+    manner.writes.is_restless = true;
+    is_whole(&rt, rt.alloc(), &manner, REPORT);
     Ok(())
 }
 
@@ -179,109 +182,35 @@ fn a_reader_that_gives_an_octet_a_call(rt: HostRuntime) -> Result<(), Fail> {
 #[test]
 fn a_reader_that_fails(rt: HostRuntime) -> Result<(), Fail> {
     let text = scenario(rt.alloc())?;
+    let mut manner = Manner::of(text.as_bytes());
     for call in 0..=text.len() {
-        let done = read_so(rt.alloc(), text.as_bytes(), (call as u64).saturating_add(1));
-        is_cut(&rt, done, ReplayFault::Read, 0);
+        manner.reads = Calls::failing_at((call as u64).saturating_add(1));
+        is_cut(&rt, rt.alloc(), &manner, ReplayFault::Read, &[]);
     }
     Ok(())
 }
 
-#[test]
-fn a_reader_that_never_ends(rt: HostRuntime) {
-    let mut reader = Counted::new(io::repeat(b' '));
-    let mut writer = Counted::new(Vec::new(rt.alloc()));
-    let result = replay(rt.alloc(), Form::Report, &mut reader, &mut writer);
-    let written = writer.into_inner();
-    assert!(rt; result == Ok(Verdict::Bad), "{result:?}");
-    assert!(rt;
-        written.as_slice() == b"bad json\n".as_slice(),
-        "{written:?}"
-    );
+/// Whichever call fails. What was taken before is there.
+fn writes_fail(rt: &impl Abort, alloc: Global, manner: &Manner<'_>, whole: &[u8]) {
+    let mut manner = *manner;
+    for call in 0..whole.len() {
+        manner.writes = Calls::failing_at((call as u64).saturating_add(1));
+        is_cut(rt, alloc, &manner, ReplayFault::Write, &whole[..call]);
+    }
 }
 
-#[test]
-fn a_writer_that_takes_an_octet_a_call(rt: HostRuntime) -> Result<(), Fail> {
-    let text = scenario(rt.alloc())?;
-    is_whole(&rt, written_so(rt.alloc(), text.as_bytes(), 1, 0));
-    Ok(())
-}
-
-/// A call that was interrupted has not failed, and is made again.
-#[test]
-fn calls_that_are_interrupted(rt: HostRuntime) -> Result<(), Fail> {
-    let text = scenario(rt.alloc())?;
-    let mut reader = Counted::new(Restless {
-        inner: text.as_bytes(),
-        calls: 0,
-    });
-    let mut writer = Counted::new(Restless {
-        inner: Vec::new(rt.alloc()),
-        calls: 0,
-    });
-    let result = replay(rt.alloc(), Form::Report, &mut reader, &mut writer);
-    let failures = reader.failures().max(writer.failures());
-    is_whole(&rt, (result, failures, writer.into_inner().inner));
-    Ok(())
-}
-
-/// To take nothing is to fail.
-#[test]
-fn a_writer_that_takes_none(rt: HostRuntime) -> Result<(), Fail> {
-    let text = scenario(rt.alloc())?;
-    let done = written_so(rt.alloc(), text.as_bytes(), 0, 0);
-    is_cut(&rt, done, ReplayFault::Write, 0);
-    Ok(())
-}
-
-/// Whichever call fails. What it took before is there.
+/// Of a report, and of a diagram. To take nothing is to fail, too.
 #[test]
 fn a_writer_that_fails(rt: HostRuntime) -> Result<(), Fail> {
     let text = scenario(rt.alloc())?;
-    for call in 0..REPORT.len() {
-        let done = written_so(
-            rt.alloc(),
-            text.as_bytes(),
-            1,
-            (call as u64).saturating_add(1),
-        );
-        is_cut(&rt, done, ReplayFault::Write, call);
-    }
-    Ok(())
-}
-
-/// A session is opened, the packet gateway waits, a packet is lost. The diagram is tests/scenarios/session-drawn.
-const DRAWN: &str = concat!(
-    r#"[{"do":"create_session","imsi":"001010123456789","apn":"internet","ebi":5},"#,
-    r#"{"do":"deliver","datagram":0},"#,
-    r#"{"do":"deliver","datagram":1},"#,
-    r#"{"do":"tick","node":"packet","times":2},"#,
-    r#"{"do":"send","node":"serving","teid":"01000002","payload":"616263"},"#,
-    r#"{"do":"restart","node":"packet"}]"#
-);
-
-/// The diagram of that run over a writer that fails in this call, or in none for 0.
-fn drawn(alloc: Global, fails_at: u64) -> Result<(Result<Verdict, ReplayFault>, Vec<u8>), Fail> {
-    let text = scenario_of(alloc, 10, DRAWN)?;
-    let mut reader = Counted::new(text.as_bytes());
-    let mut writer = Counted::new(Narrow {
-        taken: Vec::new(alloc),
-        width: 100,
-        calls: 0,
-        fails_at,
-    });
-    let result = replay(alloc, Form::Diagram, &mut reader, &mut writer);
-    Ok((result, writer.into_inner().taken))
-}
-
-#[test]
-fn a_diagram_that_is_cut_off(rt: HostRuntime) -> Result<(), Fail> {
-    let (whole, all) = drawn(rt.alloc(), 0)?;
-    assert!(rt; whole == Ok(Verdict::Expected), "{whole:?}");
-    let (result, text) = drawn(rt.alloc(), 3)?;
-    assert!(rt; result == Err(ReplayFault::Write), "{result:?}");
-    assert!(rt;
-        text.len() == 200 && all.starts_with(text.as_slice()),
-        "{text:?}"
-    );
+    let mut manner = Manner::of(text.as_bytes());
+    writes_fail(&rt, rt.alloc(), &manner, REPORT);
+    manner.width = 0;
+    is_cut(&rt, rt.alloc(), &manner, ReplayFault::Write, &[]);
+    manner = Manner::of(text.as_bytes());
+    manner.form = Form::Diagram;
+    let (result, _, diagram) = replayed(rt.alloc(), &manner);
+    assert!(rt; result == Ok(Verdict::Expected), "{result:?}");
+    writes_fail(&rt, rt.alloc(), &manner, diagram.as_slice());
     Ok(())
 }

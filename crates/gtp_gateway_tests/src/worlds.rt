@@ -1,11 +1,10 @@
 //! Two gateways in a world: what no report shows. A run is read as a scenario, whose report is data in
 //! tests/scenarios or examples/scenarios.
 
-use crate::gateways::{bearer_count, session_count, specification};
-use crate::scenarios::{scenario_of, set_up_in};
-use gtp_gateway::{Outcome, Refusal, Role, SessionSpec};
-use gtp_scenario::{Scenario, events_of, read_scenario};
-use gtp_world::{Event, EventOutcome, Memory, Mutual, Teid, World};
+use crate::setting::{asked_in, scenario_of};
+use gtp_gateway::Outcome;
+use gtp_scenario::{Entry, Scenario, read_scenario};
+use gtp_world::{EventOutcome, Memory, Mutual, Teid, World};
 use std::alloc::Global;
 use std::process::Abort;
 use std::test::Fail;
@@ -17,11 +16,15 @@ struct Run {
     made: &'static [(u64, usize)],
     /// How many packets were handed in.
     handed_in: usize,
+    /// How many contexts name each other.
+    mutual: usize,
+    /// Whether another session is then made, in one call.
+    is_exchanged: bool,
 }
 
 /// A request that comes three times, one that is late, and one that is given up; an address that is given again after
-/// a restart, and one after an end, for which a request before found none.
-const RUNS: [Run; 5] = [
+/// a restart, and one after an end, for which a request before found none; and a request that never comes.
+const RUNS: [Run; 6] = [
     Run {
         events: concat!(
             r#"[{"do":"create_session","imsi":"001010123456789","apn":"internet","ebi":5},"#,
@@ -33,6 +36,8 @@ const RUNS: [Run; 5] = [
         ),
         made: &[(0, 1), (1, 0), (6, 1)],
         handed_in: 2,
+        mutual: 2,
+        is_exchanged: false,
     },
     Run {
         events: concat!(
@@ -47,6 +52,8 @@ const RUNS: [Run; 5] = [
         ),
         made: &[(0, 1), (2, 2)],
         handed_in: 1,
+        mutual: 3,
+        is_exchanged: false,
     },
     Run {
         events: concat!(
@@ -56,6 +63,8 @@ const RUNS: [Run; 5] = [
         ),
         made: &[(0, 1)],
         handed_in: 0,
+        mutual: 0,
+        is_exchanged: false,
     },
     Run {
         events: concat!(
@@ -65,6 +74,8 @@ const RUNS: [Run; 5] = [
         ),
         made: &[(0, 1)],
         handed_in: 0,
+        mutual: 0,
+        is_exchanged: false,
     },
     Run {
         events: concat!(
@@ -79,24 +90,21 @@ const RUNS: [Run; 5] = [
         ),
         made: &[(0, 1), (2, 0), (6, 1)],
         handed_in: 0,
+        mutual: 2,
+        is_exchanged: false,
+    },
+    Run {
+        events: r#"[{"do":"create_session","imsi":"001010123456789","apn":"internet","ebi":5}]"#,
+        made: &[(0, 0)],
+        handed_in: 0,
+        mutual: 0,
+        is_exchanged: true,
     },
 ];
 
-/// What the events of a scenario leave, where there is memory.
-fn left_by(alloc: Global, scenario: &Scenario, events: &[Event]) -> Option<World> {
-    World::run(alloc, &scenario.config, events).ok()
-}
-
-/// How many contexts name each other.
-fn mutual_count(world: &World) -> usize {
-    world
-        .mutual()
-        .fold(0usize, |count, _| count.saturating_add(1))
-}
-
-/// Past their ends the views have nothing.
-fn nothing_is_past(rt: &impl Abort, world: &World) {
-    assert!(rt; world.agree(mutual_count(world)).is_none());
+/// Past their ends the views have nothing; so many contexts name each other.
+fn nothing_is_past(rt: &impl Abort, world: &World, mutual: usize) {
+    assert!(rt; world.agree(mutual).is_none());
     assert!(rt; world.owed(world.accepted().len()).is_none());
     assert!(rt; world.made(world.datagrams().len() as u64).is_none());
 }
@@ -115,81 +123,24 @@ fn has(rt: &impl Abort, world: &World, run: &Run) {
         "handed in by {}",
         run.events
     );
-    nothing_is_past(rt, world);
+    nothing_is_past(rt, world, run.mutual);
 }
 
-/// A scenario leaves what a run is to leave.
-fn scenario_leaves(
-    rt: &impl Abort,
-    alloc: Global,
-    scenario: &Scenario,
-    run: &Run,
-) -> Result<(), Fail> {
-    let events = events_of(alloc, scenario.entries.as_slice())?;
-    let world = left_by(alloc, scenario, events.as_slice()).expect(rt, "no memory");
-    has(rt, &world, run);
-    drop(world);
-    Ok(())
-}
+/// What the events come to that make a session in one call, where another one was asked for before.
+const MADE: [EventOutcome; 3] = [
+    EventOutcome::CameTo(Outcome::Begun(Some(0x0100_0003))),
+    EventOutcome::CameTo(Outcome::Answered(16)),
+    EventOutcome::CameTo(Outcome::Opened),
+];
 
-/// A run leaves what it is to leave.
-fn leaves(rt: &impl Abort, alloc: Global, run: &Run) -> Result<(), Fail> {
-    let text = scenario_of(alloc, 1, run.events)?;
-    let scenario = read_scenario(alloc, text.as_bytes())?;
-    scenario_leaves(rt, alloc, &scenario, run)
-}
-
-#[test]
-fn what_runs_leave(rt: HostRuntime) -> Result<(), Fail> {
-    for run in &RUNS {
-        leaves(&rt, rt.alloc(), run)?;
-    }
-    Ok(())
-}
-
-/// A session is made in one call.
-fn exchange(
-    alloc: Global,
-    world: &mut World,
-    spec: &SessionSpec,
-) -> Result<[EventOutcome; 3], Memory> {
-    world.exchange(alloc, spec)
-}
-
-/// What the events come to that make a session.
-fn made_under(teid: u32) -> [EventOutcome; 3] {
-    [
-        EventOutcome::CameTo(Outcome::Begun(Some(teid))),
-        EventOutcome::CameTo(Outcome::Answered(16)),
-        EventOutcome::CameTo(Outcome::Opened),
-    ]
-}
-
-/// Sessions are made, each in one call: those of these places, from 0.
-fn exchanges(
-    rt: &impl Abort,
-    alloc: Global,
-    world: &mut World,
-    first: u32,
-    end: u32,
-) -> Result<(), Fail> {
-    let spec = specification()?;
-    for at in first..end {
-        let teid = 0x0100_0001u32.wrapping_add(at).wrapping_add(at);
-        let outcomes = exchange(alloc, world, &spec)?;
-        assert!(rt; outcomes == made_under(teid), "{outcomes:?}");
-    }
-    Ok(())
-}
-
-/// A session and its default bearer at both gateways.
+/// That session and its default bearer at both gateways.
 const MUTUAL: [Mutual; 2] = [
     Mutual::Session {
-        serving: Teid(0x0100_0001),
+        serving: Teid(0x0100_0003),
         packet: Teid(0x0100_0001),
     },
     Mutual::Bearer {
-        serving: Teid(0x0100_0002),
+        serving: Teid(0x0100_0004),
         packet: Teid(0x0100_0002),
     },
 ];
@@ -201,45 +152,68 @@ fn has_one(rt: &impl Abort, world: &World) {
         assert!(rt; listed.next() == Some(*pair), "mutual at {at}");
         assert!(rt; world.agree(at) == Some(true), "agree at {at}");
     }
-    nothing_is_past(rt, world);
+    nothing_is_past(rt, world, MUTUAL.len());
 }
 
-/// A gateway has a thousand sessions, each with its bearer.
-fn is_full(rt: &impl Abort, world: &World, role: Role) {
-    let gateway = world.gateway(role);
-    assert!(rt; session_count(gateway) == 1000 && bearer_count(gateway) == 1000);
-}
-
-/// No more than a thousand sessions are made.
-fn has_no_room(rt: &impl Abort, alloc: Global, world: &mut World) -> Result<(), Fail> {
-    let outcome = world.step(alloc, &Event::CreateSession(specification()?))?;
-    let refused = EventOutcome::CameTo(Outcome::Refused(Refusal::SessionsFull));
-    assert!(rt; outcome == refused, "{outcome:?}");
-    is_full(rt, world, Role::Serving);
-    is_full(rt, world, Role::Packet);
-    assert!(rt; mutual_count(world) == 2000);
+/// Another session is made in one call.
+fn is_made_in_one_call(
+    rt: &impl Abort,
+    alloc: Global,
+    world: &mut World,
+    scenario: &Scenario,
+) -> Result<(), Fail> {
+    let spec = asked_in(scenario)?;
+    let outcomes = world.exchange(alloc, &spec)?;
+    assert!(rt; outcomes == MADE, "{outcomes:?}");
+    has_one(rt, world);
     Ok(())
 }
 
-/// One session is made, and then 999 more.
-fn makes_thousand(rt: &impl Abort, alloc: Global, world: &mut World) -> Result<(), Fail> {
-    exchanges(rt, alloc, world, 0, 1)?;
-    has_one(rt, world);
-    exchanges(rt, alloc, world, 1, 1000)?;
-    has_no_room(rt, alloc, world)
+/// The events of a scenario happen.
+fn happen(alloc: Global, world: &mut World, entries: &[Entry]) -> Result<(), Memory> {
+    for entry in entries {
+        for _ in 0..entry.times {
+            world.step(alloc, &entry.event)?;
+        }
+    }
+    Ok(())
 }
 
-/// A world with 1,001 addresses for sessions, in which nothing has happened.
-fn started(alloc: Global) -> Result<World, Fail> {
-    let text = scenario_of(alloc, 1001, "[]")?;
-    let config = set_up_in(alloc, text.as_str())?;
-    Ok(World::start(alloc, &config)?)
+/// The events of a run leave what they are to leave.
+fn runs(
+    rt: &impl Abort,
+    alloc: Global,
+    world: &mut World,
+    scenario: &Scenario,
+    run: &Run,
+) -> Result<(), Fail> {
+    happen(alloc, world, scenario.entries.as_slice())?;
+    has(rt, world, run);
+    if run.is_exchanged {
+        is_made_in_one_call(rt, alloc, world, scenario)?;
+    }
+    Ok(())
+}
+
+/// The same, from their start.
+fn leaves(rt: &impl Abort, alloc: Global, scenario: &Scenario, run: &Run) -> Result<(), Fail> {
+    let mut world = World::start(alloc, &scenario.config)?;
+    let ran = runs(rt, alloc, &mut world, scenario, run);
+    drop(world);
+    ran
+}
+
+/// The same, of the text of a scenario.
+fn text_leaves(rt: &impl Abort, alloc: Global, text: &str, run: &Run) -> Result<(), Fail> {
+    let scenario = read_scenario(alloc, text.as_bytes())?;
+    leaves(rt, alloc, &scenario, run)
 }
 
 #[test]
-fn sessions_are_made_in_one_call_each(rt: HostRuntime) -> Result<(), Fail> {
-    let mut world = started(rt.alloc())?;
-    let made = makes_thousand(&rt, rt.alloc(), &mut world);
-    drop(world);
-    made
+fn what_runs_leave(rt: HostRuntime) -> Result<(), Fail> {
+    for run in &RUNS {
+        let text = scenario_of(rt.alloc(), "1", "60", run.events)?;
+        text_leaves(&rt, rt.alloc(), text.as_str(), run)?;
+    }
+    Ok(())
 }

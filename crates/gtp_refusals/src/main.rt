@@ -31,7 +31,9 @@ fn scenario<R: Input + AllocGlobal>(rt: &R, alloc: Global) -> Result<Scenario, S
 /// The report of the run of a scenario, and the datagrams.
 fn output_of(trial: &mut Trial, scenario: &Scenario) -> Result<Vec<u8>, Stop> {
     let events = events_of(trial.alloc, &scenario.entries).map_err(|_| Stop::Refused)?;
-    let mut text = report_of_run(trial, &scenario.config, &events)?;
+    let report = report_of_run(trial, &scenario.config, &events);
+    drop(events);
+    let mut text = report?;
     put_datagrams(&mut text, trial)?;
     Ok(text)
 }
@@ -40,9 +42,10 @@ fn output_of(trial: &mut Trial, scenario: &Scenario) -> Result<Vec<u8>, Stop> {
 fn run<R: Print + Input + AllocGlobal>(rt: &R) -> Result<Trial, Stop> {
     let mut trial = Trial::new(rt.alloc());
     let scenario = scenario(rt, trial.alloc)?;
-    let output = output_of(&mut trial, &scenario)?;
+    let output = output_of(&mut trial, &scenario);
+    drop(scenario);
     io::writer(rt)
-        .write_all(&output)
+        .write_all(&output?)
         .map_err(|_| Stop::Wrong("standard output"))?;
     Ok(trial)
 }

@@ -1,5 +1,7 @@
 //! What all calls of the libraries share.
 
+ghost use Rattle.std.specs.Prelude.{◌≤◌};
+
 use std::alloc::Global;
 
 /// Where a run ended early.
@@ -26,6 +28,17 @@ impl Trial {
             alloc,
             was_refused: false,
             early: None,
+        }
+    }
+
+    /// How many of so many events happened before the run ended.
+    pub fn past(&self, count: usize) -> usize
+        ensures { result ≤ count }
+    {
+        match self.early {
+            None => count,
+            Some(Early::Start) => 0,
+            Some(Early::At(at)) => at.min(count),
         }
     }
 }
