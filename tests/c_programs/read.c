@@ -47,7 +47,9 @@ static void each_value(uint8_t *octets, size_t len, bool user) {
 
 /* The octets of the digits up to a blank or the end of the line; '-' is none. */
 static uint8_t *octets_of(const char *digits, size_t *len) {
-    *len = strcspn(digits, " \n") / 2;
+    size_t count = strcspn(digits, " \n");
+    CHECK(count % 2 == 0 || *digits == '-');
+    *len = count / 2;
     uint8_t *octets = malloc(*len ? *len : 1);
     for (size_t i = 0; i < *len; i++) { unsigned octet; CHECK(sscanf(digits + 2 * i, "%2x", &octet) == 1); octets[i] = (uint8_t)octet; }
     return octets;
@@ -99,12 +101,13 @@ static bool is_body(const char *row) {
 
 int main(void) {
     static char line[200000];
-    unsigned count = 0;
+    unsigned count = 0, bodies = 0;
     while (fgets(line, sizeof line, stdin)) {
         bool user = line[0] == 'u';
         char *digits = strchr(line, ' ') + 1;
         if (line[0] == 'b') {
             if (!is_body(digits)) { printf("%s", line); return 1; }
+            bodies++;
             continue;
         }
         size_t len;
@@ -122,6 +125,7 @@ int main(void) {
     static const uint8_t OTHERS[] = { 1, 2, 71, 72, 79, 80, 83, 87 };
     for (size_t i = 0; i < sizeof OTHERS; i++) CHECK(same_bodies[OTHERS[i]]);
     for (size_t i = 0; i < sizeof NUMBER_TYPES; i++) CHECK(same_bodies[NUMBER_TYPES[i]]);
+    CHECK(count && bodies);
     printf("%u\n", count);
     return 0;
 }

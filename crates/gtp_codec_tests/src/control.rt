@@ -38,8 +38,8 @@ const PAIR: &str = concat!(
     "5e00040001000003"
 );
 
-/// The first is examples/datagrams/control/echo-request; those of types 36 and 37 are delete-session-request and
-/// delete-session-response there. What each of them says is in tests/lines/control.
+/// What each of them says is in tests/lines/control or beside it in examples/datagrams/control: the first is echo-request
+/// there, those of types 36 and 37 are delete-session-request and delete-session-response.
 const VECTORS: &[&str] = &[
     "40010009000001000300010007",
     "400200090000020003000100ff",
