@@ -4,7 +4,7 @@ use Rattle.std.specs.FinMap.{get, insert}
 use Rattle.gtp_machine.specs.declared.role.Role.{Role}
 use Rattle.gtp_machine.specs.Config.{user_end}
 use Rattle.gtp_machine.specs.Message.{End_marker}
-use Rattle.gtp_machine.specs.Command.{MayGo, SendsPacket, ClosesSession, ReleasesSession, BeginsBearer, ClosesBearer, NamesBearer}
+use Rattle.gtp_machine.specs.Command.{MayGo, SendsPacket, ClosesBearer, NamesBearer}
 use Rattle.gtp_machine.specs.User.{ended_bearer}
 use Rattle.gtp_machine.specs.declared.outcome.Refusal.TheVariants.{NoSuchContext, NotActive, TeidsUsed, PendingFull, BearerEnded, PacketTooLong}
 use Rattle.gtp_machine.specs.declared.outcome.Outcome.TheVariants.{GoneOut}
@@ -44,28 +44,6 @@ ends_on bearer old e b =
     Unless (b.state ≡ Active) (e ≡ refused old NotActive) (λ active.
     Unless (b.ended ≡ false) (e ≡ refused old BearerEnded) (λ before.
     e ≡ record { out = says (user_end old.config.peer.user) (End_marker (written b.remote)); outcome = Came_to GoneOut; node = record old { bearers = insert old.bearers bearer (ended_bearer b) } }))
-
--- the rules of delete_session that look at the session
-abbrev pub deletes_on : ℕ → Node → Effect → Session → Type 0
-deletes_on session old e s =
-    Unless (s.state ≡ Active) (e ≡ refused old NotActive) (λ active.
-    Unless (HasPendingRoom old) (e ≡ refused old PendingFull) (λ few.
-    ClosesSession old session s e))
-
--- the rules of release_session that look at the session
-abbrev pub releases_on : ℕ → Node → Effect → Session → Type 0
-releases_on session old e s =
-    Unless (s.state ≡ Active) (e ≡ refused old NotActive) (λ active.
-    Unless (HasPendingRoom old) (e ≡ refused old PendingFull) (λ few.
-    ReleasesSession old session s e))
-
--- the rules of create_bearer that look at the session
-abbrev pub begins_on : ℕ → List ℕ → Qos → Node → Effect → Session → Type 0
-begins_on session tft qos old e s =
-    Unless (s.state ≡ Active) (e ≡ refused old NotActive) (λ active.
-    Unless (HasDraws old 1) (e ≡ refused old TeidsUsed) (λ draws.
-    Unless (HasPendingRoom old) (e ≡ refused old PendingFull) (λ few.
-    BeginsBearer old session s tft qos e)))
 
 -- the rules of delete_bearer that look at the session and at the bearer
 abbrev pub ends_named : ℕ → ℕ → Node → Effect → Session → ℕ → Bearer → Type 0

@@ -1,3 +1,4 @@
+pub mod Stays
 pub mod Own
 pub mod TwoMessages
 pub mod BeforeSecond
@@ -9,6 +10,7 @@ pub mod SentBack
 pub mod Requests
 pub mod Refusals
 pub mod Columns
+pub mod ActiveSessions
 pub mod Rules
 pub mod Commands
 pub mod RequestsToSend

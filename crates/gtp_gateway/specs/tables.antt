@@ -3,4 +3,5 @@ pub mod Change
 pub mod Codes
 pub mod Opening
 pub mod Removal
+pub mod Stays
 pub mod Teids

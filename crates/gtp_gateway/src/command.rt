@@ -1,5 +1,6 @@
 //! Commands: one file a command, and how a request is sent and remembered.
 
+pub mod active_session;
 pub mod create_bearer;
 pub mod create_session;
 pub mod delete_bearer;

@@ -6,6 +6,7 @@ ghost use Rattle.gtp_reliable.specs.Due.{message_of};
 ghost use Rattle.gtp_gateway.specs.Parts.{node_of};
 ghost use Rattle.gtp_gateway.specs.messages.Sent.{datagram_by};
 ghost use Rattle.gtp_gateway.specs.GatewayState.{state_of, queues_of};
+ghost use Rattle.gtp_gateway.specs.tables.Stays.{OnlyTablesChange};
 ghost use Rattle.gtp_gateway.specs.Tick.{datagram_again, GivesUpOne, GivesUpEach};
 ghost use Rattle.gtp_gateway.specs.Tick.{IsIdle, IsTicked, QueuesAfterTick};
 ghost use Rattle.gtp_gateway.specs.user.Receive.{RequestsWaitOn};
@@ -62,7 +63,7 @@ impl Parts {
     fn give_up(&mut self, seq: Seq) -> bool
         ensures node { GivesUpOne (node_of self.old) seq result (node_of self.new) }
         ensures waits { RequestsWaitOn (state_of self.old) (state_of self.new) }
-        ensures role { self.new.role ≡ self.old.role }
+        ensures only { OnlyTablesChange self.old self.new }
     {
         let Some(purpose) = self.waiting(seq) else {
             return false;
@@ -79,7 +80,7 @@ impl Parts {
         ensures each { GivesUpEach (node_of self.old) (map (λ g. g.0) due.now)
             gave_up.new.items (node_of self.new) }
         ensures waits { RequestsWaitOn (state_of self.old) (state_of self.new) }
-        ensures role { self.new.role ≡ self.old.role }
+        ensures only { OnlyTablesChange self.old self.new }
     {
         for entry in due {
             let seq = entry.0;

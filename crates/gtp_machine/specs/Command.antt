@@ -192,57 +192,62 @@ abbrev pub MayGo : Role → Bearer → Type 0
 MayGo Serving b = Unit {0}
 MayGo Packet b = b.ended ≡ false
 
+-- a command for one of the gateways: the other one refuses it
+abbrev pub OnlyAt : Role → Role → Node → Effect → Type 0 → Type 0
+OnlyAt Serving Serving old e Rest = Rest
+OnlyAt Serving Packet old e Rest = e ≡ refused old WrongRole
+OnlyAt Packet Serving old e Rest = e ≡ refused old WrongRole
+OnlyAt Packet Packet old e Rest = Rest
+
+-- a command about an active session
+abbrev pub OfActiveSession : ℕ → Node → Effect → (Session → Type 0) → Type 0
+OfActiveSession session old e Rest =
+    Unless (HasSession old session) (e ≡ refused old NoSuchContext) (λ at.
+    Unless (at.session.state ≡ Active) (e ≡ refused old NotActive) (λ active.
+    Rest at.session))
+
+-- a command that sends a request: 256 may wait for their answers
+abbrev pub WhereRoom : Node → Effect → Type 0 → Type 0
+WhereRoom old e Rest = Unless (HasPendingRoom old) (e ≡ refused old PendingFull) (λ few. Rest)
+
 -- create_session: at the serving gateway
 abbrev pub SessionBegun : Role → Specification → Node → Effect → Type 0
-SessionBegun Packet spec old e = e ≡ refused old WrongRole
-SessionBegun Serving spec old e =
+SessionBegun role spec old e =
+    OnlyAt Serving role old e (
     Unless (HasSessionRoom old) (e ≡ refused old SessionsFull) (λ room.
     Unless (HasDraws old 2) (e ≡ refused old TeidsUsed) (λ draws.
-    Unless (HasPendingRoom old) (e ≡ refused old PendingFull) (λ few.
-    BeginsSession old spec e)))
+    WhereRoom old e (BeginsSession old spec e))))
 
 -- delete_session: at the serving gateway, of an active session
 abbrev pub SessionDeleted : Role → ℕ → Node → Effect → Type 0
-SessionDeleted Packet session old e = e ≡ refused old WrongRole
-SessionDeleted Serving session old e =
-    Unless (HasSession old session) (e ≡ refused old NoSuchContext) (λ at.
-    Unless (at.session.state ≡ Active) (e ≡ refused old NotActive) (λ active.
-    Unless (HasPendingRoom old) (e ≡ refused old PendingFull) (λ few.
-    ClosesSession old session at.session e)))
+SessionDeleted role session old e =
+    OnlyAt Serving role old e (OfActiveSession session old e (λ at. WhereRoom old e (ClosesSession old session at e)))
 
 -- create_bearer: at the packet gateway, for an active session
 abbrev pub BearerBegun : Role → ℕ → List ℕ → Qos → Node → Effect → Type 0
-BearerBegun Serving session tft qos old e = e ≡ refused old WrongRole
-BearerBegun Packet session tft qos old e =
-    Unless (HasSession old session) (e ≡ refused old NoSuchContext) (λ at.
-    Unless (at.session.state ≡ Active) (e ≡ refused old NotActive) (λ active.
+BearerBegun role session tft qos old e =
+    OnlyAt Packet role old e (OfActiveSession session old e (λ at.
     Unless (HasDraws old 1) (e ≡ refused old TeidsUsed) (λ draws.
-    Unless (HasPendingRoom old) (e ≡ refused old PendingFull) (λ few.
-    BeginsBearer old session at.session tft qos e))))
+    WhereRoom old e (BeginsBearer old session at tft qos e))))
 
 -- delete_bearer: at the packet gateway, of an active dedicated bearer in an active session
 abbrev pub BearerDeleted : Role → ℕ → ℕ → Node → Effect → Type 0
-BearerDeleted Serving session identity old e = e ≡ refused old WrongRole
-BearerDeleted Packet session identity old e =
+BearerDeleted role session identity old e =
+    OnlyAt Packet role old e (
     Unless (HasSession old session) (e ≡ refused old NoSuchContext) (λ at.
     Unless (NamesBearer old session identity) (e ≡ refused old NoSuchContext) (λ named.
     Unless ((at.session.state ≡ Active) × (named.at.bearer.state ≡ Active)) (e ≡ refused old NotActive) (λ active.
-    Unless (HasPendingRoom old) (e ≡ refused old PendingFull) (λ few.
-    ClosesBearer old session at.session identity named.key named.at.bearer e))))
+    WhereRoom old e (ClosesBearer old session at.session identity named.key named.at.bearer e)))))
 
 -- release_session: at the packet gateway, of an active session
 abbrev pub SessionReleased : Role → ℕ → Node → Effect → Type 0
-SessionReleased Serving session old e = e ≡ refused old WrongRole
-SessionReleased Packet session old e =
-    Unless (HasSession old session) (e ≡ refused old NoSuchContext) (λ at.
-    Unless (at.session.state ≡ Active) (e ≡ refused old NotActive) (λ active.
-    Unless (HasPendingRoom old) (e ≡ refused old PendingFull) (λ few.
-    ReleasesSession old session at.session e)))
+SessionReleased role session old e =
+    OnlyAt Packet role old e (OfActiveSession session old e (λ at. WhereRoom old e (ReleasesSession old session at e)))
 
 -- end_marker: at the packet gateway, once on an active bearer
 abbrev pub EndMarked : Role → ℕ → Node → Effect → Type 0
-EndMarked Serving bearer old e = e ≡ refused old WrongRole
-EndMarked Packet bearer old e =
+EndMarked role bearer old e =
+    OnlyAt Packet role old e (
     Unless (HasBearer old bearer) (e ≡ refused old NoSuchContext) (λ at.
     Unless (at.bearer.state ≡ Active) (e ≡ refused old NotActive) (λ active.
     Unless (at.bearer.ended ≡ false) (e ≡ refused old BearerEnded) (λ before.
@@ -250,13 +255,11 @@ EndMarked Packet bearer old e =
       out = says (user_end old.config.peer.user) (End_marker (written at.bearer.remote));
       outcome = Came_to GoneOut;
       node = record old { bearers = insert old.bearers bearer (ended_bearer at.bearer) };
-    })))
+    }))))
 
 -- echo: at both
 abbrev pub EchoBegun : Node → Effect → Type 0
-EchoBegun old e =
-    Unless (HasPendingRoom old) (e ≡ refused old PendingFull) (λ few.
-    SendsEcho old e)
+EchoBegun old e = WhereRoom old e (SendsEcho old e)
 
 -- send_user: at both, on an active bearer, at most 65,000 octets
 abbrev pub PacketSent : Role → ℕ → List ℕ → Node → Effect → Type 0

@@ -1,6 +1,10 @@
 -- Commands that were carried out, and commands that were refused.
 use Rattle.std.specs.Prelude.{◌≡◌, ◌↔◌, ℕ, [], ◌∷◌, Option, Some, None, option_map, Result, Err}
+use Rattle.std.specs.FinMap.{get}
 use Rattle.gtp_reliable.specs.Pending.{IsNextFree}
+use Rattle.gtp_machine.specs.declared.role.Role.{Role}
+use Rattle.gtp_machine.specs.Command.{OnlyAt, OfActiveSession}
+use Rattle.gtp_machine.specs.Node.{Active, Session}
 use Rattle.gtp_machine.specs.Choice.{HasPendingRoom}
 use Rattle.gtp_machine.specs.declared.outcome.Refusal.TheVariants.{PendingFull}
 use Rattle.gtp_machine.specs.Input.{Came_to, Command, Mark_end, Send_user, Commanded, Effect, refused}
@@ -52,6 +56,18 @@ pub record SendsRequestNext (old : GatewayState) (begun : Begun) (new : GatewayS
   pub purpose : Purpose
   pub queues : new.queues ≡ after_begun number purpose begun.out.to begun.out.octets.items old.queues
   pub tied : NodeMatchesQueues new
+
+-- an active session of the gateway that a command is for
+pub record IsActiveSession (only : Role) (s : GatewayState) (session : ℕ) (at : Session) : Type 0 where
+  pub role : s.role ≡ only
+  pub stands : get s.node.sessions session ≡ Some at
+  pub active : at.state ≡ Active
+
+-- a command about an active session is refused so before any other rule is looked at
+pub record IsRefusedFirst (only : Role) (s : GatewayState) (session : ℕ) (fault : CommandFault) : Type 0 where
+  pub why : Refusal
+  pub is : fault ≡ Refused why
+  pub first : OnlyAt only s.role s.node (refused s.node why) (OfActiveSession session s.node (refused s.node why) (λ at. ⊥))
 
 -- a command is refused so exactly where the machine refuses it so
 abbrev pub IsRefusedWhere : Command → GatewayState → Result Begun CommandFault → Type 0

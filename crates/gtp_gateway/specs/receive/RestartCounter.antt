@@ -1,5 +1,5 @@
 -- What a gateway does with the peer's restart counter.
-use Rattle.std.specs.Prelude.{ℕ, ◌||◌, Bool, false, Option, Some, None}
+use Rattle.std.specs.Prelude.{◌≡◌, ℕ, ◌||◌, Bool, false, Option, Some, None}
 use Rattle.std.specs.FinMap.{get}
 use Rattle.gtp_values.specs.FiniteMap.{FiniteMap}
 use Rattle.gtp_values.specs.Counter.{age_of}
@@ -36,6 +36,10 @@ weighed (Some known) counter = aged (age_of known counter.0) counter
 abbrev pub weighed_by : Option Counter → Option ℕ → Heard
 weighed_by None known = Nothing
 weighed_by (Some counter) known = weighed known counter
+
+-- this is what a counter, or none, says by the one that is known
+abbrev pub IsHeard : Heard → Option ℕ → Type 0
+IsHeard heard known = (told : Option Counter) × (heard ≡ weighed_by told known)
 
 -- the node by which the message is judged
 abbrev pub node_heard : Heard → Node → Node

@@ -16,7 +16,7 @@ use crate::messages::elements::{is_there, own_end, written_teid};
 use crate::parts::Parts;
 use crate::sent::Begun;
 use crate::tables::change::Change;
-use crate::tables::contexts::{is_session_active, pending_dedicated};
+use crate::tables::contexts::pending_dedicated;
 use crate::tables::teids::OneDrawn;
 use gtp_machine::interface_types::S5S8_PGW_GTP_U;
 use gtp_machine::{Refusal, Role};
@@ -79,16 +79,7 @@ impl Parts {
             (state_of self.old) result }
         ensures err { OnErr result (state_of self.new ≡ state_of self.old) }
     {
-        match self.role {
-            Role::Serving => return Err(CommandFault::Refused(Refusal::WrongRole)),
-            Role::Packet => {}
-        }
-        let Some(at) = self.sessions.get(session) else {
-            return Err(CommandFault::Refused(Refusal::NoSuchContext));
-        };
-        if !is_session_active(&at) {
-            return Err(CommandFault::Refused(Refusal::NotActive));
-        }
+        let at = self.active_session(Role::Packet, session)?;
         let Some(drawn) = self.draw_one() else {
             return Err(CommandFault::Refused(Refusal::TeidsUsed));
         };

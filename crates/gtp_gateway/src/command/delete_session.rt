@@ -15,8 +15,7 @@ use crate::messages::elements::{is_there, written_teid};
 use crate::parts::Parts;
 use crate::sent::Begun;
 use crate::tables::change::Change;
-use crate::tables::contexts::is_session_active;
-use gtp_machine::{Refusal, Role};
+use gtp_machine::Role;
 use gtp_tables::Session;
 use gtp_values::{Seq, Teid};
 use std::alloc::Global;
@@ -53,16 +52,7 @@ impl Parts {
         ensures refused { IsRefusedWhere (Delete_session session.0) (state_of self.old) result }
         ensures err { OnErr result (state_of self.new ≡ state_of self.old) }
     {
-        match self.role {
-            Role::Packet => return Err(CommandFault::Refused(Refusal::WrongRole)),
-            Role::Serving => {}
-        }
-        let Some(at) = self.sessions.get(session) else {
-            return Err(CommandFault::Refused(Refusal::NoSuchContext));
-        };
-        if !is_session_active(&at) {
-            return Err(CommandFault::Refused(Refusal::NotActive));
-        }
+        let at = self.active_session(Role::Serving, session)?;
         let seq = self.next_number()?;
         self.send_request(alloc, seq, &request_to_delete_session(session, &at, seq))
     }

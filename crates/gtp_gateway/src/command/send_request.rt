@@ -10,6 +10,7 @@ ghost use Rattle.gtp_gateway.specs.tables.Change.{keeps_requests, CanChange};
 ghost use Rattle.gtp_gateway.specs.messages.Own.{IsOwn};
 ghost use Rattle.gtp_gateway.specs.Parts.{node_of};
 ghost use Rattle.gtp_gateway.specs.GatewayState.{state_of, queues_of};
+ghost use Rattle.gtp_gateway.specs.tables.Stays.{OnlyTablesChange};
 ghost use Rattle.std.specs.FinMap as map;
 ghost use Rattle.gtp_gateway.specs.command.SendRequest.{about, asking, after_begun};
 ghost use Rattle.gtp_gateway.specs.messages.Sent.{datagram_by, ReadsBack};
@@ -84,9 +85,7 @@ impl Parts {
         } }
         ensures queues { queues_of self.new ≡ after_begun seq purpose
             (control_end self.old.config.config.peer.control) octets.items (queues_of self.old) }
-        ensures held { self.new.held ≡ self.old.held }
-        ensures config { self.new.config ≡ self.old.config }
-        ensures role { self.new.role ≡ self.old.role }
+        ensures only { OnlyTablesChange self.old self.new }
     {
         let to = control_end_of(self.config.peer().control);
         self.pending.begin(seq, to, octets, purpose);

@@ -3,13 +3,12 @@
 ghost use Rattle.gtp_gateway.specs.user.Receive.{RequestsWaitOn};
 ghost use Rattle.std.specs.Prelude.{◌≡◌, ◌↔◌, false, ℕ, List, Option, Some, IsTrue, IfSome, IfNone, IfOk, OnOk, OnErr};
 ghost use Rattle.gtp_v2.specs.Datagram.{IsMessage};
-ghost use Rattle.gtp_values.specs.declared.counter.Counter.{Counter as AnyCounter};
 ghost use Rattle.gtp_machine.specs.Message as messages;
 ghost use Rattle.gtp_machine.specs.Node.{Active};
 ghost use Rattle.gtp_machine.specs.Packet.{CreateBearerAnswered};
 ghost use Rattle.gtp_machine.specs.declared.message_type.MessageType.TheVariants as types;
 ghost use Rattle.gtp_gateway.specs.receive.CreateBearerResponse.{ReadsCreateBearerResponse, FitsCreateBearerOf, IsAskedBearer, CanOpenIn, SaysCreateBearerResponse, JudgesCreateBearerResponse, TakesCreateBearerResponse};
-ghost use Rattle.gtp_gateway.specs.receive.RestartCounter.{weighed_by, node_heard};
+ghost use Rattle.gtp_gateway.specs.receive.RestartCounter.{IsHeard, node_heard};
 ghost use Rattle.gtp_gateway.specs.receive.Allocations.{AlwaysSendsOrOpens};
 ghost use Rattle.gtp_gateway.specs.Parts.{node_of};
 ghost use Rattle.gtp_machine.specs.MessageType.{type_at};
@@ -166,7 +165,7 @@ impl Parts {
         heard: Heard,
     ) -> Result<ControlStep, Memory>
         requires whole { IsSoundState (state_of self.old) }
-        requires weighed { (told : Option AnyCounter) × (heard ≡ weighed_by told self.old.peer) }
+        requires weighed { IsHeard heard self.old.peer }
         ensures taken { IfOk result (λ step. TakesCreateBearerResponse answer.now heard
             (state_of self.old) step (state_of self.new)) }
         ensures waits { OnOk result (RequestsWaitOn (state_of self.old) (state_of self.new)) }

@@ -5,8 +5,7 @@ pub mod read;
 pub mod template;
 
 ghost use Rattle.gtp_gateway.specs.receive.Queues.{QueuesAfterMessage};
-ghost use Rattle.std.specs.Prelude.{◌≡◌, IfOk, OnOk, OnErr, Option, false, true, length, ◌<◌};
-ghost use Rattle.gtp_values.specs.declared.counter.Counter.{Counter as AnyCounter};
+ghost use Rattle.std.specs.Prelude.{◌≡◌, IfOk, OnOk, OnErr, false, true, length, ◌<◌};
 ghost use Rattle.gtp_gateway.specs.tables.Change.{changed_by};
 ghost use Rattle.gtp_gateway.specs.receive.Choosing.{MakesLowestSession};
 ghost use Rattle.gtp_gateway.specs.receive.CreateSessionRequest.{session_granted, bearer_granted, change_of, grants, CanGrant, IsRefusedSession, IsGrantedSession, TakesCreateSessionRequest};
@@ -15,10 +14,11 @@ ghost use Rattle.gtp_machine.specs.Node.{Arrival};
 ghost use Rattle.gtp_machine.specs.Packet.{CreateSessionAsked};
 ghost use Rattle.gtp_machine.specs.Reading.{control_message};
 ghost use Rattle.gtp_gateway.specs.messages.Own.{IsOwn};
-ghost use Rattle.gtp_gateway.specs.receive.RestartCounter.{weighed_by, node_heard};
+ghost use Rattle.gtp_gateway.specs.receive.RestartCounter.{IsHeard, node_heard};
 ghost use Rattle.gtp_gateway.specs.receive.Allocations.{AlwaysSendsOrOpens};
 ghost use Rattle.gtp_gateway.specs.Parts.{node_of};
 ghost use Rattle.gtp_gateway.specs.GatewayState.{IsSoundState, state_of};
+ghost use Rattle.gtp_gateway.specs.tables.Stays.{OnlyTablesChange};
 ghost use Rattle.gtp_gateway.specs.user.Receive.{RequestsWaitOn};
 ghost use Rattle.gtp_gateway.specs.receive.Taken.{IsFresh};
 ghost use Rattle.gtp_values.specs.Cause.{is_accepting_value};
@@ -78,14 +78,12 @@ impl Parts {
         grant: &SessionGrant,
         heard: Heard,
     ) -> Result<(), Memory>
-        requires weighed { (told : Option AnyCounter) × (heard ≡ weighed_by told self.old.peer) }
+        requires weighed { IsHeard heard self.old.peer }
         requires can { CanGrant grant.now (node_of self.old) }
         ensures node { OnOk result (node_of self.new
             ≡ changed_by (change_of request.now grant.now) (node_heard heard (node_of self.old))) }
         ensures waits { RequestsWaitOn (state_of self.old) (state_of self.new) }
-        ensures held { self.new.held ≡ self.old.held }
-        ensures config { self.new.config ≡ self.old.config }
-        ensures role { self.new.role ≡ self.old.role }
+        ensures only { OnlyTablesChange self.old self.new }
         ensures err { OnErr result (state_of self.new ≡ state_of self.old) }
     {
         self.sessions.reserve_one().map_err(|_| Memory)?;
@@ -134,7 +132,7 @@ impl Parts {
         cause: Cause,
         heard: Heard,
     ) -> Result<ControlStep, Memory>
-        requires weighed { (told : Option AnyCounter) × (heard ≡ weighed_by told self.old.peer) }
+        requires weighed { IsHeard heard self.old.peer }
         requires refuses { is_accepting_value cause.value ≡ false }
         requires few { length self.old.held.pairs < 4096 }
         requires fresh { IsFresh source octets.now (state_of self.old) self.old.held.pairs }
@@ -172,7 +170,7 @@ impl Parts {
         grant: &SessionGrant,
         heard: Heard,
     ) -> Result<ControlStep, Memory>
-        requires weighed { (told : Option AnyCounter) × (heard ≡ weighed_by told self.old.peer) }
+        requires weighed { IsHeard heard self.old.peer }
         requires can { CanGrant grant.now (node_of self.old) }
         requires few { length self.old.held.pairs < 4096 }
         requires fresh { IsFresh source octets.now (state_of self.old) self.old.held.pairs }
@@ -201,7 +199,7 @@ impl Parts {
         heard: Heard,
     ) -> Result<ControlStep, Memory>
         requires whole { IsSoundState (state_of self.old) }
-        requires weighed { (told : Option AnyCounter) × (heard ≡ weighed_by told self.old.peer) }
+        requires weighed { IsHeard heard self.old.peer }
         requires fresh { IsFresh source octets.now (state_of self.old) self.old.held.pairs }
         ensures taken { IfOk result (λ step. TakesCreateSessionRequest source octets.now request.now
             heard (state_of self.old) step (state_of self.new)) }

@@ -1,10 +1,9 @@
 //! Echo Request and Echo Response (TS 29.274 7.1.1, 7.1.2).
 
 ghost use Rattle.gtp_gateway.specs.user.Receive.{RequestsWaitOn};
-ghost use Rattle.std.specs.Prelude.{◌≡◌, false, Option, IfOk, OnOk, OnErr, ◌↔◌, IsTrue};
+ghost use Rattle.std.specs.Prelude.{◌≡◌, false, IfOk, OnOk, OnErr, ◌↔◌, IsTrue};
 ghost use Rattle.gtp_gateway.specs.GatewayState.{state_of};
-ghost use Rattle.gtp_values.specs.declared.counter.Counter.{Counter as AnyCounter};
-ghost use Rattle.gtp_gateway.specs.receive.RestartCounter.{weighed_by};
+ghost use Rattle.gtp_gateway.specs.receive.RestartCounter.{IsHeard};
 ghost use Rattle.gtp_gateway.specs.receive.Echo.{AnswersEcho, FitsEcho, TakesEchoResponse};
 
 use crate::command::purpose::{Asked, Purpose};
@@ -33,7 +32,7 @@ impl Parts {
         seq: Seq,
         heard: Heard,
     ) -> Result<ControlStep, Memory>
-        requires weighed { (told : Option AnyCounter) × (heard ≡ weighed_by told self.old.peer) }
+        requires weighed { IsHeard heard self.old.peer }
         ensures taken { IfOk result (λ step. AnswersEcho source seq heard
             (state_of self.old) step (state_of self.new)) }
         ensures waits { OnOk result (RequestsWaitOn (state_of self.old) (state_of self.new)) }

@@ -4,16 +4,15 @@
 
 pub mod second;
 
-ghost use Rattle.std.specs.Prelude.{◌≡◌, ◌↔◌, ℕ, List, Option, Some, None, true, false, IsTrue, IfOk, OnOk, OnErr};
+ghost use Rattle.std.specs.Prelude.{◌≡◌, ◌↔◌, ℕ, List, Some, None, true, false, IsTrue, IfOk, OnOk, OnErr};
 ghost use Rattle.gtp_v2.specs.Pair.{LieIn};
-ghost use Rattle.gtp_values.specs.declared.counter.Counter.{Counter as AnyCounter};
 ghost use Rattle.gtp_machine.specs.Message as messages;
 ghost use Rattle.gtp_machine.specs.Reading.{announces};
 ghost use Rattle.gtp_machine.specs.declared.role.Role.TheVariants.{Serving};
 ghost use Rattle.gtp_machine.specs.declared.message_type.MessageType.TheVariants as types;
 ghost use Rattle.gtp_gateway.specs.receive.Choosing.{MakesLowestBearer};
 ghost use Rattle.gtp_gateway.specs.receive.Queues.{QueuesAfterMessage};
-ghost use Rattle.gtp_gateway.specs.receive.RestartCounter.{weighed_by, node_heard};
+ghost use Rattle.gtp_gateway.specs.receive.RestartCounter.{IsHeard, node_heard};
 ghost use Rattle.gtp_gateway.specs.receive.Piggybacked.{state_after_first, IsSecondTaken, EitherMayRunOut, ArePair};
 ghost use Rattle.gtp_gateway.specs.Parts.{node_of};
 ghost use Rattle.gtp_machine.specs.MessageType.{type_at};
@@ -62,7 +61,7 @@ impl Parts {
     ) -> Result<ControlStep, Memory>
         requires whole { IsSoundState (state_of self.old) }
         requires serving { self.old.role ≡ Serving }
-        requires weighed { (told : Option AnyCounter) × (heard ≡ weighed_by told self.old.peer) }
+        requires weighed { IsHeard heard self.old.peer }
         requires can { CanApply verdict (node_heard heard (node_of self.old)) }
         requires of { IsOfSession verdict (node_heard heard (node_of self.old)) }
         requires peer { source.ip ≡ self.old.config.config.peer.control }

@@ -11,6 +11,7 @@ ghost use Rattle.gtp_machine.specs.Removal.{finished_about};
 ghost use Rattle.gtp_gateway.specs.Parts.{node_of};
 ghost use Rattle.gtp_gateway.specs.command.Purpose.{session_of, bearer_of};
 ghost use Rattle.gtp_gateway.specs.GatewayState.{state_of};
+ghost use Rattle.gtp_gateway.specs.tables.Stays.{OnlyRemoves};
 ghost use Rattle.gtp_gateway.specs.user.Receive.{RequestsWaitOn};
 
 use crate::command::purpose::Purpose;
@@ -68,13 +69,7 @@ impl Parts {
     pub fn finish(&mut self, seq: Seq, purpose: &Purpose)
         ensures node { node_of self.new ≡ finished_about (node_of self.old) seq
             (session_of purpose.now) (bearer_of purpose.now) }
-        ensures waits { RequestsWaitOn (state_of self.old) (state_of self.new) }
-        ensures next { self.new.pending.next ≡ self.old.pending.next }
-        ensures times { SameTimes self.old.pending self.new.pending }
-        ensures held { self.new.held ≡ self.old.held }
-        ensures config { self.new.config ≡ self.old.config }
-        ensures draws { self.new.draws ≡ self.old.draws }
-        ensures role { self.new.role ≡ self.old.role }
+        ensures removes { OnlyRemoves self.old self.new }
     {
         match purpose.bearer {
             Some(bearer) => self.remove_bearer(bearer),

@@ -6,11 +6,11 @@ ghost use Rattle.std.specs.FinMap as map;
 ghost use Rattle.gtp_machine.specs.Removal.{without};
 ghost use Rattle.gtp_reliable.specs.Pending.{others};
 ghost use Rattle.gtp_tables.specs.Contexts.{is_opened};
-ghost use Rattle.gtp_values.specs.declared.counter.Counter.{Counter as AnyCounter};
-ghost use Rattle.gtp_gateway.specs.receive.RestartCounter.{goes_with, weighed_by, node_heard};
+ghost use Rattle.gtp_gateway.specs.receive.RestartCounter.{IsHeard, goes_with, weighed_by, node_heard};
 ghost use Rattle.gtp_gateway.specs.tables.Opening.{waiting_heard};
 ghost use Rattle.gtp_gateway.specs.Parts.{node_of};
 ghost use Rattle.gtp_gateway.specs.GatewayState.{state_of};
+ghost use Rattle.gtp_gateway.specs.tables.Stays.{OnlyTablesChange};
 ghost use Rattle.gtp_gateway.specs.user.Receive.{RequestsWaitOn};
 
 use crate::command::purpose::Purpose;
@@ -109,10 +109,8 @@ impl Parts {
         ensures next { self.new.pending.next ≡ self.old.pending.next }
         ensures ready { self.old.pending.has_room ≡ true → self.new.pending.has_room ≡ true }
         ensures room { self.new.sessions.has_room ≡ self.old.sessions.has_room }
-        ensures held { self.new.held ≡ self.old.held }
-        ensures config { self.new.config ≡ self.old.config }
+        ensures only { OnlyTablesChange self.old self.new }
         ensures draws { self.new.draws ≡ self.old.draws }
-        ensures role { self.new.role ≡ self.old.role }
     {
         let sessions = &self.sessions;
         self.pending.finish_where(
@@ -127,7 +125,7 @@ impl Parts {
     /// memory.
     #[tactic(auto, using(crate::proofs::UserRows::all_wait, crate::proofs::UserRows::all_stay))]
     pub fn hear(&mut self, heard: Heard)
-        requires { (told : Option AnyCounter) × (heard ≡ weighed_by told self.old.peer) }
+        requires { IsHeard heard self.old.peer }
         ensures node { node_of self.new ≡ node_heard heard (node_of self.old) }
         ensures waits { RequestsWaitOn (state_of self.old) (state_of self.new) }
         ensures waiting { self.new.pending.waiting
@@ -135,10 +133,8 @@ impl Parts {
         ensures next { self.new.pending.next ≡ self.old.pending.next }
         ensures ready { self.old.pending.has_room ≡ true → self.new.pending.has_room ≡ true }
         ensures room { self.new.sessions.has_room ≡ self.old.sessions.has_room }
-        ensures held { self.new.held ≡ self.old.held }
-        ensures config { self.new.config ≡ self.old.config }
+        ensures only { OnlyTablesChange self.old self.new }
         ensures draws { self.new.draws ≡ self.old.draws }
-        ensures role { self.new.role ≡ self.old.role }
     {
         match heard {
             Heard::Nothing | Heard::Same(_) | Heard::Earlier(_) => {}

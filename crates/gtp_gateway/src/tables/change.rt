@@ -6,6 +6,7 @@ ghost use Rattle.std.specs.FinMap as map;
 ghost use Rattle.gtp_gateway.specs.declared.tables.change.Change.TheVariants as changes;
 ghost use Rattle.gtp_gateway.specs.Parts.{node_of};
 ghost use Rattle.gtp_gateway.specs.GatewayState.{state_of};
+ghost use Rattle.gtp_gateway.specs.tables.Stays.{OnlyTablesChange};
 ghost use Rattle.gtp_gateway.specs.user.Receive.{RequestsWaitOn};
 
 use crate::parts::Parts;
@@ -53,9 +54,7 @@ impl Parts {
             ≡ changed_by (changes.MakesBearer draws teid bearer) (node_of self.old)) }
         ensures pending { self.new.pending ≡ self.old.pending }
         ensures waits { RequestsWaitOn (state_of self.old) (state_of self.new) }
-        ensures held { self.new.held ≡ self.old.held }
-        ensures config { self.new.config ≡ self.old.config }
-        ensures role { self.new.role ≡ self.old.role }
+        ensures only { OnlyTablesChange self.old self.new }
         ensures err { OnErr result (state_of self.new ≡ state_of self.old) }
     {
         self.bearers.add(teid, bearer).map_err(|_| Memory)?;
@@ -70,11 +69,9 @@ impl Parts {
             (self.new.sessions ≡ record self.old.sessions { has_room = true }) }
         ensures same { state_of self.new ≡ state_of self.old }
         ensures pending { self.new.pending ≡ self.old.pending }
-        ensures held { self.new.held ≡ self.old.held }
+        ensures only { OnlyTablesChange self.old self.new }
         ensures bearers { self.new.bearers ≡ self.old.bearers }
         ensures draws { self.new.draws ≡ self.old.draws }
-        ensures config { self.new.config ≡ self.old.config }
-        ensures role { self.new.role ≡ self.old.role }
     {
         match self.sessions.prepare() {
             Ok(()) => Ok(()),
@@ -101,9 +98,7 @@ impl Parts {
             (node_of self.old)) }
         ensures pending { self.new.pending ≡ self.old.pending }
         ensures waits { RequestsWaitOn (state_of self.old) (state_of self.new) }
-        ensures held { self.new.held ≡ self.old.held }
-        ensures config { self.new.config ≡ self.old.config }
-        ensures role { self.new.role ≡ self.old.role }
+        ensures only { OnlyTablesChange self.old self.new }
         ensures err { OnErr result (state_of self.new ≡ state_of self.old) }
     {
         self.prepare_session()?;
@@ -123,9 +118,7 @@ impl Parts {
             → self.new.pending ≡ self.old.pending) }
         ensures next { self.new.pending.next ≡ self.old.pending.next }
         ensures waits { RequestsWaitOn (state_of self.old) (state_of self.new) }
-        ensures held { self.new.held ≡ self.old.held }
-        ensures config { self.new.config ≡ self.old.config }
-        ensures role { self.new.role ≡ self.old.role }
+        ensures only { OnlyTablesChange self.old self.new }
         ensures err { OnErr result (state_of self.new ≡ state_of self.old) }
     {
         match change {

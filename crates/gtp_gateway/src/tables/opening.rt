@@ -5,11 +5,11 @@ ghost use Rattle.std.specs.Prelude.{◌≡◌, ◌<◌, ◌≤◌, Option, None,
 ghost use Rattle.gtp_reliable.specs.Pending.{AreDistinct, IsNextFree};
 ghost use Rattle.gtp_machine.specs.Choice.{HasPending};
 ghost use Rattle.gtp_machine.specs.declared.outcome.Outcome.TheVariants.{Opened};
-ghost use Rattle.gtp_values.specs.declared.counter.Counter.{Counter as AnyCounter};
-ghost use Rattle.gtp_gateway.specs.receive.RestartCounter.{weighed_by, node_heard};
+ghost use Rattle.gtp_gateway.specs.receive.RestartCounter.{IsHeard, node_heard};
 ghost use Rattle.gtp_gateway.specs.Parts.{node_of};
 ghost use Rattle.gtp_gateway.specs.tables.Opening.{goes_after, waiting_heard, IsWaiting, outcome_by, node_by, with_bearer, IsOpenedAt, CanApply};
 ghost use Rattle.gtp_gateway.specs.GatewayState.{state_of};
+ghost use Rattle.gtp_gateway.specs.tables.Stays.{OnlyTablesChange};
 ghost use Rattle.gtp_gateway.specs.user.Receive.{RequestsWaitOn};
 ghost use Rattle.gtp_gateway.specs.receive.Taken.{plain_report};
 
@@ -137,14 +137,13 @@ impl Parts {
     /// refused, and then nothing has changed.
     #[tactic(auto, using(crate::proofs::UserRows::all_wait, crate::proofs::GivenUp::wait_on))]
     fn open_bearer(&mut self, heard: Heard, teid: Teid, bearer: Bearer) -> Result<(), Memory>
-        requires weighed { (told : Option AnyCounter) × (heard ≡ weighed_by told self.old.peer) }
+        requires weighed { IsHeard heard self.old.peer }
         requires can { IsOpenedAt (node_heard heard (node_of self.old)).bearers teid.0 bearer }
         ensures node { OnOk result (node_of self.new
             ≡ with_bearer teid bearer (node_heard heard (node_of self.old))) }
         ensures waits { RequestsWaitOn (state_of self.old) (state_of self.new) }
-        ensures held { self.new.held ≡ self.old.held }
+        ensures only { OnlyTablesChange self.old self.new }
         ensures draws { self.new.draws ≡ self.old.draws }
-        ensures role { self.new.role ≡ self.old.role }
         ensures err { OnErr result (state_of self.new ≡ state_of self.old) }
     {
         self.bearers.open(teid, bearer).map_err(|_| Memory)?;
@@ -161,7 +160,7 @@ impl Parts {
         heard: Heard,
         verdict: ResponseVerdict,
     ) -> Result<ControlStep, Memory>
-        requires weighed { (told : Option AnyCounter) × (heard ≡ weighed_by told self.old.peer) }
+        requires weighed { IsHeard heard self.old.peer }
         requires can { CanApply verdict (node_heard heard (node_of self.old)) }
         ensures step { IfOk result (λ step.
             step ≡ record { out = None; report = plain_report (outcome_by verdict) }) }
@@ -170,9 +169,8 @@ impl Parts {
         // An allocation is for what is opened.
         ensures memory { OnErr result (outcome_by verdict ≡ Opened) }
         ensures waits { RequestsWaitOn (state_of self.old) (state_of self.new) }
-        ensures held { self.new.held ≡ self.old.held }
+        ensures only { OnlyTablesChange self.old self.new }
         ensures draws { self.new.draws ≡ self.old.draws }
-        ensures role { self.new.role ≡ self.old.role }
         ensures err { OnErr result (state_of self.new ≡ state_of self.old) }
     {
         let outcome = verdict.outcome();

@@ -3,10 +3,10 @@
 ghost use Rattle.std.specs.Prelude.{◌≡◌, ◌==◌, not, filter, IsSome};
 ghost use Rattle.std.specs.FinMap as map;
 ghost use Rattle.gtp_machine.specs.Removal.{without_session, without_bearer, session_closing};
-ghost use Rattle.gtp_reliable.specs.Pending.{SameTimes};
 ghost use Rattle.gtp_tables.specs.Index.{IsAt};
 ghost use Rattle.gtp_gateway.specs.Parts.{node_of};
 ghost use Rattle.gtp_gateway.specs.GatewayState.{state_of, queues_of};
+ghost use Rattle.gtp_gateway.specs.tables.Stays.{OnlyTablesChange, OnlyRemoves};
 ghost use Rattle.gtp_gateway.specs.user.Receive.{RequestsWaitOn};
 ghost use Rattle.gtp_gateway.specs.tables.Removal.{goes_with_session, goes_with_bearer};
 
@@ -19,15 +19,9 @@ impl Parts {
     /// A session goes, with its bearers and the requests about it. Allocates nothing.
     pub fn remove_session(&mut self, session: Teid)
         ensures node { node_of self.new ≡ without_session (node_of self.old) session.0 }
-        ensures next { self.new.pending.next ≡ self.old.pending.next }
         ensures waiting { self.new.pending.waiting
             ≡ filter (λ w. not (goes_with_session session.0 w.purpose)) self.old.pending.waiting }
-        ensures times { SameTimes self.old.pending self.new.pending }
-        ensures waits { RequestsWaitOn (state_of self.old) (state_of self.new) }
-        ensures held { self.new.held ≡ self.old.held }
-        ensures config { self.new.config ≡ self.old.config }
-        ensures draws { self.new.draws ≡ self.old.draws }
-        ensures role { self.new.role ≡ self.old.role }
+        ensures removes { OnlyRemoves self.old self.new }
     {
         self.pending.finish_where(
             |purpose: &Purpose| -> bool
@@ -45,15 +39,9 @@ impl Parts {
     /// A bearer goes, with the requests about it. Allocates nothing.
     pub fn remove_bearer(&mut self, bearer: Teid)
         ensures node { node_of self.new ≡ without_bearer (node_of self.old) bearer.0 }
-        ensures next { self.new.pending.next ≡ self.old.pending.next }
         ensures waiting { self.new.pending.waiting
             ≡ filter (λ w. not (goes_with_bearer bearer.0 w.purpose)) self.old.pending.waiting }
-        ensures times { SameTimes self.old.pending self.new.pending }
-        ensures waits { RequestsWaitOn (state_of self.old) (state_of self.new) }
-        ensures held { self.new.held ≡ self.old.held }
-        ensures config { self.new.config ≡ self.old.config }
-        ensures draws { self.new.draws ≡ self.old.draws }
-        ensures role { self.new.role ≡ self.old.role }
+        ensures removes { OnlyRemoves self.old self.new }
     {
         self.pending.finish_where(
             |purpose: &Purpose| -> bool
@@ -73,10 +61,8 @@ impl Parts {
         ensures queues { queues_of self.new ≡ queues_of self.old }
         ensures pending { self.new.pending ≡ self.old.pending }
         ensures waits { RequestsWaitOn (state_of self.old) (state_of self.new) }
-        ensures held { self.new.held ≡ self.old.held }
-        ensures config { self.new.config ≡ self.old.config }
+        ensures only { OnlyTablesChange self.old self.new }
         ensures draws { self.new.draws ≡ self.old.draws }
-        ensures role { self.new.role ≡ self.old.role }
     {
         self.bearers.replace(teid, bearer);
     }
@@ -88,10 +74,8 @@ impl Parts {
         ensures node { node_of self.new ≡ session_closing (node_of self.old) teid.0 session }
         ensures pending { self.new.pending ≡ self.old.pending }
         ensures waits { RequestsWaitOn (state_of self.old) (state_of self.new) }
-        ensures held { self.new.held ≡ self.old.held }
-        ensures config { self.new.config ≡ self.old.config }
+        ensures only { OnlyTablesChange self.old self.new }
         ensures draws { self.new.draws ≡ self.old.draws }
-        ensures role { self.new.role ≡ self.old.role }
     {
         let closing = Session {
             state: State::Closing,
@@ -106,15 +90,9 @@ impl Parts {
         ensures node { node_of self.new ≡ record (node_of self.old) {
           pending = map.remove (node_of self.old).pending seq;
         } }
-        ensures next { self.new.pending.next ≡ self.old.pending.next }
         ensures waiting { self.new.pending.waiting
             ≡ filter (λ w. not (w.seq == seq)) self.old.pending.waiting }
-        ensures times { SameTimes self.old.pending self.new.pending }
-        ensures waits { RequestsWaitOn (state_of self.old) (state_of self.new) }
-        ensures held { self.new.held ≡ self.old.held }
-        ensures config { self.new.config ≡ self.old.config }
-        ensures draws { self.new.draws ≡ self.old.draws }
-        ensures role { self.new.role ≡ self.old.role }
+        ensures removes { OnlyRemoves self.old self.new }
     {
         self.pending.finish(seq);
     }

@@ -1,8 +1,7 @@
 //! A session that is granted with the bearer of its access point's template.
 
 ghost use Rattle.gtp_gateway.specs.receive.Queues.{QueuesAfterMessage};
-ghost use Rattle.std.specs.Prelude.{◌≡◌, IfOk, OnOk, OnErr, Option, true, length, ◌<◌};
-ghost use Rattle.gtp_values.specs.declared.counter.Counter.{Counter as AnyCounter};
+ghost use Rattle.std.specs.Prelude.{◌≡◌, IfOk, OnOk, OnErr, true, length, ◌<◌};
 ghost use Rattle.gtp_gateway.specs.receive.CreateSessionRequest.{session_granted, CanGrant, CanAdd, asked_with, grants_with, made_with, IsGrantedWith};
 ghost use Rattle.gtp_machine.specs.Reading.{control_message};
 ghost use Rattle.gtp_gateway.specs.messages.Own.{IsOwn};
@@ -12,9 +11,10 @@ ghost use Rattle.gtp_gateway.specs.messages.Spelled.{message_in, messages_in, Ar
 ghost use Rattle.gtp_machine.specs.Spelling.{spelled_all};
 ghost use Rattle.gtp_gateway.specs.tables.Opening.{waiting_heard};
 ghost use Rattle.gtp_machine.specs.Message.{Create_bearer_request};
-ghost use Rattle.gtp_gateway.specs.receive.RestartCounter.{weighed_by, node_heard};
+ghost use Rattle.gtp_gateway.specs.receive.RestartCounter.{IsHeard, node_heard};
 ghost use Rattle.gtp_gateway.specs.Parts.{node_of};
 ghost use Rattle.gtp_gateway.specs.GatewayState.{IsSoundState, state_of};
+ghost use Rattle.gtp_gateway.specs.tables.Stays.{OnlyTablesChange};
 ghost use Rattle.gtp_gateway.specs.user.Receive.{RequestsWaitOn};
 ghost use Rattle.gtp_gateway.specs.receive.Taken.{IsFresh};
 
@@ -99,7 +99,7 @@ impl Parts {
         added: &AddedBearer,
         heard: Heard,
     ) -> Result<(), Memory>
-        requires weighed { (told : Option AnyCounter) × (heard ≡ weighed_by told self.old.peer) }
+        requires weighed { IsHeard heard self.old.peer }
         requires can { CanGrant grant.now (node_of self.old) }
         requires third { IsThirdDrawn grant.now.drawn added.now.drawn (node_of self.old) }
         ensures node { OnOk result (node_of self.new
@@ -109,9 +109,7 @@ impl Parts {
             ≡ waiting_heard heard self.old.sessions.table self.old.pending.waiting) }
         ensures next { self.new.pending.next ≡ self.old.pending.next }
         ensures ready { self.old.pending.has_room ≡ true → self.new.pending.has_room ≡ true }
-        ensures held { self.new.held ≡ self.old.held }
-        ensures config { self.new.config ≡ self.old.config }
-        ensures role { self.new.role ≡ self.old.role }
+        ensures only { OnlyTablesChange self.old self.new }
         ensures err { OnErr result (state_of self.new ≡ state_of self.old) }
     {
         let control = grant.drawn.control;
@@ -144,7 +142,7 @@ impl Parts {
         heard: Heard,
     ) -> Result<ControlStep, Memory>
         requires whole { IsSoundState (state_of self.old) }
-        requires weighed { (told : Option AnyCounter) × (heard ≡ weighed_by told self.old.peer) }
+        requires weighed { IsHeard heard self.old.peer }
         requires can { CanGrant grant.now (node_of self.old) }
         requires add { CanAdd grant.now.drawn added.now heard (state_of self.old) }
         requires few { length self.old.held.pairs < 4096 }

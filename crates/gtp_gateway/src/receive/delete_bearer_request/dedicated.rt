@@ -12,6 +12,7 @@ ghost use Rattle.gtp_gateway.specs.receive.DeleteBearerRequest.{NamesOne, NamesE
 ghost use Rattle.gtp_gateway.specs.messages.Own.{IsOwn};
 ghost use Rattle.gtp_gateway.specs.Parts.{node_of};
 ghost use Rattle.gtp_gateway.specs.GatewayState.{IsSoundState, state_of};
+ghost use Rattle.gtp_gateway.specs.tables.Stays.{OnlyTablesChange};
 ghost use Rattle.gtp_gateway.specs.receive.Taken.{IsFresh};
 
 use crate::messages::delete_bearer::delete_bearer_response;
@@ -76,9 +77,7 @@ impl Parts {
     fn end_each(&mut self, named: &[NamedBearer])
         ensures node { node_of self.new ≡ without_each named.now (node_of self.old) }
         ensures waits { RequestsWaitOn (state_of self.old) (state_of self.new) }
-        ensures held { self.new.held ≡ self.old.held }
-        ensures config { self.new.config ≡ self.old.config }
-        ensures role { self.new.role ≡ self.old.role }
+        ensures only { OnlyTablesChange self.old self.new }
     {
         for n in named {
             if let Some(teid) = n.teid {

@@ -2,19 +2,19 @@
 
 ghost use Rattle.std.specs.Prelude.{◌≡◌, ℕ, Option, Some, None, true, ◌<◌, length, IfOk, IfSome, OnOk, OnErr};
 ghost use Rattle.std.specs.FinMap as map;
-ghost use Rattle.gtp_values.specs.declared.counter.Counter.{Counter as AnyCounter};
 ghost use Rattle.gtp_machine.specs.declared.role.Role.TheVariants.{Serving};
 ghost use Rattle.gtp_gateway.specs.declared.tables.change.Change.TheVariants as changes;
 ghost use Rattle.gtp_gateway.specs.tables.Change.{changed_by, CanChange};
 ghost use Rattle.gtp_gateway.specs.receive.Choosing.{MakesLowestBearer};
 ghost use Rattle.gtp_gateway.specs.receive.Queues.{QueuesAfterMessage};
 ghost use Rattle.gtp_gateway.specs.receive.CreateBearerRequest.{JudgesCreateBearer, CanGive, HasFitCause, change_for};
-ghost use Rattle.gtp_gateway.specs.receive.RestartCounter.{weighed_by, node_heard};
+ghost use Rattle.gtp_gateway.specs.receive.RestartCounter.{IsHeard, node_heard};
 ghost use Rattle.gtp_gateway.specs.receive.Piggybacked.{session_left, node_after_first, state_after_first, MayStand, IsSecondTaken};
 ghost use Rattle.gtp_gateway.specs.Parts.{node_of};
 ghost use Rattle.gtp_gateway.specs.receive.CreateSessionResponse.{IsOfSession};
 ghost use Rattle.gtp_gateway.specs.tables.Opening.{CanApply};
 ghost use Rattle.gtp_gateway.specs.GatewayState.{IsSoundState, state_of};
+ghost use Rattle.gtp_gateway.specs.tables.Stays.{OnlyTablesChange};
 ghost use Rattle.gtp_gateway.specs.receive.Taken.{IsFresh};
 ghost use Rattle.gtp_gateway.specs.user.Receive.{RequestsWaitOn};
 
@@ -109,7 +109,7 @@ impl Parts {
         teid: Teid,
         bearer: Bearer,
     ) -> Result<(), Memory>
-        requires weighed { (told : Option AnyCounter) × (heard ≡ weighed_by told self.old.peer) }
+        requires weighed { IsHeard heard self.old.peer }
         requires can { CanApply verdict (node_heard heard (node_of self.old)) }
         requires drawn { CanChange (changes.MakesBearer draws teid bearer) (node_of self.old) }
         requires stands { MayStand heard verdict teid.0 bearer (node_of self.old) }
@@ -117,8 +117,7 @@ impl Parts {
             ≡ changed_by (changes.MakesBearer draws teid bearer)
             (node_after_first heard verdict seq (node_of self.old))) }
         ensures waits { RequestsWaitOn (state_of self.old) (state_of self.new) }
-        ensures held { self.new.held ≡ self.old.held }
-        ensures role { self.new.role ≡ self.old.role }
+        ensures only { OnlyTablesChange self.old self.new }
         ensures err { OnErr result (state_of self.new ≡ state_of self.old) }
     {
         self.bearers.add(teid, bearer).map_err(|_| Memory)?;
@@ -141,7 +140,7 @@ impl Parts {
         request: &BearerRequest,
         answer: &CreateBearerAnswer,
     ) -> Result<(), Memory>
-        requires weighed { (told : Option AnyCounter) × (heard ≡ weighed_by told self.old.peer) }
+        requires weighed { IsHeard heard self.old.peer }
         requires can { CanApply verdict (node_heard heard (node_of self.old)) }
         requires of { IsOfSession verdict (node_heard heard (node_of self.old)) }
         requires given { CanGive (map.get
@@ -151,8 +150,7 @@ impl Parts {
             ≡ changed_by (change_for request.now answer.now)
             (node_after_first heard verdict seq (node_of self.old))) }
         ensures waits { RequestsWaitOn (state_of self.old) (state_of self.new) }
-        ensures held { self.new.held ≡ self.old.held }
-        ensures role { self.new.role ≡ self.old.role }
+        ensures only { OnlyTablesChange self.old self.new }
         ensures err { OnErr result (state_of self.new ≡ state_of self.old) }
     {
         match *answer {
@@ -187,7 +185,7 @@ impl Parts {
         heard: Heard,
         verdict: ResponseVerdict,
     ) -> Result<ControlStep, Memory>
-        requires weighed { (told : Option AnyCounter) × (heard ≡ weighed_by told self.old.peer) }
+        requires weighed { IsHeard heard self.old.peer }
         requires can { CanApply verdict (node_heard heard (node_of self.old)) }
         requires of { IsOfSession verdict (node_heard heard (node_of self.old)) }
         requires serving { self.old.role ≡ Serving }

@@ -54,7 +54,7 @@ returns-clause-taken c = λ q says.
     let judged = c.requires.judged.judged request q says in
     let peer = ap (λ x. x) c.requires.fresh.peer ∙ (λ i. (sym (settled_config heard v c.args.seq old.node) i).peer.control) in
     row_is_taken c.args.source c.args.octets.now q settled c.requires.serving peer (λ h among. c.requires.fresh.new h (subst (Among h) held among)) c.answered.result (state_of c.send_answer-out.new.self)
-    (answers_made (CreateBearerAsked request q) request settled (state_of c.send_answer-out.new.self) c.answered.result c.send_answer-out.result (m ∷ []) c.cause.result c.is_granted.result (changed_by change node) c.answered.ensures sent c.in_ok-ready.ensures.back (left c) (c.send_answer-out.ensures.role ∙ c.apply_both.ensures.role ∙ ap (λ (s : GatewayState). s.role) same)
+    (answers_made (CreateBearerAsked request q) request settled (state_of c.send_answer-out.new.self) c.answered.result c.send_answer-out.result (m ∷ []) c.cause.result c.is_granted.result (changed_by change node) c.answered.ensures sent c.in_ok-ready.ensures.back (left c) (c.send_answer-out.ensures.role ∙ c.apply_both.ensures.only.role ∙ ap (λ (s : GatewayState). s.role) same)
     (inr (
       record { few = room },
       subst (λ e. BearerJudged request q node e) (λ i. answering (sym c.is_granted.ensures i) request (sym said i ∷ []) (sym c.cause.ensures i) (changed_by change node)) judged,

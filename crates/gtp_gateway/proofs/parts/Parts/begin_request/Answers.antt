@@ -41,7 +41,7 @@ invariant_of-self-clause-asked c =
     let w : Waiting Purpose = just_sent c.args.seq c.control_end_of-to.result c.in_ok-kept.kept.items c.args.purpose in
     let asked : IsAsked peer w =
     record {
-      to = c.control_end_of-to.ensures ∙ ap control_end (c.peer.ensures.control ∙ ap (λ (s : Settings). s.config.peer.control) (sym c.apply.ensures.config));
+      to = c.control_end_of-to.ensures ∙ ap control_end (c.peer.ensures.control ∙ ap (λ (s : Settings). s.config.peer.control) (sym c.apply.ensures.only.config));
       octets = subst AreSpelled (sym same) c.in_ok-octets.ensures.kept;
       purpose = (λ i. is_for c.args.purpose ((ap message_in same ∙ c.in_ok-octets.ensures.read) i)) ∙ c.requires.meant;
     } in

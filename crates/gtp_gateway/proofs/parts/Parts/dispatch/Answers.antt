@@ -43,7 +43,7 @@ returns-in-EchoResponse-clause-taken c =
     let request = arrival_of c.args.source c.args.octets.now in
     let says = echo_response_is c.args.octets.now m c.requires.spelled (c.requires.of ∙ ap (λ (p : MessageType). Some p) c.in-EchoResponse.is) in
     let heard = state_of c.hear.new.self in
-    row_by (EchoAnswered says.echo) request c.args.message_type types.EchoResponse (message_of m) (Echo_response says.echo) old.role heard.role (node_heard c.args.heard old.node) heard.node _ (state_of c.take_echo_response.new.self) c.requires.has c.in-EchoResponse.is says.is c.hear.ensures.role c.hear.ensures.node (λ n e row. (row, row))
+    row_by (EchoAnswered says.echo) request c.args.message_type types.EchoResponse (message_of m) (Echo_response says.echo) old.role heard.role (node_heard c.args.heard old.node) heard.node _ (state_of c.take_echo_response.new.self) c.requires.has c.in-EchoResponse.is says.is c.hear.ensures.only.role c.hear.ensures.node (λ n e row. (row, row))
     (c.take_echo_response.ensures.taken request says.echo (says.number ∙ sym c.seq-in-EchoResponse.ensures))
 
 pub take_echo_request-requires : goal.take_echo_request-requires
@@ -70,7 +70,7 @@ returns-in-DeleteSessionResponse-clause-taken c =
     let r = c.response_in-response in
     let says = deletion_response_is c.args.octets.now m r.result.cause c.requires.spelled (c.requires.of ∙ ap (λ (p : MessageType). Some p) c.in-DeleteSessionResponse.is) r.ensures.cause in
     let heard = state_of c.hear-in-DeleteSessionResponse.new.self in
-    row_by (DeleteSessionAnswered says.response) request c.args.message_type types.DeleteSessionResponse (message_of m) (Delete_session_response says.response) old.role heard.role (node_heard c.args.heard old.node) heard.node _ (state_of c.take_delete_session_response.new.self) c.requires.has c.in-DeleteSessionResponse.is says.is c.hear-in-DeleteSessionResponse.ensures.role c.hear-in-DeleteSessionResponse.ensures.node (λ n e row. row)
+    row_by (DeleteSessionAnswered says.response) request c.args.message_type types.DeleteSessionResponse (message_of m) (Delete_session_response says.response) old.role heard.role (node_heard c.args.heard old.node) heard.node _ (state_of c.take_delete_session_response.new.self) c.requires.has c.in-DeleteSessionResponse.is says.is c.hear-in-DeleteSessionResponse.ensures.only.role c.hear-in-DeleteSessionResponse.ensures.node (λ n e row. row)
     (c.take_delete_session_response.ensures.taken request says.response (says.header ∙ sym r.ensures.header) (says.number ∙ sym r.ensures.seq) says.cause)
 
 pub returns-in-DeleteBearerResponse-clause-taken : goal.returns-in-DeleteBearerResponse-clause-taken
@@ -81,7 +81,7 @@ returns-in-DeleteBearerResponse-clause-taken c =
     let r = c.response_in-response-in-DeleteBearerResponse in
     let says = removal_response_is c.args.octets.now m r.result.cause c.requires.spelled (c.requires.of ∙ ap (λ (p : MessageType). Some p) c.in-DeleteBearerResponse.is) r.ensures.cause in
     let heard = state_of c.hear-in-DeleteBearerResponse.new.self in
-    row_by (DeleteBearerAnswered says.response) request c.args.message_type types.DeleteBearerResponse (message_of m) (Delete_bearer_response says.response) old.role heard.role (node_heard c.args.heard old.node) heard.node _ (state_of c.take_delete_bearer_response.new.self) c.requires.has c.in-DeleteBearerResponse.is says.is c.hear-in-DeleteBearerResponse.ensures.role c.hear-in-DeleteBearerResponse.ensures.node (λ n e row. row)
+    row_by (DeleteBearerAnswered says.response) request c.args.message_type types.DeleteBearerResponse (message_of m) (Delete_bearer_response says.response) old.role heard.role (node_heard c.args.heard old.node) heard.node _ (state_of c.take_delete_bearer_response.new.self) c.requires.has c.in-DeleteBearerResponse.is says.is c.hear-in-DeleteBearerResponse.ensures.only.role c.hear-in-DeleteBearerResponse.ensures.node (λ n e row. row)
     (c.take_delete_bearer_response.ensures.taken request says.response (says.header ∙ sym r.ensures.header) (says.number ∙ sym r.ensures.seq) says.cause)
 
 pub create_session_request_in-request-requires-clause-of : goal.create_session_request_in-request-requires-clause-of

@@ -5,9 +5,11 @@ use Rattle.gtp_gateway.specs.declared.receive.delete_bearer_request.identities.N
 use Rattle.gtp_gateway.specs.declared.parts.Parts.{Parts}
 use Rattle.gtp_gateway.specs.receive.DeleteBearerRequest.{without_named, without_each}
 use Rattle.gtp_gateway.specs.Parts.{node_of}
+use Rattle.gtp_gateway.specs.tables.Stays.{OnlyTablesChange}
 use Rattle.gtp_gateway.specs.GatewayState.{state_of}
 use Rattle.gtp_gateway.specs.user.Receive.{RequestsWaitOn}
 use Rattle.gtp_gateway.proofs.GivenUp.{wait_on}
+use Rattle.gtp_gateway.proofs.Stays.{only_tables_twice}
 use Rattle.gtp_gateway.proofs.parts.Parts.end_each.Goals.{in-Some, in_default}
 use Rattle.gtp_gateway.proofs.parts.Parts.end_each.Goals as goal
 
@@ -27,10 +29,11 @@ loop-n-preserved c =
     record {
       node = ap (without_each rest) (sym one) ∙ (ap (λ (ns : List NamedBearer). without_each ns before) (sym first) ∙ at.node);
       waits = elim c.match-n.branch [
-        | in-Some w ↦ subst (λ (g : Parts). RequestsWaitOn old (state_of g)) (sym w.self-is) (wait_on old (state_of c.loop-n.self) _ at.waits w.remove_bearer.ensures.waits)
+        | in-Some w ↦ subst (λ (g : Parts). RequestsWaitOn old (state_of g)) (sym w.self-is) (wait_on old (state_of c.loop-n.self) _ at.waits w.remove_bearer.ensures.removes.waits)
         | in_default w ↦ subst (λ (g : Parts). RequestsWaitOn old (state_of g)) (sym w.self-is) at.waits
       ];
-      held = elim c.match-n.branch [ in-Some w ↦ ap (λ (g : Parts). g.held) w.self-is ∙ w.remove_bearer.ensures.held ∙ at.held | in_default w ↦ ap (λ (g : Parts). g.held) w.self-is ∙ at.held ];
-      config = elim c.match-n.branch [ in-Some w ↦ ap (λ (g : Parts). g.config) w.self-is ∙ w.remove_bearer.ensures.config ∙ at.config | in_default w ↦ ap (λ (g : Parts). g.config) w.self-is ∙ at.config ];
-      role = elim c.match-n.branch [ in-Some w ↦ ap (λ (g : Parts). g.role) w.self-is ∙ w.remove_bearer.ensures.role ∙ at.role | in_default w ↦ ap (λ (g : Parts). g.role) w.self-is ∙ at.role ];
+      only = elim c.match-n.branch [
+        | in-Some w ↦ subst (λ (g : Parts). OnlyTablesChange c.args.self.now g) (sym w.self-is) (only_tables_twice c.args.self.now c.loop-n.self w.remove_bearer.new.self at.only w.remove_bearer.ensures.removes.only)
+        | in_default w ↦ subst (λ (g : Parts). OnlyTablesChange c.args.self.now g) (sym w.self-is) at.only
+      ];
     }

@@ -51,5 +51,5 @@ returns-clause-done c =
           (subst (λ (t : ℕ). ReadsBack (End_marker t ∷ [])) c.written_teid-teid.ensures c.in_ok-out.ensures.back);
       outcome = refl;
       becomes = c.replace_bearer.ensures.node;
-      role = c.replace_bearer.ensures.role;
+      role = c.replace_bearer.ensures.only.role;
     }

@@ -33,13 +33,13 @@ returns-clause-taken c =
     let m : Message = Delete_bearer_response (record { header = header; number = r.seq; cause = cause_of (removal_cause (map removed_by ns)); linked = None; contexts = map removed_by ns; recovery = Some old.node.counter }) in
     let said : control_message c.in_ok-message.message ≡ m = c.in_ok-message.ensures.says in
     let ready = c.in_ok-ready.ensures in
-    let config = ap (λ s. s.config) c.end_each.ensures.config ∙ ap (λ (s : GatewayState). s.node.config) c.ready_answer.ensures.same in
+    let config = ap (λ s. s.config) c.end_each.ensures.only.config ∙ ap (λ (s : GatewayState). s.node.config) c.ready_answer.ensures.same in
     let left = c.end_each.ensures.node ∙ ap (λ (s : GatewayState). without_each ns s.node) c.ready_answer.ensures.same in
     answers (DeleteBearerJudged request (delete_bearer_by r (map number_in ids))) request old (state_of c.send_answer.new.self) c.sent.result c.send_answer.result m c.cause_of_all.result (without_each ns old.node) c.sent.ensures
     (c.send_answer.ensures.sent ∙ (λ i. record { plane = Control; from = control_end (config i).own.control; to = c.args.source; octets = (ready.octets ∙ ap spelled said) i }))
     (subst (λ m. ReadsBack (m ∷ [])) said ready.back)
     (c.send_answer.ensures.node ∙ (λ i. holding (arrival_of c.args.source (ready.request i)) ((ready.read ∙ ap (λ m. m ∷ []) said) i) (left i)))
-    (c.send_answer.ensures.role ∙ (c.end_each.ensures.role ∙ ap (λ (s : GatewayState). s.role) c.ready_answer.ensures.same))
+    (c.send_answer.ensures.role ∙ (c.end_each.ensures.only.role ∙ ap (λ (s : GatewayState). s.role) c.ready_answer.ensures.same))
     (subst (λ (cause : ℕ). DeleteBearerJudged request (delete_bearer_by r (map number_in ids)) old.node (answered request m cause (without_each ns old.node))) (sym c.cause_of_all.ensures)
     (ends_judged request r old.node header ids ns c.requires.asked c.requires.short same names))
 

@@ -5,6 +5,7 @@ use Rattle.gtp_gateway.specs.Parts.{node_of}
 use Rattle.gtp_gateway.specs.GatewayState.{state_of}
 use Rattle.gtp_gateway.specs.Tick.{GivesUpEach}
 use Rattle.gtp_gateway.proofs.GivenUp.{ends, goes_on, wait_on}
+use Rattle.gtp_gateway.proofs.Stays.{only_tables, only_tables_twice}
 use Rattle.gtp_gateway.proofs.UserRows.{all_wait}
 use Rattle.gtp_gateway.proofs.parts.Parts.give_up_each.Goals as goal
 use Rattle.gtp_gateway.proofs.parts.Parts.give_up_each.Goals.{else-give_up-via-then-give_up+else-is_err, else-give_up-via-else-give_up}
@@ -28,7 +29,7 @@ loop-entry-init c =
       each = λ others new given. subst (λ (items : List ℕ). GivesUpEach (node_of c.args.self.now) (map number c.args.due.now) (items ++ others) new) (sym c.requires.empty) given;
       waits = all_wait (state_of c.args.self.now) (state_of c.args.self.now) refl refl;
       room = c.requires.room;
-      role = refl;
+      only = only_tables c.args.self.now c.args.self.now refl refl refl;
     }
 
 pub loop-entry-preserved : goal.loop-entry-preserved
@@ -56,7 +57,7 @@ loop-entry-preserved c =
         | else-give_up-via-then-give_up+else-is_err w ↦ rw w.gave_up-is (let more = one_more (is_ok w.push.result) (vec_len at.gave_up) (vec_len w.push.new.self) w.push.ensures.len in omega (arith, more, before, after, at.invariant.room, w.push.ensures.capacity, c.loop-entry-test.true))
         | else-give_up-via-else-give_up w ↦ rw w.gave_up-is (omega (arith, before, after, at.invariant.room))
       ];
-      role = c.give_up.ensures.role ∙ at.invariant.role;
+      only = only_tables_twice c.args.self.now at.self c.give_up.new.self at.invariant.only c.give_up.ensures.only;
     }
 
 pub returns : goal.returns
@@ -67,5 +68,5 @@ returns c =
       each = subst (λ (l : List ℕ). GivesUpEach (node_of c.args.self.now) (map number c.args.due.now) l (node_of at.self)) (append-nil at.gave_up.items)
           (at.invariant.each [] (node_of at.self) (subst (λ (l : List ℕ). GivesUpEach (node_of at.self) l [] (node_of at.self)) (sym none) (ends (node_of at.self))));
       waits = at.invariant.waits;
-      role = at.invariant.role;
+      only = at.invariant.only;
     }

@@ -25,7 +25,7 @@ returns-clause-granted c =
     let change = change_of c.args.request.now c.args.grant.now in
     let said : control_message c.in_ok-message.message ≡ grants c.args.request.now c.args.grant.now old.node = c.in_ok-message.ensures.says in
     let same : state_of c.ready_answer.new.self ≡ old = c.ready_answer.ensures.same in
-    let config : c.make_granted.new.self.config.config ≡ old.node.config = ap (λ (s : Settings). s.config) c.make_granted.ensures.config ∙ ap (λ (s : GatewayState). s.node.config) same in
+    let config : c.make_granted.new.self.config.config ≡ old.node.config = ap (λ (s : Settings). s.config) c.make_granted.ensures.only.config ∙ ap (λ (s : GatewayState). s.node.config) same in
     record {
       sent = c.send_answer-out.result;
       is = c.answered.ensures ∙ (λ i. record { out = Some c.send_answer-out.result; report = record (plain_report (Answered (c.session_cause.ensures i))) { made = true } });
@@ -33,7 +33,7 @@ returns-clause-granted c =
       read = subst (λ m. ReadsBack (m ∷ [])) said ready.back;
       becomes = c.send_answer-out.ensures.node
           ∙ (λ i. holding (arrival_of c.args.source (ready.request i)) ((ready.read ∙ ap (λ m. m ∷ []) said) i) ((c.in_ok-make_granted.ensures.node ∙ ap (λ (s : GatewayState). changed_by change (node_heard c.args.heard s.node)) same) i));
-      role = c.send_answer-out.ensures.role ∙ c.make_granted.ensures.role ∙ ap (λ (s : GatewayState). s.role) same;
+      role = c.send_answer-out.ensures.role ∙ c.make_granted.ensures.only.role ∙ ap (λ (s : GatewayState). s.role) same;
     }
 
 pub returns-clause-goes : goal.returns-clause-goes

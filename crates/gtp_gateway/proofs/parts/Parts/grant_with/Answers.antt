@@ -60,7 +60,7 @@ returns-clause-granted c =
       node = record (node_of readied) { pending = pending_in (more i).waiting };
       queues = record (queues_of readied) { timers = record (queues_of readied).timers { t3 = (more i).t3; n3 = (more i).n3 }; next = (more i).next; waiting = (more i).waiting };
     }) ∙ c.ready_octets.ensures.same in
-    let config : c.begin_kept.new.self.config.config ≡ old.node.config = ap (λ (s : Settings). s.config) (c.begin_kept.ensures.config ∙ c.make_granted_with.ensures.config) ∙ ap (λ (s : GatewayState). s.node.config) same in
+    let config : c.begin_kept.new.self.config.config ≡ old.node.config = ap (λ (s : Settings). s.config) (c.begin_kept.ensures.only.config ∙ c.make_granted_with.ensures.only.config) ∙ ap (λ (s : GatewayState). s.node.config) same in
     let makes : node_of c.make_granted_with.new.self ≡ made_with r g a (node_heard c.args.heard old.node) = made.node ∙ ap (λ (s : GatewayState). made_with r g a (node_heard c.args.heard s.node)) same in
     let left = c.begin_kept.ensures.node ∙ (λ i. record (makes i) { pending = insert (makes i).pending a.seq (about (record { asked = CreateBearer; session = Some g.drawn.control; bearer = Some a.drawn.teid; is_named = c.is_there.result }) (encoded.alone i)) }) in
     record {
@@ -69,7 +69,7 @@ returns-clause-granted c =
       goes = c.send_answer-out.ensures.sent ∙ (λ i. record { plane = Control; from = control_end (config i).own.control; to = c.args.source; octets = (ready.octets ∙ encoded.spelled) i });
       read = encoded.back;
       becomes = c.send_answer-out.ensures.node ∙ (λ i. holding (arrival_of c.args.source (ready.request i)) ((ap messages_in ready.answer ∙ encoded.read) i) (left i));
-      role = c.send_answer-out.ensures.role ∙ c.begin_kept.ensures.role ∙ c.make_granted_with.ensures.role ∙ ap (λ (s : GatewayState). s.role) same;
+      role = c.send_answer-out.ensures.role ∙ c.begin_kept.ensures.only.role ∙ c.make_granted_with.ensures.only.role ∙ ap (λ (s : GatewayState). s.role) same;
     }
 
 pub returns-clause-goes : goal.returns-clause-goes
@@ -90,7 +90,7 @@ returns-clause-goes c =
     let next = c.make_granted_with.ensures.next ∙ ap (λ (s : GatewayState). s.queues.next) same in
     let waiting = made.waiting ∙ ap (λ (s : GatewayState). waiting_heard c.args.heard s.node.sessions s.queues.waiting) same in
     let free = subst (λ (n : ℕ). IsNextFree n granted.queues.waiting a.seq) (sym next) (subst (λ (ws : List (Waiting Purpose)). IsNextFree old.queues.next ws a.seq) (sym waiting) c.requires.add.number) in
-    let config : c.make_granted_with.new.self.config.config ≡ old.node.config = ap (λ (s : Settings). s.config) c.make_granted_with.ensures.config ∙ ap (λ (s : GatewayState). s.node.config) same in
+    let config : c.make_granted_with.new.self.config.config ≡ old.node.config = ap (λ (s : Settings). s.config) c.make_granted_with.ensures.only.config ∙ ap (λ (s : GatewayState). s.node.config) same in
     let encoded = c.in_ok-encoded.ensures in
     let g = c.args.grant.now in
     let begun_new : IsNewFor (record { number = a.seq; purpose = record { asked = CreateBearer; session = Some g.drawn.control; bearer = Some a.drawn.teid; is_named = c.is_there.result }; to = control_end c.make_granted_with.new.self.config.config.peer.control; octets = c.in_ok-encoded.encoded.second.items }) old = record {

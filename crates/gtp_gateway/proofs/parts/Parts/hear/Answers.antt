@@ -9,6 +9,7 @@ use Rattle.gtp_gateway.specs.declared.command.purpose.Purpose.{Purpose}
 use Rattle.gtp_gateway.specs.receive.RestartCounter.{node_heard}
 use Rattle.gtp_gateway.specs.tables.Opening.{waiting_heard}
 use Rattle.gtp_gateway.specs.GatewayState.{state_of}
+use Rattle.gtp_gateway.proofs.Stays.{only_tables}
 use Rattle.gtp_gateway.proofs.UserRows.{all_stay, all_wait}
 use Rattle.gtp_gateway.proofs.parts.Parts.hear.Goals as goal
 
@@ -29,10 +30,8 @@ returns-in-Nothing c =
       next = refl;
       ready = λ has. has;
       room = refl;
-      held = refl;
-      config = refl;
+      only = only_tables old old refl refl refl;
       draws = refl;
-      role = refl;
     }
 
 pub returns-in-First-clause-waiting : goal.returns-in-First-clause-waiting

@@ -23,7 +23,7 @@ returns-clause-refused c =
     let m : Message = refusing types.CreateSessionRequest c.args.request.now.control.teid c.args.request.now.seq c.args.cause old.node.counter in
     let said : control_message c.in_ok-message.message ≡ m = c.in_ok-message.ensures.says ∙ (λ i. refusing types.CreateSessionRequest (c.teid-header.ensures i) c.args.request.now.seq c.args.cause (c.counter-counter.ensures i)) in
     let same : state_of c.ready_answer.new.self ≡ old = c.ready_answer.ensures.same in
-    let config : c.hear.new.self.config.config ≡ old.node.config = ap (λ (s : Settings). s.config) c.hear.ensures.config ∙ ap (λ (s : GatewayState). s.node.config) same in
+    let config : c.hear.new.self.config.config ≡ old.node.config = ap (λ (s : Settings). s.config) c.hear.ensures.only.config ∙ ap (λ (s : GatewayState). s.node.config) same in
     record {
       sent = c.send_answer-out.result;
       is = c.answered.ensures;
@@ -31,7 +31,7 @@ returns-clause-refused c =
       read = subst (λ m. ReadsBack (m ∷ [])) said ready.back;
       becomes = c.send_answer-out.ensures.node
           ∙ (λ i. holding (arrival_of c.args.source (ready.request i)) ((ready.read ∙ ap (λ m. m ∷ []) said) i) ((c.hear.ensures.node ∙ ap (λ (s : GatewayState). node_heard c.args.heard s.node) same) i));
-      role = c.send_answer-out.ensures.role ∙ c.hear.ensures.role ∙ ap (λ (s : GatewayState). s.role) same;
+      role = c.send_answer-out.ensures.role ∙ c.hear.ensures.only.role ∙ ap (λ (s : GatewayState). s.role) same;
     }
 
 pub returns-clause-goes : goal.returns-clause-goes

@@ -17,7 +17,7 @@ returns-clause-taken c =
     let r = c.args.answer.now in
     let v = c.judge_create_bearer_response-verdict.result in
     let n = node_heard c.args.heard old.node in
-    if_ok (λ step is becomes request x says. settled (CreateBearerAnswered x) request c.args.heard old new v r.response.seq step is becomes c.apply_verdict.ensures.role (subst (λ (i : ℕ). CreateBearerAnswered x n (effect_by v i n)) says.number (c.judge_create_bearer_response-verdict.ensures.judged x says))) c.apply_verdict.result c.apply_verdict.ensures.step c.apply_verdict.ensures.node
+    if_ok (λ step is becomes request x says. settled (CreateBearerAnswered x) request c.args.heard old new v r.response.seq step is becomes c.apply_verdict.ensures.only.role (subst (λ (i : ℕ). CreateBearerAnswered x n (effect_by v i n)) says.number (c.judge_create_bearer_response-verdict.ensures.judged x says))) c.apply_verdict.result c.apply_verdict.ensures.step c.apply_verdict.ensures.node
 
 pub returns-clause-memory : goal.returns-clause-memory
 returns-clause-memory c =

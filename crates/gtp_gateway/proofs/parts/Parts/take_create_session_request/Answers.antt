@@ -34,7 +34,7 @@ returns-then-is_full-clause-taken c = λ q says.
     let old = c.args.self.now in
     let left = node_heard c.args.heard (node_of old) in
     let request = arrival_of c.args.source c.args.octets.now in
-    ends (CreateSessionAsked request q) request (record (state_of old) { node = left }) (state_of c.hear.new.self) c.dropped.result (Dropped HeldFull) left c.dropped.ensures c.hear.ensures.node c.hear.ensures.role
+    ends (CreateSessionAsked request q) request (record (state_of old) { node = left }) (state_of c.hear.new.self) c.dropped.result (Dropped HeldFull) left c.dropped.ensures c.hear.ensures.node c.hear.ensures.only.role
     (inl (λ room. held_many old.held.pairs (yes c.is_full.ensures.full c.if-is_full.true) (subst (λ (held : List Held). length held < 4096) (held_stays c.args.heard (node_of old)) room.few), refl))
 
 pub returns-in-Refused-clause-taken : goal.returns-in-Refused-clause-taken

@@ -34,7 +34,7 @@ returns-clause-taken c = λ request d at number of.
     let purpose = c.in-Some.purpose in
     let w = waits old.config.config.peer.control old.pending.waiting c.args.response.now.seq purpose old.asked (sym c.waiting.ensures ∙ c.in-Some.is) in
     ends (DeleteSessionAnswered d) request (state_of old) (state_of c.finish.new.self) c.quiet.result Closed (finished_about (node_of old) d.number (session_of purpose) (bearer_of purpose)) c.quiet.ensures
-    (c.finish.ensures.node ∙ ap (λ n. finished_about (node_of old) n (session_of purpose) (bearer_of purpose)) (sym number)) c.finish.ensures.role
+    (c.finish.ensures.node ∙ ap (λ n. finished_about (node_of old) n (session_of purpose) (bearer_of purpose)) (sym number)) c.finish.ensures.removes.only.role
     (inr (
       record { pending = about purpose w.message; waits = waits_at old.pending.waiting c.args.response.now.seq d.number purpose w number },
       inr (delete_session_there purpose w.message c.args.response.now d w.meant at of (yes c.fits_delete_session.ensures c.if-not-fits_delete_session.false), refl),

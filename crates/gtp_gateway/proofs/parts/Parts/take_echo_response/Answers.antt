@@ -34,7 +34,7 @@ returns-clause-taken c = λ request d number.
     let purpose = c.in-Some.purpose in
     let w = waits old.config.config.peer.control old.pending.waiting c.args.seq purpose old.asked (sym c.waiting.ensures ∙ c.in-Some.is) in
     ends (EchoAnswered d) request (state_of old) (state_of c.finish.new.self) c.quiet.result Alive (finished_about (node_of old) d.number (session_of purpose) (bearer_of purpose)) c.quiet.ensures
-    (c.finish.ensures.node ∙ ap (λ n. finished_about (node_of old) n (session_of purpose) (bearer_of purpose)) (sym number)) c.finish.ensures.role
+    (c.finish.ensures.node ∙ ap (λ n. finished_about (node_of old) n (session_of purpose) (bearer_of purpose)) (sym number)) c.finish.ensures.removes.only.role
     (inr (
       record { pending = about purpose w.message; waits = waits_at old.pending.waiting c.args.seq d.number purpose w number },
       inr (echo_there purpose w.message w.meant (yes c.fits_echo.ensures c.if-not-fits_echo.false), refl),

@@ -54,7 +54,7 @@ returns-in-Some-clause-taken c = λ q says.
     let again = subst (λ (o : Option Sent). IfSome o (λ sent. IsSentAgain c.args.source c.args.octets.now n sent)) c.in-Some.is c.in_ok-out.ensures.some in
     repeated_taken (Control_message (Create_bearer_request q)) c.args.source c.args.octets.now s (state_of c.apply_verdict.new.self) c.in-Some.out c.sent.result (peer_there g c.args.source c.args.octets.now c.args.heard c.args.verdict c.args.seq c.requires.peer)
     (again_there c.args.source c.args.octets.now n s.node c.in-Some.out (settled_held c.args.heard c.args.verdict c.args.seq n) (settled_config c.args.heard c.args.verdict c.args.seq n) again)
-    c.sent.ensures c.in_ok-_settled.ensures.node c.apply_verdict.ensures.role
+    c.sent.ensures c.in_ok-_settled.ensures.node c.apply_verdict.ensures.only.role
 
 pub returns-then-is_full-clause-taken : goal.returns-then-is_full-clause-taken
 returns-then-is_full-clause-taken c = λ q says.
@@ -63,7 +63,7 @@ returns-then-is_full-clause-taken c = λ q says.
     let s = state_after_first c.args.heard c.args.verdict c.args.seq (state_of g) in
     let none = subst (λ (o : Option Sent). IfNone o (IsHeld c.args.source c.args.octets.now g.held.pairs → ⊥)) c.in_default.is c.in_ok-out.ensures.none in
     drop_is_taken c.args.source c.args.octets.now q s c.requires.serving (peer_there g c.args.source c.args.octets.now c.args.heard c.args.verdict c.args.seq c.requires.peer) (new_there g c.args.source c.args.octets.now c.args.heard c.args.verdict c.args.seq none)
-    c.dropped.result (state_of c.apply_verdict-then-is_full.new.self) (Dropped HeldFull) c.dropped.ensures c.in_ok-_settled-2.ensures.node c.apply_verdict-then-is_full.ensures.role
+    c.dropped.result (state_of c.apply_verdict-then-is_full.new.self) (Dropped HeldFull) c.dropped.ensures c.in_ok-_settled-2.ensures.node c.apply_verdict-then-is_full.ensures.only.role
     (inl (λ room. held_many g.held.pairs (yes c.is_full.ensures.full c.if-is_full.true) (subst (λ (h : List Held). length h < 4096) (settled_held c.args.heard c.args.verdict c.args.seq n) room.few), refl))
 
 pub returns-in_default-judge_second-clause-taken : goal.returns-in_default-judge_second-clause-taken
@@ -74,7 +74,7 @@ returns-in_default-judge_second-clause-taken c = λ q says.
     let none = subst (λ (o : Option Sent). IfNone o (IsHeld c.args.source c.args.octets.now g.held.pairs → ⊥)) c.in_default.is c.in_ok-out.ensures.none in
     let judged = subst (λ (o : Option CreateBearerVerdict). BearerJudged request q s.node (create_bearer_effect request c.args.request.now q o s.node)) c.in_default-judge_second.is ((c.judge_second.ensures.judged c.args.seq).judged request q says) in
     drop_is_taken c.args.source c.args.octets.now q s c.requires.serving (peer_there g c.args.source c.args.octets.now c.args.heard c.args.verdict c.args.seq c.requires.peer) (new_there g c.args.source c.args.octets.now c.args.heard c.args.verdict c.args.seq none)
-    c.dropped-in_default-judge_second.result (state_of c.apply_verdict-in_default-judge_second.new.self) (Dropped ContextNotActive) c.dropped-in_default-judge_second.ensures c.in_ok-_settled-3.ensures.node c.apply_verdict-in_default-judge_second.ensures.role
+    c.dropped-in_default-judge_second.result (state_of c.apply_verdict-in_default-judge_second.new.self) (Dropped ContextNotActive) c.dropped-in_default-judge_second.ensures c.in_ok-_settled-3.ensures.node c.apply_verdict-in_default-judge_second.ensures.only.role
     (inr (record { few = few_there g c.args.source c.args.octets.now c.args.heard c.args.verdict c.args.seq (held_few g.held.pairs (no c.is_full.ensures.full c.if-is_full.false)) }, judged))
 
 pub answer_second-requires-clause-fresh : goal.answer_second-requires-clause-fresh

@@ -35,7 +35,7 @@ returns-clause-ticked c =
         forgot = ap (map asked_by) c.in-Ok-due.ensures.list;
         all = refl;
       };
-      role = c.give_up_each.ensures.role;
+      role = c.give_up_each.ensures.only.role;
     }
 
 pub returns-clause-few : goal.returns-clause-few
