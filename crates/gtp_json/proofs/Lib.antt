@@ -4,3 +4,4 @@ pub mod Seen
 pub mod Shallow
 pub mod Reading
 pub mod OneLine
+pub mod OneReading

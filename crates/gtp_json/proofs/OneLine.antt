@@ -28,12 +28,12 @@ use Rattle.gtp_json.specs.Laws.{OneLine, OneFrameLine}
 
 -- ---- one outcome
 
-record One {X E : Type 0} (Is : X → Type 0) (Fails : E → Type 0) : Type 0 where
-  value : (x y : X) → Is x → Is y → x ≡ y
-  fault : (f g : E) → Fails f → Fails g → f ≡ g
-  either : (x : X) (f : E) → Is x → Fails f → ⊥
+pub record One {X E : Type 0} (Is : X → Type 0) (Fails : E → Type 0) : Type 0 where
+  pub value : (x y : X) → Is x → Is y → x ≡ y
+  pub fault : (f g : E) → Fails f → Fails g → f ≡ g
+  pub either : (x : X) (f : E) → Is x → Fails f → ⊥
 
-one_of : {X E : Type 0} (r : Result X E) (Is : X → Type 0) (Fails : E → Type 0) → Decides r Is Fails → One Is Fails
+pub one_of : {X E : Type 0} (r : Result X E) (Is : X → Type 0) (Fails : E → Type 0) → Decides r Is Fails → One Is Fails
 one_of {X} {E} r Is Fails d = record {
   value = λ x y a b. ok_same E x y (sym (d.is x a) ∙ d.is y b);
   fault = λ f g a b. err_same X f g (sym (d.fails f a) ∙ d.fails g b);
@@ -88,7 +88,7 @@ spelled_alone octets ms (m, spelled, rest) = (m, inl (m, spelled, refl))
 spelled_both : (octets : List ℕ) (ms : List (List ℕ × Json)) → PairMembers octets ms → (a : MessageValue) × (b : MessageValue) × IsDatagram octets (both a b)
 spelled_both octets ms (front, back, announces, (a, b, (m, sm, am), (n, sn, bn), is)) = (m, n, inr (front, back, announces, (m, sm, (n, sn, refl))))
 
-spelled : (octets : List ℕ) (ms : List (List ℕ × Json)) → ControlMembers octets ms false → (d : DatagramValue) × IsDatagram octets d
+pub spelled : (octets : List ℕ) (ms : List (List ℕ × Json)) → ControlMembers octets ms false → (d : DatagramValue) × IsDatagram octets d
 spelled octets ms (inl h) = let s = spelled_alone octets ms h in (alone s.0, s.1)
 spelled octets ms (inr h) = let s = spelled_both octets ms h in (both s.0 s.1, s.2)
 
