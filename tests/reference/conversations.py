@@ -41,7 +41,9 @@ class Conversation:
         self.gateway = station(self.head)
         self.requests, self.answers = [], []
         self.sent = []  # what came from the peer
-        self.counter, self.number = self.rng.choice([1, 127, 255]), self.rng.randrange(1 << 24)
+        self.counter = self.rng.choice([1, 127, 255])
+        # In half of them the peer's sequence numbers pass 2^24 - 1.
+        self.number = self.rng.choice([(1 << 24) - 5, self.rng.randrange(1 << 24)])
 
     @property
     def role(self):

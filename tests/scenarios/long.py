@@ -1,4 +1,5 @@
-"""Scenarios that are too long to be kept. Each says of its events what they have to come to."""
+"""Scenarios that are not kept, since they are long or only other scenarios with a bearer at once. Each says of its events
+what they have to come to."""
 
 from dataclasses import dataclass
 
@@ -147,6 +148,44 @@ def most_pending_with_template():
     )
 
 
+FIRST6 = "20010db8000000000000000000000001"
+LAST6 = "ffffffffffffffffffffffffffffffff"
+CARRY6 = "20010db8ffffffff00000000000000ff"
+
+
+def given(first, pdn):
+    """A session that is granted, with a bearer at once: three datagrams."""
+    return asked(first, pdn, "answered", "opened", "opened")
+
+
+def deleted(first):
+    """The first session is deleted, by the datagram with this number."""
+    yield {"do": "delete_session", "teid": "01000001", "expect": "begun"}
+    yield deliver(first, "answered")
+    yield deliver(first + 1, "closed")
+
+
+def versions_with_template():
+    """Sessions of each IP version that get a bearer at once, and those that get no address and so no bearer."""
+
+    def case(name, count, pool6, *parts):
+        return made(f"sessions with a bearer at once: {name}", *parts, packet={**with_template(), "count": count, **pool6})
+
+    def pool6(count, first=FIRST6):
+        return {"pool6": first, "count6": count}
+
+    none = ["answered", "rejected"]
+    return [
+        case("no address of either version", 0, pool6(0), asked(0, 3, *none)),
+        case("no further address of version 6", 10, pool6(1), given(0, 2), asked(3, 2, *none)),
+        case("no pool of version 6", 10, {}, asked(0, 2, *none), given(2, 3)),
+        case("both parts are given again", 1, pool6(1), given(0, 3), deleted(3), given(5, 3)),
+        case("parts are given again apart", 10, pool6(10), given(0, 3), given(3, 1), deleted(6), given(8, 2), given(11, 3)),
+        case("networks past a carry", 10, pool6(10, CARRY6), given(0, 2), given(3, 2)),
+        case("the last network", 10, pool6(1, LAST6), given(0, 2)),
+    ]
+
+
 def bearer_asked(first, answer):
     """A dedicated bearer is asked for, by the datagram with this number; what the answer comes to."""
     yield {"do": "create_bearer", "teid": "01000001", "tft": "21", "expect": "begun"}
@@ -181,4 +220,5 @@ def scenarios():
         most_held("4,096 answers are held, and nothing is expected", {}, 1),
         ten_thousand_events(),
         most_sessions(),
+        *versions_with_template(),
     ]

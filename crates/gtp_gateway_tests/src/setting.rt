@@ -13,8 +13,8 @@ const HEAD: &str = concat!(
     r#""apns":["internet"],"pool":"10.1.0.1","count":"#
 );
 
-/// A scenario with these events, whose packet gateway has so many addresses, from 10.1.0.1 on, and holds an answer for
-/// so many ticks.
+/// A scenario with these events, whose packet gateway has so many addresses, from 10.1.0.1 on, with what else its head has
+/// behind the number, and holds an answer for so many ticks.
 pub(crate) fn scenario_of(
     alloc: Global,
     addresses: &str,

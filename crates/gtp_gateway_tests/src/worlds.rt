@@ -11,6 +11,8 @@ use std::test::Fail;
 
 /// Events of two gateways with one address for sessions, and what is seen afterwards.
 struct Run {
+    /// The packet gateway's addresses, and what else its head has.
+    packet: &'static str,
     events: &'static str,
     /// How many contexts were made for datagrams, by their numbers.
     made: &'static [(u64, usize)],
@@ -22,10 +24,18 @@ struct Run {
     is_exchanged: bool,
 }
 
+/// One address.
+const ONE: &str = "1";
+
+/// One address, and a bearer for each session at once.
+const ONE_AND_BEARER: &str = r#"1,"templates":[{"apn":"internet","tft":"21"}]"#;
+
 /// A request that comes three times, one that is late, and one that is given up; an address that is given again after
-/// a restart, and one after an end, for which a request before found none; and a request that never comes.
-const RUNS: [Run; 6] = [
+/// a restart, and one after an end, for which a request before found none; a request that never comes; and one that comes behind an
+/// answer in one datagram, and then alone.
+const RUNS: [Run; 7] = [
     Run {
+        packet: ONE,
         events: concat!(
             r#"[{"do":"create_session","imsi":"001010123456789","apn":"internet","ebi":5},"#,
             r#"{"do":"deliver","datagram":0},{"do":"deliver","datagram":0},{"do":"deliver","datagram":0},"#,
@@ -40,6 +50,7 @@ const RUNS: [Run; 6] = [
         is_exchanged: false,
     },
     Run {
+        packet: ONE,
         events: concat!(
             r#"[{"do":"create_session","imsi":"001010123456789","apn":"internet","ebi":5},"#,
             r#"{"do":"deliver","datagram":0},{"do":"deliver","datagram":1},"#,
@@ -56,6 +67,7 @@ const RUNS: [Run; 6] = [
         is_exchanged: false,
     },
     Run {
+        packet: ONE,
         events: concat!(
             r#"[{"do":"create_session","imsi":"001010123456789","apn":"internet","ebi":5},"#,
             r#"{"do":"deliver","datagram":0},{"do":"tick","node":"serving","times":12},"#,
@@ -67,6 +79,7 @@ const RUNS: [Run; 6] = [
         is_exchanged: false,
     },
     Run {
+        packet: ONE,
         events: concat!(
             r#"[{"do":"create_session","imsi":"001010123456789","apn":"internet","ebi":5},"#,
             r#"{"do":"deliver","datagram":0},{"do":"restart","node":"packet"},{"do":"deliver","datagram":0},"#,
@@ -78,6 +91,7 @@ const RUNS: [Run; 6] = [
         is_exchanged: false,
     },
     Run {
+        packet: ONE,
         events: concat!(
             r#"[{"do":"create_session","imsi":"001010123456789","apn":"internet","ebi":5},"#,
             r#"{"do":"deliver","datagram":0},{"do":"deliver","datagram":1},"#,
@@ -94,11 +108,24 @@ const RUNS: [Run; 6] = [
         is_exchanged: false,
     },
     Run {
+        packet: ONE,
         events: r#"[{"do":"create_session","imsi":"001010123456789","apn":"internet","ebi":5}]"#,
         made: &[(0, 0)],
         handed_in: 0,
         mutual: 0,
         is_exchanged: true,
+    },
+    Run {
+        packet: ONE_AND_BEARER,
+        events: concat!(
+            r#"[{"do":"create_session","imsi":"001010123456789","apn":"internet","ebi":5},"#,
+            r#"{"do":"deliver","datagram":0},{"do":"deliver","datagram":1},"#,
+            r#"{"do":"tick","node":"packet","times":3},{"do":"deliver","datagram":3}]"#
+        ),
+        made: &[(0, 1), (1, 1), (3, 1)],
+        handed_in: 0,
+        mutual: 2,
+        is_exchanged: false,
     },
 ];
 
@@ -212,7 +239,7 @@ fn text_leaves(rt: &impl Abort, alloc: Global, text: &str, run: &Run) -> Result<
 #[test]
 fn what_runs_leave(rt: HostRuntime) -> Result<(), Fail> {
     for run in &RUNS {
-        let text = scenario_of(rt.alloc(), "1", "60", run.events)?;
+        let text = scenario_of(rt.alloc(), run.packet, "60", run.events)?;
         text_leaves(&rt, rt.alloc(), text.as_str(), run)?;
     }
     Ok(())
