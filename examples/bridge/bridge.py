@@ -5,8 +5,9 @@ second, and sends what the gateway tells it to send. It moves octets and knows n
   examples/bridge/bridge.py HEAD [--counter FILE] [--tick SECONDS] [--lose SHARE] [--repeat SHARE] [--delay SECONDS]
 
 HEAD is a file with the first line of `gtpshow gateway`, without `counter`: the restart counter is kept in FILE (HEAD.counter),
-since it has to outlive the gateway, and is one higher at each start (TS 23.007 18). Standard input has further lines of
-`gtpshow gateway`: commands. Standard output has a line for each answer but those of ticks in which nothing happened. For tests,
+since it has to outlive the gateway, and is one higher at each start (TS 23.007 18). The ends in HEAD are IPv4 addresses.
+Standard input, which may be a terminal, a pipe or a file, has further lines of `gtpshow gateway`: commands. At its end the
+gateway goes on. Standard output has a line for each answer but those of ticks in which nothing happened. For tests,
 a share of the datagrams that arrive is lost or comes twice, and each is held back for a random time up to a delay.
 The environment may name the program in GTPSHOW; else it is scripts/gtpshow."""
 
@@ -17,6 +18,7 @@ import os
 import pathlib
 import random
 import sys
+import threading
 
 TOP = pathlib.Path(__file__).resolve().parents[2]
 PROGRAM = os.environ.get("GTPSHOW", str(TOP / "scripts/gtpshow"))
@@ -138,6 +140,13 @@ def show(line, answer):
         print(json.dumps(answer), flush=True)
 
 
+def read_commands(loop, bridge):
+    """Hands the lines of standard input to the bridge. A thread of its own waits for them, since a file cannot be awaited."""
+    for line in sys.stdin:
+        if line.strip():
+            loop.call_soon_threadsafe(bridge.put, line.strip())
+
+
 async def main():
     parser = argparse.ArgumentParser(description="Joins one gateway to UDP and to the clock.")
     parser.add_argument("head", type=pathlib.Path)
@@ -149,14 +158,8 @@ async def main():
     head = json.loads(asked.head.read_text()) | {"counter": counter}
     bridge = Bridge(head, asked.tick, asked.lose, asked.repeat, asked.delay, show)
     print(json.dumps(await bridge.open()), flush=True)
-    serving = asyncio.create_task(bridge.serve())
-    loop = asyncio.get_running_loop()
-    commands = asyncio.StreamReader()
-    await loop.connect_read_pipe(lambda: asyncio.StreamReaderProtocol(commands), sys.stdin)
-    while line := await commands.readline():
-        if line.strip():
-            bridge.put(line.decode().strip())
-    await serving
+    threading.Thread(target=read_commands, args=(asyncio.get_running_loop(), bridge), daemon=True).start()
+    await bridge.serve()
 
 
 if __name__ == "__main__":
