@@ -58,13 +58,17 @@ abbrev pub head_at : List ℕ → Option Headed
 head_at (first ∷ kind ∷ high ∷ low ∷ following) = head_of first kind following
 head_at octets = None
 
--- the header of a first message which announces a second one (P is set, 5.5.1) and is held as far as it states, and the octets after that message
-abbrev pub pair_at : List ℕ → Option (Headed × List ℕ)
-pair_at (first ∷ kind ∷ high ∷ low ∷ held) =
+-- the header of a first message of this size which announces a second one (P is set, 5.5.1) and is held as far as it states, and the octets after that message
+abbrev pub first_of : ℕ → ℕ → ℕ → List ℕ → Option (Headed × List ℕ)
+first_of first kind size held =
     if (first / 16) % 2 == 1
-    then (if nat_lt (length held) (256 * high + low) then None
-    else option_map (λ (h : Headed). (h, drop (256 * high + low) held)) (head_of first kind (take (256 * high + low) held)))
+    then (if nat_lt (length held) size then None
+    else option_map (λ (h : Headed). (h, drop size held)) (head_of first kind (take size held)))
     else None
+
+-- the same, at the front of octets
+abbrev pub pair_at : List ℕ → Option (Headed × List ℕ)
+pair_at (first ∷ kind ∷ high ∷ low ∷ held) = first_of first kind (256 * high + low) held
 pair_at octets = None
 
 -- ---- lines of the control plane

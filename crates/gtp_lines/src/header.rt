@@ -2,8 +2,8 @@
 
 ghost use Rattle.std.specs.Prelude.{◌≡◌, ◌≤◌, ◌+◌, ◌*◌, ◌/◌, if◌then◌else◌, Some, None, option_map};
 ghost use Rattle.gtp_v2.specs.Viewed.{place_of};
-ghost use Rattle.gtp_lines.specs.All.{after_no_teid, after_teid, head_of as spec_head_of, head_at as spec_head_at, pair_at as spec_pair_at};
-ghost use Rattle.gtp_lines.specs.reading.Header.{headed_of, pair_of, first_in};
+ghost use Rattle.gtp_lines.specs.All.{after_no_teid, after_teid, head_of as spec_head_of, head_at as spec_head_at, first_of as spec_first_of, pair_at as spec_pair_at};
+ghost use Rattle.gtp_lines.specs.reading.Header.{headed_of, pair_of};
 
 use byteorder::{BigEndian, ByteOrder};
 use gtp_values::{Below, Seq, Teid};
@@ -99,7 +99,7 @@ pub fn head_at(octets: &[u8]) -> Option<Header<'_>>
 
 /// The header of a first message of this size that announces a second one, and the octets of that.
 fn first_of(first: u8, kind: u8, size: usize, held: &[u8]) -> Option<(Header<'_>, &[u8])>
-    ensures { option_map pair_of result ≡ first_in first kind size held.now }
+    ensures { option_map pair_of result ≡ spec_first_of first kind size held.now }
 {
     if first >> 4 & 1 == 0 {
         return None;

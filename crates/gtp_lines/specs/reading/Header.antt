@@ -1,9 +1,9 @@
 -- What the code's readings of headers stand for.
-use Rattle.std.specs.Prelude.{ℕ, ◌/◌, ◌%◌, ◌==◌, List, length, take, drop, nat_lt, if◌then◌else◌, Option, None, option_map}
+use Rattle.std.specs.Prelude.{ℕ, List, option_map}
 use Rattle.std.specs.Borrow.{Bor}
 use Rattle.gtp_v2.specs.Headed.{Headed}
 use Rattle.gtp_v2.specs.Viewed.{place_of}
-use Rattle.gtp_lines.specs.All.{UserHead, head_of}
+use Rattle.gtp_lines.specs.All.{UserHead}
 use Rattle.gtp_lines.specs.declared.header.Header.{Header}
 use Rattle.gtp_lines.specs.declared.user_header.UserHeader.{UserHeader}
 
@@ -13,11 +13,6 @@ headed_of h = record { kind = h.kind; teid = option_map (λ t. t.0) h.teid; seq 
 -- a header, and the octets of a second message
 abbrev pub pair_of : Header × Bor (List ℕ) → Headed × List ℕ
 pair_of p = (headed_of p.0, p.1.now)
-
--- the header of a first message of this size that announces a second one, and the octets of that
-abbrev pub first_in : ℕ → ℕ → ℕ → List ℕ → Option (Headed × List ℕ)
-first_in first kind size held =
-    if (first / 16) % 2 == 1 then (if nat_lt (length held) size then None else option_map (λ (h : Headed). (h, drop size held)) (head_of first kind (take size held))) else None
 
 abbrev pub user_head_of : UserHeader → UserHead
 user_head_of h = record { kind = h.kind; teid = h.teid.0; seq = h.seq; rest = h.rest.now }
