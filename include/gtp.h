@@ -97,8 +97,9 @@ uint8_t gtp_element_first(const uint8_t *octets, size_t len, uint64_t place, uin
                           struct gtp_element *element);
 
 struct gtp_user_head {          /* of a message of the user plane (TS 29.281 5.1) */
-    uint64_t payload_len;       /* of a G-PDU, and of a type that is not known here: what it carries, the last octets of the
-                                   datagram. Of a notification: its types, 2 octets behind header and chain */
+    uint64_t payload_at, payload_len;   /* what it carries: where it begins, and how many octets it is. Of a G-PDU, and of a type
+                                   that is not known here: the last octets of the datagram. Of a notification: the types of its
+                                   first list (8.5). Of the others: 0, 0 */
     uint64_t extensions_len;    /* the chain of extension headers, which begins at 12 */
     uint32_t teid;
     uint16_t seq;

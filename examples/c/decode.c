@@ -158,8 +158,6 @@ static int show_user(const uint8_t *octets, size_t len) {
     struct gtp_fault fault = {0};
     memset(&head, 0, sizeof head);
     if (gtp_user_read(octets, len, &head, &fault) != GTP_DONE) return put_user_fault(&fault);
-    /* The header has 8 octets, or 12 with one of its flags; a notification has two more before its types. */
-    const uint8_t *payload = octets + (octets[0] & 7 ? 12 : 8) + head.extensions_len + (head.kind == 31 ? 2 : 0);
     bool named = head.kind == 1 || head.kind == 2 || head.kind == 26 || head.kind == 31;
     printf("gtpu type %u %s", head.kind, head.kind == 26 ? "error-indication" : head.kind == 31 ? "supported-extensions" :
            head.kind == 254 ? "end-marker" : head.kind == 255 ? "g-pdu" : named ? message_name(head.kind) : "other");
@@ -175,7 +173,7 @@ static int show_user(const uint8_t *octets, size_t len) {
     } else if (!named || head.kind == 31) {
         if (head.kind == 254) return 0;
         printf("%s", head.kind == 255 ? "payload " : head.kind == 31 ? "types " : "octets ");
-        put_octets(payload, head.payload_len);
+        put_octets(octets + head.payload_at, head.payload_len);
         putchar('\n');
     }
     return 0;

@@ -43,6 +43,7 @@ int main(void) {
     PLACE(gtp_element, instance);
     PLACE(gtp_element, spare);
     SIZE(gtp_user_head);
+    PLACE(gtp_user_head, payload_at);
     PLACE(gtp_user_head, payload_len);
     PLACE(gtp_user_head, extensions_len);
     PLACE(gtp_user_head, teid);

@@ -27,10 +27,11 @@ static void user_again(const uint8_t *octets, size_t len) {
     uint64_t size = 0;
     memset(&head, 0, sizeof head); memset(&back, 0, sizeof back); memset(&fault, 0, sizeof fault);
     if (gtp_user_read(octets, len, &head, &fault) != GTP_DONE) return;
-    const uint8_t *carried = carried_by(octets, len, &head);
+    check_place(octets, len, &head);
+    const uint8_t *carried = octets + head.payload_at;
     CHECK(gtp_user_write(written, sizeof written, &head, carried, head.payload_len, &size) == GTP_DONE);
     CHECK(gtp_user_read(written, size, &back, &fault) == GTP_DONE && is_same_user(&head, &back));
-    CHECK(!memcmp(carried_by(written, size, &back), carried, head.payload_len));
+    CHECK(!memcmp(written + back.payload_at, carried, head.payload_len));
 }
 
 /* Each octet of a datagram gets each value. */

@@ -139,10 +139,12 @@ static void read_control(const uint8_t *octets, size_t len, bool again) {
     if (head.second_len) read_control(octets + len - head.second_len, head.second_len, again);
 }
 
-/* What a message carries: the types of a notification, else its last octets. */
-static const uint8_t *carried_by(const uint8_t *octets, size_t len, const struct gtp_user_head *head) {
-    size_t types = (octets[0] & 7 ? 12 : 8) + head->extensions_len + 2;
-    return octets + (head->kind == 31 ? types : len - head->payload_len);
+/* What a message carries lies in the datagram: at its end; of a notification behind the type and the length of its list. */
+static void check_place(const uint8_t *octets, size_t len, const struct gtp_user_head *head) {
+    CHECK(head->payload_at <= len && head->payload_len <= len - head->payload_at);
+    if (head->kind == 31) CHECK(octets[head->payload_at - 2] == 141 && octets[head->payload_at - 1] == head->payload_len);
+    else if (head->kind == 1 || head->kind == 2 || head->kind == 26 || head->kind == 254) CHECK(!head->payload_at && !head->payload_len);
+    else CHECK(head->payload_at + head->payload_len == len);
 }
 
 /* Whether a message that was written without its extension headers is the same but for them. */
@@ -158,11 +160,12 @@ static void write_user(const uint8_t *octets, size_t len, const struct gtp_user_
     uint64_t needed = 0;
     struct gtp_user_head back; struct gtp_fault fault;
     memset(&back, 0, sizeof back); memset(&fault, 0, sizeof fault);
-    const uint8_t *carried = carried_by(octets, len, head);
+    const uint8_t *carried = octets + head->payload_at;
     CHECK(gtp_user_write(none, 0, head, carried, head->payload_len, &needed) == GTP_TOO_SMALL && needed >= 8 && needed <= len + 4);
     uint8_t *written = malloc(needed);
     EVERY_ROOM(needed, gtp_user_write(buffer, room, head, carried, head->payload_len, &size));
     CHECK(gtp_user_read(written, needed, &back, &fault) == GTP_DONE && is_same_user(head, &back));
+    CHECK(!memcmp(written + back.payload_at, carried, head->payload_len));
     free(written);
 }
 
@@ -173,9 +176,10 @@ static void read_user(const uint8_t *octets, size_t len, bool again) {
     CHECK(status == GTP_DONE ? fault.number == 0 : status == GTP_FAULTY && fault.number >= 1 && fault.number <= 9);
     if (status != GTP_DONE) return;
     CHECK(head.payload_len + head.extensions_len <= len);
+    check_place(octets, len, &head);
     if (again) write_user(octets, len, &head);
     if (!again || head.kind != 255) return;
-    const uint8_t *packet = octets + len - head.payload_len;
+    const uint8_t *packet = octets + head.payload_at;
     uint8_t *written = malloc(8 + head.payload_len);
     EVERY_ROOM(8 + head.payload_len, gtp_packet_write(buffer, room, head.teid, packet, head.payload_len, &size));
     CHECK(gtp_user_read(written, 8 + head.payload_len, &back, &fault) == GTP_DONE && back.teid == head.teid);

@@ -1,30 +1,38 @@
 -- What a message of the user plane carries, and where it lies.
-use Rattle.std.proofs.Common.{◌≡◌, ℕ, ◌-◌, List, [], ◌∷◌, ◌++◌, length, drop, sym, ap, ◌∙◌, subst, append_assoc, length-append, inl, inr, arith}
-use Rattle.std.specs.Prelude.{Some}
+use Rattle.std.proofs.Common.{◌≡◌, ℕ, ◌+◌, ◌-◌, ◌*◌, ◌%◌, ◌<◌, true, false, List, [], ◌∷◌, ◌++◌, length, drop, refl, sym, ap, ◌∙◌, subst, append_assoc, length-append, inl, inr, arith}
+use Rattle.std.specs.Prelude.{Some, ◌==◌}
+use Rattle.std.proofs.lemmas.Bool.Decides.{nat_tests}
+use Rattle.std.proofs.lemmas.List.{drop-drop, drop_at}
 use Rattle.std.proofs.Math.Seq.{drop-append_seam}
 use Rattle.std.proofs.lemmas.Option.{same_Some}
 use Rattle.gtp_values.proofs.Outcomes.{none_some}
-use Rattle.gtp_user.specs.Chain.{Extension, Leads}
+use Rattle.gtp_user.proofs.Chains.{chain_spelled}
+use Rattle.gtp_user.proofs.Headers.{flags_are, test_not}
+use Rattle.gtp_user.specs.Chain.{Extension, IsChain, Leads, chain_encoding}
 use Rattle.gtp_user.specs.Datagram.{IsUserMessage, Carries}
 use Rattle.gtp_user.specs.Headed.{Headed}
-use Rattle.gtp_user.specs.Header.{IsHeaded}
+use Rattle.gtp_user.specs.Header.{Flags, IsHeaded, bits}
 use Rattle.gtp_user.specs.Message.{Content, EchoRequest, EchoResponse, ErrorIndication, Notification, EndMarker, Packet, Other, MessageValue, packet_in}
 use Rattle.gtp_c.specs.Common.{AreLast}
 use Rattle.gtp_c.specs.Reading.{LiesAtEnd, IsCarried}
+use Rattle.gtp_c.specs.Sizes.{HasTypes, header_size}
 use Rattle.gtp_c.specs.declared.user.Carried.{Carried}
 
--- the head tells what a G-PDU carries
+-- a message that has a packet is a G-PDU
+packet_is : (content : Content) (teid : ℕ) (payload : List ℕ) → Some (teid, payload) ≡ packet_in content → Packet teid payload ≡ content
+packet_is (Packet t p) teid payload is = ap (λ (q : ℕ × List ℕ). Packet q.0 q.1) (same_Some (teid, payload) (t, p) is)
+packet_is EchoRequest teid payload is = absurd (none_some (teid, payload) (sym is))
+packet_is EchoResponse teid payload is = absurd (none_some (teid, payload) (sym is))
+packet_is (ErrorIndication t p) teid payload is = absurd (none_some (teid, payload) (sym is))
+packet_is (Notification ts) teid payload is = absurd (none_some (teid, payload) (sym is))
+packet_is (EndMarker t) teid payload is = absurd (none_some (teid, payload) (sym is))
+packet_is (Other k t p) teid payload is = absurd (none_some (teid, payload) (sym is))
+
+-- the head tells what it carries
 pub packet_carried : (content : Content) (told : Carried) (teid : ℕ) (payload : List ℕ) → Some (teid, payload) ≡ packet_in content
     → told.teid ≡ teid → told.payload_len ≡ length payload → told.peer.version ≡ 0 → IsCarried content told
-packet_carried (Packet t p) told teid payload is to long none =
-    let same = same_Some (teid, payload) (t, p) is in
-    record { teid = to ∙ ap (λ (q : ℕ × List ℕ). q.0) same; payload = long ∙ ap (λ (q : ℕ × List ℕ). length q.1) same; peer = none }
-packet_carried EchoRequest told teid payload is to long none = absurd (none_some (teid, payload) (sym is))
-packet_carried EchoResponse told teid payload is to long none = absurd (none_some (teid, payload) (sym is))
-packet_carried (ErrorIndication t p) told teid payload is to long none = absurd (none_some (teid, payload) (sym is))
-packet_carried (Notification ts) told teid payload is to long none = absurd (none_some (teid, payload) (sym is))
-packet_carried (EndMarker t) told teid payload is to long none = absurd (none_some (teid, payload) (sym is))
-packet_carried (Other k t p) told teid payload is to long none = absurd (none_some (teid, payload) (sym is))
+packet_carried content told teid payload is to long none =
+    subst (λ (c : Content). IsCarried c told) (packet_is content teid payload is) (record { teid = to; payload = long; peer = none })
 
 -- the octets end so
 abbrev Ends : List ℕ → List ℕ → Type 0
@@ -70,3 +78,45 @@ at_end (EndMarker t) kind teid tail octets carries ends = tt
 pub lies_at_end : (octets : List ℕ) (m : MessageValue) → IsUserMessage octets m → LiesAtEnd m.content octets
 lies_at_end octets m (h, headed, (tail, chain, carries, seq, npdu)) =
     at_end m.content h.kind h.teid tail octets carries (both octets h.rest tail (ends_header octets h headed) (ends_chain h.first h.rest m.ext 0 tail chain))
+
+-- what says the same lies at the end
+pub same_at_end : (content : Content) (octets : List ℕ) (m : MessageValue) → IsUserMessage octets m → content ≡ m.content → LiesAtEnd content octets
+same_at_end content octets m spelled same = subst (λ (c : Content). LiesAtEnd c octets) (sym same) (lies_at_end octets m spelled)
+
+-- a packet lies at the end
+pub packet_at_end : (octets : List ℕ) (m : MessageValue) (teid : ℕ) (payload : List ℕ) → IsUserMessage octets m → Some (teid, payload) ≡ packet_in m.content → AreLast payload octets
+packet_at_end octets m teid payload spelled is = same_at_end (Packet teid payload) octets m spelled (packet_is m.content teid payload is)
+
+-- ---- where elements begin
+
+plain_size : (spare : ℕ) (rest : List ℕ) → header_size ((48 + 8 * spare + bits (record { chain = false; seq = false; npdu = false })) ∷ rest) ≡ 8
+plain_size spare rest =
+    let even : ((48 + 8 * spare + bits (record { chain = false; seq = false; npdu = false })) % 8 == 0) ≡ true = grind (arith, nat_tests) in
+    rw even refl
+
+flagged_size : (spare : ℕ) (flags : Flags) (rest : List ℕ) → spare < 2 → 0 < bits flags → header_size ((48 + 8 * spare + bits flags) ∷ rest) ≡ 12
+flagged_size spare flags rest small some =
+    let all = (flags_are spare flags small).all in
+    let odd : ((48 + 8 * spare + bits flags) % 8 == 0) ≡ false = test_not _ 0 (λ none. absurd (omega (arith, none, all, some))) in
+    rw odd refl
+
+-- what follows the header begins behind its size
+header_at : (octets : List ℕ) (h : Headed) → IsHeaded octets h → drop (header_size octets) octets ≡ h.rest
+header_at octets h (inl ((spare, high, low, a, b, c, d, is, small, size, teid), seq, npdu, first)) =
+    subst (λ (xs : List ℕ). drop (header_size xs) xs ≡ h.rest) (sym is) (rw (plain_size spare (h.kind ∷ high ∷ low ∷ a ∷ b ∷ c ∷ d ∷ h.rest)) refl)
+header_at octets h (inr (flags, x, y, z, t, some, (spare, high, low, a, b, c, d, is, small, size, teid), seq, npdu, first)) =
+    subst (λ (xs : List ℕ). drop (header_size xs) xs ≡ h.rest) (sym is) (rw (flagged_size spare flags (h.kind ∷ high ∷ low ∷ a ∷ b ∷ c ∷ d ∷ x ∷ y ∷ z ∷ t ∷ h.rest) small some) refl)
+
+-- and what follows the chain behind its encoding
+chain_at : (kind : ℕ) (octets : List ℕ) (es : List Extension) (rest : List ℕ) → IsChain kind octets es rest → drop (length (chain_encoding es)) octets ≡ rest
+chain_at kind octets es rest chain =
+    let spelled = chain_spelled kind octets es rest chain in
+    ap (λ (xs : List ℕ). drop (length (chain_encoding es)) xs) spelled.encoding ∙ drop_at (chain_encoding es) rest (length (chain_encoding es)) refl
+
+-- the elements of a notification, of which the first begins behind header and chain, have its types
+pub has_types : (types octets : List ℕ) (m : MessageValue) → IsUserMessage octets m → Notification types ≡ m.content → HasTypes types (drop (header_size octets + length (chain_encoding m.ext)) octets)
+has_types types octets m (h, headed, (tail, chain, carries, seq, npdu)) same =
+    let whole : Carries h.kind h.teid tail (Notification types) = subst (λ (c : Content). Carries h.kind h.teid tail c) (sym same) carries in
+    let n = length (chain_encoding m.ext) in
+    let here : drop (header_size octets + n) octets ≡ tail = sym (drop-drop n (header_size octets) octets) ∙ (ap (λ (xs : List ℕ). drop n xs) (header_at octets h headed) ∙ chain_at h.first h.rest m.ext tail chain) in
+    subst (λ (xs : List ℕ). HasTypes types xs) (sym here) whole.1

@@ -11,6 +11,7 @@ pub mod Names
 pub mod Reading
 pub mod Sessions
 pub mod Setups
+pub mod Sizes
 pub mod Statuses
 pub mod Steps
 pub mod Templates

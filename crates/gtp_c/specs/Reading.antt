@@ -1,5 +1,5 @@
 -- What C is told of a datagram that is read in place.
-use Rattle.std.specs.Prelude.{◌≡◌, ℕ, ◌+◌, List, drop, length, Option, Some, is_some, is_none, option_map, unwrap_or}
+use Rattle.std.specs.Prelude.{◌≡◌, ℕ, ◌+◌, ◌≤◌, List, ◌∷◌, drop, take, length, Option, Some, is_some, is_none, option_map, unwrap_or}
 use Rattle.std.specs.Borrow.{Bor}
 use Rattle.gtp_ie.specs.View.{element_of}
 use Rattle.gtp_ie.specs.declared.view.ElementView.{ElementView}
@@ -125,12 +125,32 @@ LiesAtEnd (user.Packet teid payload) octets = AreLast payload octets
 LiesAtEnd (user.Other kind teid payload) octets = AreLast payload octets
 LiesAtEnd content octets = Unit {0}
 
+-- these stand in the octets, from this place on
+abbrev pub StandAt : List ℕ → List ℕ → ℕ → Type 0
+StandAt these octets place = (place + length these ≤ length octets) × (take (length these) (drop place octets) ≡ these)
+
+-- these are the octets from this place on
+abbrev pub EndsFrom : List ℕ → List ℕ → ℕ → Type 0
+EndsFrom last octets place = (place + length last ≡ length octets) × (drop place octets ≡ last)
+
+-- the types begin at this place, behind the type of their element and its length (TS 29.281 8.5)
+abbrev pub AreTypesAt : List ℕ → List ℕ → ℕ → Type 0
+AreTypesAt types octets place = (at : ℕ) × (place ≡ 2 + at) × StandAt (141 ∷ length types ∷ types) octets at
+
+-- what a message carries begins at this place of the datagram; 0 where it carries nothing
+abbrev pub LiesAt : user.Content → List ℕ → ℕ → Type 0
+LiesAt (user.Notification types) octets place = AreTypesAt types octets place
+LiesAt (user.Packet teid payload) octets place = EndsFrom payload octets place
+LiesAt (user.Other kind teid payload) octets place = EndsFrom payload octets place
+LiesAt content octets place = place ≡ 0
+
 -- the octets spell this message of the user plane
 pub record IsUserRead (octets : List ℕ) (told : UserHead) : Type 0 where
   pub message : user.MessageValue
   pub spelled : IsUserMessage octets message
   pub is : IsUserTold message told
   pub lies : LiesAtEnd message.content octets
+  pub place : LiesAt message.content octets told.payload_at
 
 pub record IsUserFaulty (octets : List ℕ) (fault : Fault) : Type 0 where
   pub first : UserFault

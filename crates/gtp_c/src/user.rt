@@ -1,22 +1,33 @@
 //! Datagrams of the user plane, read in place.
 
-ghost use Rattle.std.specs.Prelude.{◌≡◌, ◌≢◌};
+ghost use Rattle.std.specs.Prelude.{◌≡◌, ◌≢◌, ◌<◌, ◌^◌, ℕ, List, drop};
 ghost use Rattle.gtp_user.specs.Datagram.{IsUserMessage};
 ghost use Rattle.gtp_user.specs.Message.{MessageValue, content_of};
 ghost use Rattle.gtp_c.specs.Reading.{IsUserRead, IsUserFaulty, IsUserTold, IsCarried, user_teid};
-ghost use Rattle.gtp_c.specs.Reading.{user_length, IsPeer};
+ghost use Rattle.gtp_c.specs.Reading.{user_length, IsPeer, LiesAt, AreTypesAt, EndsFrom};
+ghost use Rattle.gtp_c.specs.Common.{AreLast};
+ghost use Rattle.gtp_c.specs.Sizes.{HasTypes, element_size, header_size};
 
 use crate::ends::Address;
 use crate::fault::Fault;
 use crate::status::{DONE, FAULTY};
 use gtp_user::{UserBody, UserView, view};
 
+/// Recovery (TS 29.281 8.2).
+const RECOVERY: u8 = 14;
+
+/// Tunnel Endpoint Identifier Data I (TS 29.281 8.3).
+const TEID_DATA: u8 = 16;
+
+/// Extension Header Type List (TS 29.281 8.5).
+const EXTENSION_TYPES: u8 = 141;
+
 /// What a message of the user plane says, and how many octets it carries.
 #[repr(C)]
 #[derive(Clone, Copy)]
 pub struct UserHead {
-    /// How many octets it carries: of a G-PDU the packet, the last octets of the datagram; of a notification its types, which
-    /// stand 2 octets behind the chain.
+    /// Where what it carries begins, and how many octets it is: of a G-PDU the packet, of a notification its types.
+    pub payload_at: u64,
     pub payload_len: u64,
     /// The chain of extension headers begins at 12, and has so many octets.
     pub extensions_len: u64,
@@ -71,6 +82,81 @@ fn peer_of(body: &UserBody<'_>) -> Address
     }
 }
 
+/// How many octets the element at the front takes, if it is no list of types (TS 29.281 8.1): those of type 128 and above have
+/// a length in two octets.
+fn element_len(octets: &[u8]) -> usize
+    ensures is { result ≡ element_size octets.now }
+    ensures few { result < 2 ^ 17 }
+{
+    let [kind, high, low, ..] = octets else {
+        return 2;
+    };
+    match *kind {
+        RECOVERY => 2,
+        TEID_DATA => 5,
+        _ => 3 + usize::from(u16::from_be_bytes([*high, *low])),
+    }
+}
+
+/// Where the types of the first list of types begin (TS 29.281 8.5), in elements of which the first begins at `start`; 0 where
+/// there is no list.
+fn types_at(octets: &[u8], start: usize) -> usize
+    ensures { (types : List ℕ) →
+        HasTypes types (drop start octets.now) → AreTypesAt types octets.now result }
+{
+    let mut at = start;
+    while at < octets.len() {
+        let (_before, rest) = octets.split_at(at);
+        if rest[0] == EXTENSION_TYPES {
+            return at + 2;
+        }
+        at += element_len(rest);
+    }
+    0
+}
+
+/// How many octets the header takes: 8, or 12 with one of its flags (TS 29.281 5.1).
+fn header_len(octets: &[u8]) -> usize
+    ensures { result ≡ header_size octets.now }
+{
+    match octets {
+        [first, ..] if first & 7 == 0 => 8,
+        _ => 12,
+    }
+}
+
+/// Where the last octets of a datagram begin.
+#[inline(always)]
+fn last_at(octets: &[u8], last: &[u8]) -> u64
+    requires { AreLast last.now octets.now }
+    ensures { EndsFrom last.now octets.now result }
+{
+    (octets.len() - last.len()) as u64
+}
+
+/// Where what a message carries begins; 0 where it carries nothing.
+fn place_of(octets: &[u8], view: &UserView<'_>, body: &UserBody<'_>) -> u64
+    requires spelled { IsUserMessage octets.now view.now }
+    requires body { content_of body.now ≡ view.now.content }
+    ensures { LiesAt view.now.content octets.now result }
+{
+    match *body {
+        UserBody::Notification { .. } => types_at(
+            octets,
+            header_len(octets) + view.extensions().octets().len(),
+        ) as u64,
+        UserBody::Packet { payload, .. } => last_at(octets, payload),
+        UserBody::Other {
+            octets: carried,
+            ..
+        } => last_at(octets, carried),
+        UserBody::EchoRequest
+        | UserBody::EchoResponse
+        | UserBody::ErrorIndication { .. }
+        | UserBody::EndMarker { .. } => 0,
+    }
+}
+
 /// What a message carries, but for what its header and its chain say.
 #[derive(Clone, Copy)]
 struct Carried {
@@ -93,9 +179,10 @@ fn carried_by(body: &UserBody<'_>) -> Carried
 impl UserHead {
     /// Of a message that carries this.
     #[inline(always)]
-    fn of(view: &UserView<'_>, carried: Carried) -> UserHead
+    fn of(view: &UserView<'_>, carried: Carried, payload_at: u64) -> UserHead
         requires { IsCarried view.now.content carried }
-        ensures { IsUserTold view.now result }
+        ensures told { IsUserTold view.now result }
+        ensures place { result.payload_at ≡ payload_at }
     {
         let (has_seq, seq) = match view.seq() {
             Some(seq) => (1, seq),
@@ -107,6 +194,7 @@ impl UserHead {
         };
         let extensions = view.extensions();
         UserHead {
+            payload_at,
             payload_len: carried.payload_len,
             extensions_len: extensions.octets().len() as u64,
             teid: carried.teid,
@@ -123,17 +211,23 @@ impl UserHead {
     /// Of a message that is no G-PDU. It is told out of line, so that a G-PDU needs no room for it.
     #[cold]
     #[inline(never)]
-    fn put_other(&mut self, view: &UserView<'_>)
-        ensures { IsUserTold view.now self.new }
+    fn put_other(&mut self, octets: &[u8], view: &UserView<'_>)
+        requires { IsUserMessage octets.now view.now }
+        ensures told { IsUserTold view.now self.new }
+        ensures place { LiesAt view.now.content octets.now self.new.payload_at }
     {
-        *self = UserHead::of(view, carried_by(&view.to_message().body));
+        let message = view.to_message();
+        let payload_at = place_of(octets, view, &message.body);
+        *self = UserHead::of(view, carried_by(&message.body), payload_at);
     }
 
-    /// Of a message.
+    /// Of a message that a datagram spells.
     #[inline(always)]
     #[tactic(auto, using(crate::proofs::Carrying::packet_carried))]
-    fn put(&mut self, view: &UserView<'_>)
-        ensures { IsUserTold view.now self.new }
+    fn put(&mut self, octets: &[u8], view: &UserView<'_>)
+        requires { IsUserMessage octets.now view.now }
+        ensures told { IsUserTold view.now self.new }
+        ensures place { LiesAt view.now.content octets.now self.new.payload_at }
     {
         match view.packet() {
             Some((teid, payload)) => {
@@ -142,9 +236,9 @@ impl UserHead {
                     payload_len: payload.len() as u64,
                     peer: Address::none(),
                 };
-                *self = UserHead::of(view, carried);
+                *self = UserHead::of(view, carried, last_at(octets, payload));
             }
-            None => self.put_other(view),
+            None => self.put_other(octets, view),
         }
     }
 }
@@ -165,7 +259,7 @@ pub extern "C" fn gtp_user_read(octets: &[u8], head: &mut UserHead, fault: &mut 
 {
     match view(octets) {
         Ok(view) => {
-            head.put(&view);
+            head.put(octets, &view);
             DONE
         }
         Err(first) => {

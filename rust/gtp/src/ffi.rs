@@ -61,6 +61,7 @@ pub struct Element {
 #[repr(C)]
 #[derive(Clone, Copy, Debug, Default)]
 pub struct UserHead {
+    pub payload_at: u64,
     pub payload_len: u64,
     pub extensions_len: u64,
     pub teid: u32,
@@ -432,7 +433,7 @@ mod tests {
         lines!("gtp_element", Element { at, body_at, len, kind, instance, spare });
         lines!(
             "gtp_user_head",
-            UserHead { payload_len, extensions_len, teid, seq, has_seq, has_npdu, npdu, kind, extension, peer }
+            UserHead { payload_at, payload_len, extensions_len, teid, seq, has_seq, has_npdu, npdu, kind, extension, peer }
         );
         lines!("gtp_imsi", Imsi { count, digits });
         lines!("gtp_cause", Cause { value, pce, bce, cs, has_offending, offending, instance });

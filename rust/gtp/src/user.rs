@@ -80,16 +80,8 @@ impl<'a> UserMessage<'a> {
 
     /// The packet of a G-PDU, the types of a notification, and what a message of another type carries; none of the others.
     pub fn payload(&self) -> &'a [u8] {
-        let len = self.head.payload_len as usize;
-        match self.head.kind {
-            UserMessage::SUPPORTED_EXTENSIONS => {
-                // The types stand behind the header, the chain, and an element's type and length.
-                let header = if self.octets[0] & 7 == 0 { 8 } else { 12 };
-                let at = header + self.head.extensions_len as usize + 2;
-                &self.octets[at..at + len]
-            }
-            _ => &self.octets[self.octets.len() - len..],
-        }
+        let (at, len) = (self.head.payload_at as usize, self.head.payload_len as usize);
+        &self.octets[at..at + len]
     }
 
     /// The extension headers, in their order.

@@ -6,8 +6,9 @@ returns-in-Ok-clause-found c =
     λ _. record {
       message = c.in-Ok.view;
       spelled = c.in-Ok.ensures.found;
-      is = c.put.ensures;
+      is = c.put.ensures.told;
       lies = lies_at_end c.args.octets.now c.in-Ok.view c.in-Ok.ensures.found;
+      place = c.put.ensures.place;
     }
 
 pub returns-in-Err-clause-only : goal.returns-in-Err-clause-only
