@@ -2,7 +2,8 @@
 # the library, the toolchain's functions for memory that it calls, the header and gtp.pc (pkg-config).
 #
 #   make                          proves and builds the program (scripts/prove) and the library (scripts/library), if they are not built
-#   make install PREFIX=/usr      installs it below PREFIX, by default /usr/local; DESTDIR goes in front
+#   make install PREFIX=/usr      installs it below PREFIX, by default /usr/local; DESTDIR goes in front. With an empty PREFIX gtp.pc
+#                                 names the folders from where it stands, so that the tree may be moved (scripts/release)
 #   make uninstall PREFIX=/usr    removes what was installed
 PREFIX ?= /usr/local
 DESTDIR ?=
@@ -40,7 +41,7 @@ install: $(program) $(library)
 	$(INSTALL) -D -m 644 $(heap) $(root)/lib/liblibc_c.a
 	$(INSTALL) -D -m 644 include/gtp.h $(root)/include/gtp.h
 	$(INSTALL) -d $(root)/lib/pkgconfig
-	sed 's|@PREFIX@|$(PREFIX)|' share/gtp.pc > $(root)/lib/pkgconfig/gtp.pc
+	sed 's|@PREFIX@|$(or $(PREFIX),$${pcfiledir}/../..)|' share/gtp.pc > $(root)/lib/pkgconfig/gtp.pc
 	$(INSTALL) -d $(pages)/examples
 	$(INSTALL) -m 644 docs/PROTOCOL.md docs/FORMATS.md docs/JSON.md docs/C.md docs/PROVED.md docs/BELIEVE.md docs/CHANGELOG.md $(pages)
 	sed -i 's|](../include/|](../../../include/|g; s|](../examples/|](examples/|g; s|](../rust/gtp)|](../../gtp/rust)|g' $(pages)/C.md
