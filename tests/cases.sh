@@ -13,28 +13,34 @@ fail() {
   printf 'FAILED %s\n' "$*"
 }
 
-# each_datagram COMMAND FILE: runs COMMAND PLANE HEX LINES for each datagram of examples/datagrams and tests/lines, where LINES is a
-# file with the lines that it is shown as; '=' stands for any but a fault. FILE is written over.
+# each_datagram COMMAND FILE: runs COMMAND PLANE HEX LINES for each datagram of examples/datagrams, and of tests/lines/control,
+# control-lengths and user, where LINES is a file with the lines that it is shown as; '=' stands for any but a fault. FILE is written
+# over.
 each_datagram() {
-  local plane file line digits
-  for plane in control user; do
-    for file in examples/datagrams/$plane/*.hex; do
-      "$1" $plane "$(sed -n 's/^\([0-9a-f]*\).*/\1/p' "$file" | tr -d '\n')" "${file%.hex}.lines"
-    done
-    digits=
-    : > "$2"
-    while IFS= read -r line || [ -n "$line" ]; do
-      case $line in
-        '#'*) ;;
-        '')
-          [ -z "$digits" ] || "$1" $plane "${digits#-}" "$2"
-          digits=
-          : > "$2"
-          ;;
-        *) if [ -n "$digits" ]; then printf '%s\n' "$line" >> "$2"; else digits=$line; fi ;;
-      esac
-    done < <(cat "tests/lines/$plane"; echo)
+  local file name
+  for file in examples/datagrams/*/*.hex; do
+    "$1" "$(basename "$(dirname "$file")")" "$(sed -n 's/^\([0-9a-f]*\).*/\1/p' "$file" | tr -d '\n')" "${file%.hex}.lines"
   done
+  for name in control control-lengths user; do
+    each_line "$1" "${name%-lengths}" "tests/lines/$name" "$2"
+  done
+}
+
+# each_line COMMAND PLANE FROM FILE: the same for the datagrams of one file.
+each_line() {
+  local line digits=
+  : > "$4"
+  while IFS= read -r line || [ -n "$line" ]; do
+    case $line in
+      '#'*) ;;
+      '')
+        [ -z "$digits" ] || "$1" "$2" "${digits#-}" "$4"
+        digits=
+        : > "$4"
+        ;;
+      *) if [ -n "$digits" ]; then printf '%s\n' "$line" >> "$4"; else digits=$line; fi ;;
+    esac
+  done < <(cat "$3"; echo)
 }
 
 # finish: the last line, 'N passed, M failed', and the status.

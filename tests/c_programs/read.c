@@ -114,7 +114,6 @@ int main(void) {
         size_t len;
         uint8_t *octets = octets_of(digits, &len);
         for (size_t n = 0; n <= len; n++) {
-            if (n > 400 && n != len) continue;
             uint8_t *cut = block(octets, n);
             if (user) read_user(cut, n, n == len); else read_control(cut, n, n == len && len < 2000);
             free(cut);
