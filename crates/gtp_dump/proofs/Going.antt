@@ -8,6 +8,9 @@ use Rattle.gtp_dump.specs.declared.decoding.Asked.{Asked}
 use Rattle.gtp_dump.specs.declared.decoding.Tally.{Tally}
 use Rattle.gtp_counted.specs.Lines.{BeginsWithLines}
 use Rattle.gtp_counted.proofs.Lines.{is_known, content, none_yet, one_more, held_some}
+use Rattle.gtp_dump.specs.Flaw.{IsFlaw}
+use Rattle.gtp_dump.specs.declared.flaw.Flaw.{Flaw}
+use Rattle.gtp_dump.specs.declared.flaw.Flaw.TheVariants.{TooLong, Character, Odd}
 use Rattle.gtp_dump.specs.Decoded.{nothing_read, Tells, TellAll, AreTold, IsTold, AreFirstTold}
 
 -- what is told of lines, and of one more
@@ -38,9 +41,14 @@ told_whole asked before after line out err tells = elim (cases_lt 1048576 (lengt
     full : 1048576 < length line → 1048576 < length (take 1048577 line)
     full long = omega (arith, long, length-take 1048577 line)
 
+    flawed : 1048576 < length line → (flaw : Flaw) → IsFlaw (take 1048577 line) flaw → IsFlaw line flaw
+    flawed long TooLong is = long
+    flawed long (Character octet place) is = absurd (omega (arith, full long, is.0))
+    flawed long Odd is = absurd (omega (arith, full long, is.0))
+
     told_long : 1048576 < length line → Tells asked before (take 1048577 line) after out err → Tells asked before line after out err
     told_long long (inl t) = absurd (omega (arith, full long, t.blank.0))
-    told_long long (inr (inl t)) = inr (inl (record { is_bad = inl long; tally = t.tally; output = t.output; error = t.error }))
+    told_long long (inr (inl t)) = inr (inl (record { is_bad = inl long; tally = t.tally; output = t.output; flaw = t.flaw; reason = flawed long t.flaw t.reason; error = t.error }))
     told_long long (inr (inr t)) = absurd (omega (arith, full long, t.spells.fits))
 
 -- one line more, of which so much is held

@@ -9,6 +9,8 @@ use Rattle.gtp_lines.specs.Lines.{LinesOf}
 use Rattle.gtp_lines.specs.All.{AllLines}
 use Rattle.gtp_json.specs.Datagram.{DatagramJson}
 use Rattle.gtp_dump.specs.Text.{Spells, IsBlank, IsBad}
+use Rattle.gtp_dump.specs.Flaw.{flaw_text, IsFlaw}
+use Rattle.gtp_dump.specs.declared.flaw.Flaw.{Flaw}
 use Rattle.gtp_dump.specs.declared.decoding.Asked.{Asked}
 use Rattle.gtp_dump.specs.declared.decoding.Form.{Form}
 use Rattle.gtp_dump.specs.declared.decoding.Form.TheVariants as forms
@@ -21,6 +23,13 @@ datagram_line index = codes "datagram " ++ (decimal index ++ codes "\n")
 -- the line on a bad line
 abbrev pub bad_line : ℕ → List ℕ
 bad_line number = codes "bad hex line " ++ (decimal number ++ codes "\n")
+
+-- and a second one, which says why
+abbrev pub flaw_line : ℕ → Flaw → List ℕ
+flaw_line number flaw = codes "gtpshow: standard input, line " ++ (decimal number ++ (codes ": " ++ (flaw_text flaw ++ codes "\n")))
+
+abbrev pub bad_text : ℕ → Flaw → List ℕ
+bad_text number flaw = bad_line number ++ flaw_line number flaw
 
 -- a datagram in a form
 abbrev pub ShowsAs : Form → Plane → List ℕ → List ℕ → Bool → Type 0
@@ -53,12 +62,14 @@ pub record TellsNothing (before : Tally) (line : List ℕ) (after : Tally) (out 
   pub output : out ≡ []
   pub error : err ≡ []
 
--- of a bad line its number is told, as an error; lines count from 1
+-- of a bad line its number is told, as an error, and why it is bad; lines count from 1
 pub record TellsBad (before : Tally) (line : List ℕ) (after : Tally) (out err : List ℕ) : Type 0 where
   pub is_bad : IsBad line
   pub tally : after ≡ record before { lines = before.lines + 1; bad = true }
   pub output : out ≡ []
-  pub error : err ≡ bad_line (before.lines + 1)
+  pub flaw : Flaw
+  pub reason : IsFlaw line flaw
+  pub error : err ≡ bad_text (before.lines + 1) flaw
 
 -- a datagram is shown, and its index told, which counts from 0
 pub record TellsDatagram (asked : Asked) (before : Tally) (line : List ℕ) (after : Tally) (out err : List ℕ) : Type 0 where

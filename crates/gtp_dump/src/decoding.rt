@@ -4,8 +4,10 @@ ghost use Rattle.std.specs.Prelude.{◌≡◌, ◌≢◌, ◌+◌, ◌++◌, ◌
 ghost use Rattle.gtp_counted.specs.Counts.{inner_of, failures_of, NoneFailed};
 ghost use Rattle.gtp_dump.specs.declared.decoding.DumpFault.TheVariants as faults;
 ghost use Rattle.gtp_dump.specs.Text.{IsBlank, IsBad};
-ghost use Rattle.gtp_dump.specs.Decoded.{nothing_read, bad_line, index_line, ShowsAs, ShowsOne, Shows, IsTold, AreTold, AreFirstTold, WriteFailed, WriteClosed};
+ghost use Rattle.gtp_dump.specs.Flaw.{IsFlaw};
+ghost use Rattle.gtp_dump.specs.Decoded.{nothing_read, bad_text, index_line, ShowsAs, ShowsOne, Shows, IsTold, AreTold, AreFirstTold, WriteFailed, WriteClosed};
 
+use crate::flaw::{Flaw, flaw_of, put_flaw};
 use crate::holding::next_line;
 use crate::text::{Dumped, LineFault, read_line};
 use gtp_counted::{Counted, Failed};
@@ -146,14 +148,19 @@ fn shown(alloc: Global, form: Form, index: u64, dumped: &Dumped) -> Result<Shown
     })
 }
 
-/// The line on a bad line.
+/// The two lines on a bad line.
 #[tactic(auto, using(crate::proofs::Texts::appending))]
-fn bad_text(alloc: Global, number: u64) -> Result<Vec<u8>, Memory>
-    ensures { IfOk result (λ text. text.items ≡ bad_line number) }
+fn bad_text(alloc: Global, number: u64, flaw: Flaw) -> Result<Vec<u8>, Memory>
+    ensures { IfOk result (λ text. text.items ≡ bad_text number flaw) }
 {
     let mut text = Vec::new(alloc);
     put(&mut text, b"bad hex line ")?;
     put_number(&mut text, number)?;
+    put(&mut text, b"\n")?;
+    put(&mut text, b"gtpshow: standard input, line ")?;
+    put_number(&mut text, number)?;
+    put(&mut text, b": ")?;
+    put_flaw(&mut text, flaw)?;
     put(&mut text, b"\n")?;
     Ok(text)
 }
@@ -203,7 +210,7 @@ fn tell<W: Write, E: Write>(
             })
         }
         Err(LineFault::BadHex) => {
-            let text = bad_text(alloc, number)?;
+            let text = bad_text(alloc, number, flaw_of(line))?;
             if let Err(failed) = err.write_all(&text) {
                 return Err(unwritten(failed));
             }
@@ -219,8 +226,8 @@ fn tell<W: Write, E: Write>(
 
 /// Decodes the datagrams of a dump, a line each, and tells what came of its lines. Before the lines of each datagram stands
 /// `datagram <index>`, which counts from 0; before an object none. For a line that is no hexadecimal, or has more than
-/// 1,048,576 octets with its line feed, `bad hex line <number>` is written as an error; lines count from 1. A line ends with a
-/// line feed, or with the text. No more than 1,048,577 octets of one are held.
+/// 1,048,576 octets with its line feed, `bad hex line <number>` is written as an error, and then a line that says why; lines
+/// count from 1. A line ends with a line feed, or with the text. No more than 1,048,577 octets of one are held.
 ///
 /// `Read` if a read failed, `Write` if a write did, `Closed` if the reader of the output closed it, `Memory` if an allocation was
 /// refused, `TooLong` if there are 2^64 - 1 octets or more: except after `Write` and `Closed`, what was written is that of the

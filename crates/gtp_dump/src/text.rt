@@ -31,14 +31,14 @@ pub enum LineFault {
 }
 
 /// Whether a character may stand between octets: a blank, a colon or a comma.
-fn is_between(c: u8) -> bool
+pub fn is_between(c: u8) -> bool
     ensures { result ≡ is_between c }
 {
     c.is_ascii_whitespace() || c == b':' || c == b','
 }
 
 /// Whether a text of this character and what follows begins with `0x` or `0X`.
-fn begins_prefix(first: u8, after: &[u8]) -> bool
+pub fn begins_prefix(first: u8, after: &[u8]) -> bool
     ensures value { result ≡ begins_prefix first after.now }
     ensures one { IsTrue result → 1 ≤ length after.now }
 {
@@ -102,7 +102,7 @@ fn octets_of(alloc: Global, text: &[u8]) -> Result<Option<Vec<u8>>, LineFault>
 }
 
 /// The plane whose word the text begins with, and what follows.
-fn named(text: &[u8]) -> (Option<Plane>, &[u8])
+pub fn named(text: &[u8]) -> (Option<Plane>, &[u8])
     ensures { Names text.now result.0 result.1.now }
 {
     if let Some(rest) = text.strip_prefix(b"control") {

@@ -10,6 +10,8 @@ ghost use Rattle.gtpshow.specs.Stops.{TellsReads, TellsClosed, StopsCounts, Stop
 
 use crate::command::Failure;
 use crate::dumping::BUFFERED;
+use crate::hinting::{hint_of_broken, hint_of_capture};
+use crate::kept::Watched;
 use crate::replaying::unopened;
 use gtp_capture::{CaptureFault, Captured, Packet, Ports, Refused, Sink, Stop, read_capture};
 use gtp_counted::{Counted, Failed};
@@ -323,27 +325,45 @@ pub struct CaptureAsked {
     pub ports: Ports,
 }
 
-/// Shows the capture of a reader on standard output, and returns the exit status.
-fn capture_printed<R: Print, I: Read + Drop>(
+/// Shows the capture of a reader on standard output, says on standard error why it is none, or from where on, and returns the
+/// exit status.
+fn capture_printed<R: Print + Eprint, I: Read + Drop>(
     rt: &R,
     alloc: Global,
     asked: CaptureAsked,
+    name: &str,
     reader: I,
 ) -> Result<u8, Failure>
     ensures { IfOk result (λ status. status ≤ 2) }
 {
-    let reader = BufReader::with_capacity(alloc, BUFFERED, reader).map_err(|_| Failure::Memory)?;
+    let reader = BufReader::with_capacity(alloc, BUFFERED, Watched::new(alloc, reader)).map_err(
+        |_| Failure::Memory,
+    )?;
     let out = BufWriter::with_capacity(alloc, BUFFERED, io::writer(rt)).map_err(
         |_| Failure::Memory,
     )?;
+    let mut reader = Counted::new(reader);
     let mut writer = FrameWriter::new(alloc, asked.form, out);
-    let shown = capture_from(alloc, asked.ports, &mut Counted::new(reader), &mut writer);
+    let shown = capture_from(alloc, asked.ports, &mut reader, &mut writer);
     writer.out.flush().map_err(unwritten)?;
-    shown
+    let read = reader.into_inner().into_inner();
+    match shown {
+        Err(Failure::BadCapture) => {
+            let _ = eprintln!(rt; "{}", Failure::BadCapture);
+            let _ = hint_of_capture(rt, name, &read);
+            Ok(2)
+        }
+        Err(Failure::BrokenCapture { at }) => {
+            let _ = eprintln!(rt; "{}", Failure::BrokenCapture { at });
+            let _ = hint_of_broken(rt, name, at, &read);
+            Ok(2)
+        }
+        shown => shown,
+    }
 }
 
 /// Shows the capture of this file, or of standard input for `-`, and returns the exit status.
-pub fn capture_file<R: Print + Input + Files>(
+pub fn capture_file<R: Print + Eprint + Input + Files>(
     rt: &R,
     alloc: Global,
     asked: CaptureAsked,
@@ -352,8 +372,8 @@ pub fn capture_file<R: Print + Input + Files>(
     ensures { IfOk result (λ status. status ≤ 2) }
 {
     if name == "-" {
-        return capture_printed(rt, alloc, asked, rt.reader());
+        return capture_printed(rt, alloc, asked, "standard input", rt.reader());
     }
     let file = fs::open(rt, name).map_err(unopened)?;
-    capture_printed(rt, alloc, asked, file)
+    capture_printed(rt, alloc, asked, name, file)
 }

@@ -1,6 +1,8 @@
 //! What standard error says after the first line of a failure: the word or the file, and the reason.
 
 use crate::command::{Failure, command};
+use crate::kept::Watched;
+use clap::ArgMatches;
 use gtp_capture::begins_as_capture;
 use gtp_lines::{Plane, decode_lines};
 use gtp_scenario::reason_of;
@@ -10,13 +12,8 @@ use std::alloc::Global;
 use std::rt::{Env, Files};
 use std::{env, fs, io};
 
-/// Says why a word is no hexadecimal, or that it names a file.
-fn hint_of_hex<R: Eprint + Files>(rt: &R, alloc: Global, word: &str) -> io::Result<()> {
-    if fs::exists(rt, word)? {
-        return eprintln!(rt;
-            "gtpshow: {word} is a file: 'decode -' reads datagrams from standard input, 'capture' a capture"
-        );
-    }
+/// Says why a word is no hexadecimal.
+fn hint_of_digits<R: Eprint>(rt: &R, alloc: Global, word: &str) -> io::Result<()> {
     match hex::decode(alloc, word) {
         Err(FromHexError::InvalidHexCharacter { c, index }) => {
             eprintln!(rt;
@@ -26,8 +23,56 @@ fn hint_of_hex<R: Eprint + Files>(rt: &R, alloc: Global, word: &str) -> io::Resu
         Err(FromHexError::OddLength) => {
             eprintln!(rt; "gtpshow: the word has an odd number of digits")
         }
-        _ => Ok(()),
+        _ => eprintln!(rt; "gtpshow: the word has no digits"),
     }
+}
+
+/// Says why the word of `decode` is no hexadecimal, or that it names a file.
+fn hint_of_hex<R: Eprint + Files>(rt: &R, alloc: Global, asked: &ArgMatches) -> io::Result<()> {
+    let word = asked.get_str("octets").unwrap_or("");
+    if fs::exists(rt, word).unwrap_or(false) {
+        return eprintln!(rt;
+            "gtpshow: {word} is a file: 'decode -' reads datagrams from standard input, 'capture' a capture"
+        );
+    }
+    hint_of_digits(rt, alloc, word)
+}
+
+/// Says why a file, or standard input, is no capture.
+pub fn hint_of_capture<R: Eprint, I>(rt: &R, name: &str, read: &Watched<I>) -> io::Result<()> {
+    if !begins_as_capture(&read.first) {
+        return eprintln!(rt; "gtpshow: {name} does not begin as a capture does (pcap, pcapng)");
+    }
+    if read.ended {
+        return eprintln!(rt;
+            "gtpshow: {name} ends after {} octets, inside its head",
+            read.count
+        );
+    }
+    eprintln!(rt; "gtpshow: {name} begins as a capture does, but its head is none")
+}
+
+/// Says why no record or block stands at an octet of a capture.
+pub fn hint_of_broken<R: Eprint, I>(
+    rt: &R,
+    name: &str,
+    at: u64,
+    read: &Watched<I>,
+) -> io::Result<()> {
+    let has_blocks = read.first.starts_with(&[0x0a]);
+    let part = if has_blocks { "block" } else { "record" };
+    if read.ended {
+        return eprintln!(rt;
+            "gtpshow: {name} ends after {} octets, inside the {part} at octet {at}",
+            read.count
+        );
+    }
+    if has_blocks {
+        return eprintln!(rt;
+            "gtpshow: {name}: the block at octet {at} has a length that does not fit, an interface that is not described, or no order of octets"
+        );
+    }
+    eprintln!(rt; "gtpshow: {name}: the record at octet {at} states more than 262144 octets")
 }
 
 /// Says what a control datagram is that is not of version 2, where it is of version 1.
@@ -100,6 +145,17 @@ fn hint_of_read<R: Eprint + Files>(rt: &R, name: &str) -> io::Result<()> {
     }
 }
 
+/// Says which port is none.
+fn hint_of_port<R: Eprint>(rt: &R, asked: &ArgMatches) -> io::Result<()> {
+    for name in ["control-port", "user-port"] {
+        let word = asked.get_str(name).unwrap_or("0");
+        if word.parse::<u16>().is_err() {
+            return eprintln!(rt; "gtpshow: the word '{word}' of --{name} is no such number");
+        }
+    }
+    Ok(())
+}
+
 /// Says what a failure is about, after its own line.
 pub fn hint<R: Eprint + Env + Files + AllocGlobal>(rt: &R, failure: Failure) -> io::Result<()> {
     let alloc: Global = rt.alloc();
@@ -107,22 +163,17 @@ pub fn hint<R: Eprint + Env + Files + AllocGlobal>(rt: &R, failure: Failure) -> 
     let Ok(matches) = command(alloc)?.try_get_matches_from(words.as_slice()) else {
         return Ok(());
     };
-    let word = match matches.subcommand() {
-        Some(("decode", asked)) => asked.get_str("octets").unwrap_or(""),
-        Some(("explain", asked)) => asked.get_str("code").unwrap_or(""),
-        Some((_, asked)) => asked.get_str("file").unwrap_or("-"),
-        None => "-",
+    let Some((name, asked)) = matches.subcommand() else {
+        return Ok(());
     };
     match failure {
-        Failure::BadHex => hint_of_hex(rt, alloc, word),
-        Failure::BadCode => hint_of_code(rt, word),
-        Failure::Read | Failure::TooLong => hint_of_read(rt, word),
-        Failure::BadCapture if word == "-" => {
-            eprintln!(rt; "gtpshow: standard input does not begin as a capture does (pcap, pcapng)")
+        Failure::BadHex => hint_of_hex(rt, alloc, asked),
+        Failure::BadCode => hint_of_code(rt, asked.get_str("code").unwrap_or("")),
+        Failure::BadPort => hint_of_port(rt, asked),
+        Failure::Read | Failure::TooLong if name == "capture" || name == "replay" => {
+            hint_of_read(rt, asked.get_str("file").unwrap_or("-"))
         }
-        Failure::BadCapture => {
-            eprintln!(rt; "gtpshow: {word} does not begin as a capture does (pcap, pcapng)")
-        }
+        Failure::Read | Failure::TooLong => hint_of_read(rt, "-"),
         _ => Ok(()),
     }
 }

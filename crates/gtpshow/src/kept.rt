@@ -1,4 +1,4 @@
-//! Readers that keep what they have read.
+//! Readers that keep what they have read, or note how it begins and where it ends.
 
 use std::alloc::Global;
 use std::io::{self, Read};
@@ -38,6 +38,47 @@ impl<R: Read> Read for Kept<R> {
         let count = self.inner.read(buf)?;
         if self.octets.extend_from_slice(&buf[..count]).is_err() {
             self.lost = true;
+        }
+        Ok(count)
+    }
+}
+
+/// How many of its first octets are noted of a reader, at least.
+const NOTED: usize = 4;
+
+/// A reader of which is noted how it begins, how many octets were read, and whether its end was met.
+#[derive(Drop)]
+pub struct Watched<R> {
+    inner: R,
+    /// The first octets, unless an allocation was refused.
+    pub first: Vec<u8>,
+    pub count: u64,
+    pub ended: bool,
+}
+
+impl<R> Watched<R> {
+    /// A reader from which nothing was read.
+    pub fn new(alloc: Global, inner: R) -> Watched<R> {
+        Watched {
+            inner,
+            first: Vec::new(alloc),
+            count: 0,
+            ended: false,
+        }
+    }
+}
+
+impl<R: Read> Read for Watched<R> {
+    ghost remaining = { λ w. R.remaining w.inner };
+
+    fn read(&mut self, buf: &mut [u8]) -> io::Result<usize> {
+        let count = self.inner.read(buf)?;
+        if self.first.len() < NOTED {
+            let _ = self.first.extend_from_slice(&buf[..count.min(NOTED)]);
+        }
+        self.count = self.count.saturating_add(count as u64);
+        if count == 0 && !buf.is_empty() {
+            self.ended = true;
         }
         Ok(count)
     }

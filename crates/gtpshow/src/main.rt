@@ -86,7 +86,7 @@ fn port_of(asked: &ArgMatches, name: &str) -> Result<Option<u16>, Failure> {
 }
 
 /// Shows the capture of the arguments, and returns the exit status.
-fn capture_asked<R: Print + Input + Files>(
+fn capture_asked<R: Print + Eprint + Input + Files>(
     rt: &R,
     alloc: Global,
     asked: &ArgMatches,

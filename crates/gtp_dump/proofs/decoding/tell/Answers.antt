@@ -1,4 +1,4 @@
-use Rattle.std.proofs.Common.{rules, [], inl, inr, refl, ap, subst, Err, IfSome}
+use Rattle.std.proofs.Common.{rules, [], inl, inr, refl, ap, subst, Ok, Err, IfSome}
 use Rattle.gtp_dump.specs.Text.{Spells}
 use Rattle.std.specs.Io.KnownBytes.{Appends}
 use Rattle.gtp_counted.proofs.Lines.{none_yet}
@@ -34,7 +34,16 @@ returns-in_default-write_all-clause-told g c =
     record {
       text = [];
       errors = text.items;
-      tells = inr (inl (record { is_bad = c.in-Err-BadHex.ensures.bad (ap Err c.in-Err-BadHex.field-0-is); tally = refl; output = refl; error = c.in_ok-text-in-Err-BadHex.ensures }));
+      tells = inr (inl (record { is_bad = c.in-Err-BadHex.ensures.bad (ap Err c.in-Err-BadHex.field-0-is); tally = refl; output = refl; flaw = c.flaw_of.result; reason = c.flaw_of.ensures; error = c.in_ok-text-in-Err-BadHex.ensures }));
       output = none_yet (g.W.Write.contents c.args.out.now.inner);
       error = subst (Appends (err c.args.err.now.inner) (err c.write_all-in-Err-BadHex.new.self.inner)) c.deref-in-Err-BadHex.ensures.value written;
     }
+
+pub returns-in-Ok-None-clause-told : goal.returns-in-Ok-None-clause-told
+returns-in-Ok-None-clause-told g c = record {
+  text = [];
+  errors = [];
+  tells = inl (record { blank = c.in-Ok-None.ensures.none (ap Ok c.in-Ok-None.field-0-is); tally = refl; output = refl; error = refl });
+  output = none_yet (g.W.Write.contents c.args.out.now.inner);
+  error = none_yet (g.E.Write.contents c.args.err.now.inner);
+}
