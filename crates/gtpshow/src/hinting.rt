@@ -4,26 +4,42 @@ use crate::command::{Failure, command};
 use crate::kept::Watched;
 use clap::ArgMatches;
 use gtp_capture::begins_as_capture;
+use gtp_dump::{Flaw, LineFault, flaw_of, read_line};
 use gtp_lines::{Plane, decode_lines};
 use gtp_scenario::reason_of;
 use gtp_serve::head_reason;
-use hex::FromHexError;
 use std::alloc::Global;
 use std::rt::{Env, Files};
 use std::{env, fs, io};
 
+/// Says which character of a word is no hexadecimal digit. Places count from 0, by octets.
+fn hint_of_character<R: Eprint>(rt: &R, place: usize, c: char) -> io::Result<()> {
+    eprintln!(rt; "gtpshow: the character {c} at place {place} of the word is no hexadecimal digit")
+}
+
 /// Says why a word is no hexadecimal.
-fn hint_of_digits<R: Eprint>(rt: &R, alloc: Global, word: &str) -> io::Result<()> {
-    match hex::decode(alloc, word) {
-        Err(FromHexError::InvalidHexCharacter { c, index }) => {
-            eprintln!(rt;
-                "gtpshow: the character {c} at place {index} of the word is no hexadecimal digit"
-            )
+fn hint_of_digits<R: Eprint>(rt: &R, word: &str) -> io::Result<()> {
+    for (place, c) in word.char_indices() {
+        if !c.is_ascii_hexdigit() {
+            return hint_of_character(rt, place, c);
         }
-        Err(FromHexError::OddLength) => {
-            eprintln!(rt; "gtpshow: the word has an odd number of digits")
-        }
-        _ => eprintln!(rt; "gtpshow: the word has no digits"),
+    }
+    eprintln!(rt; "gtpshow: the word has an odd number of digits")
+}
+
+/// The same of a word that is read as a line of a dump.
+fn hint_of_line<R: Eprint>(rt: &R, alloc: Global, word: &str) -> io::Result<()> {
+    match read_line(alloc, None, word.as_bytes()) {
+        Ok(None) => eprintln!(rt; "gtpshow: the word has no digits"),
+        Err(LineFault::BadHex) => match flaw_of(word.as_bytes()) {
+            Flaw::Character { place, .. } => {
+                let c = word.get(place..).and_then(|rest| rest.chars().next());
+                hint_of_character(rt, place, c.unwrap_or('?'))
+            }
+            Flaw::Odd => eprintln!(rt; "gtpshow: the word has an odd number of digits"),
+            Flaw::TooLong => eprintln!(rt; "gtpshow: the word has more than 1048576 octets"),
+        },
+        _ => Ok(()),
     }
 }
 
@@ -35,7 +51,10 @@ fn hint_of_hex<R: Eprint + Files>(rt: &R, alloc: Global, asked: &ArgMatches) -> 
             "gtpshow: {word} is a file: 'decode -' reads datagrams from standard input, 'capture' a capture"
         );
     }
-    hint_of_digits(rt, alloc, word)
+    if asked.get_flag("all") || asked.get_flag("json") {
+        return hint_of_line(rt, alloc, word);
+    }
+    hint_of_digits(rt, word)
 }
 
 /// Says why a file, or standard input, is no capture.
