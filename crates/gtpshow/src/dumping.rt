@@ -4,6 +4,8 @@ ghost use Rattle.std.specs.Prelude.{◌≤◌, IfOk};
 
 use crate::capturing::unwritten;
 use crate::command::Failure;
+use crate::hinting::hint_of_dump;
+use crate::kept::Watched;
 use crate::showing::show_dump;
 use gtp_counted::Counted;
 use gtp_dump::Asked;
@@ -36,7 +38,7 @@ impl<P: Eprint> Write for Errors<'_, P> {
     }
 }
 
-/// Shows the datagrams of standard input, and returns the exit status.
+/// Shows the datagrams of standard input, says on standard error what it is if it is something else, and returns the exit status.
 pub fn dump_printed<R: Print + Eprint + Input>(
     rt: &R,
     alloc: Global,
@@ -44,20 +46,23 @@ pub fn dump_printed<R: Print + Eprint + Input>(
 ) -> Result<u8, Failure>
     ensures { IfOk result (λ status. status ≤ 2) }
 {
-    let reader = BufReader::with_capacity(alloc, BUFFERED, rt.reader()).map_err(
-        |_| Failure::Memory,
-    )?;
+    let reader = Watched::new(alloc, rt.reader());
+    let reader = BufReader::with_capacity(alloc, BUFFERED, reader).map_err(|_| Failure::Memory)?;
     let out = BufWriter::with_capacity(alloc, BUFFERED, io::writer(rt)).map_err(
         |_| Failure::Memory,
     )?;
+    let mut reader = Counted::new(reader);
     let mut out = Counted::new(out);
     let shown = show_dump(
         alloc,
         asked,
-        &mut Counted::new(reader),
+        &mut reader,
         &mut out,
         &mut Counted::new(Errors { to: rt }),
     );
     out.flush().map_err(unwritten)?;
+    if shown == Ok(2) {
+        let _ = hint_of_dump(rt, &reader.into_inner().into_inner().first);
+    }
     shown
 }

@@ -57,8 +57,50 @@ fn hint_of_hex<R: Eprint + Files>(rt: &R, alloc: Global, asked: &ArgMatches) -> 
     hint_of_digits(rt, word)
 }
 
+/// Says that the octets of a datagram are one word, where they came as several.
+pub fn hint_of_words<R: Eprint>(rt: &R, words: &[String]) -> io::Result<()> {
+    let mut octets = 0u8;
+    for (place, word) in words.iter().enumerate() {
+        if place == 1 && word.as_str() != "decode" {
+            return Ok(());
+        }
+        if place > 1 && !word.starts_with("-") {
+            octets = octets.saturating_add(1);
+        }
+    }
+    if octets < 2 {
+        return Ok(());
+    }
+    eprintln!(rt;
+        "gtpshow: 'decode' takes the octets in one word, or on standard input for -, a datagram a line"
+    )
+}
+
+/// Whether octets begin as a file does that gzip compressed.
+fn begins_as_compressed(octets: &[u8]) -> bool {
+    octets.starts_with(&[0x1f, 0x8b])
+}
+
+/// Says what standard input is in place of datagrams in hexadecimal, where it begins as a capture or a compressed file does.
+pub fn hint_of_dump<R: Eprint>(rt: &R, first: &[u8]) -> io::Result<()> {
+    if begins_as_capture(first) {
+        return eprintln!(rt; "gtpshow: standard input is a capture: 'capture' shows it");
+    }
+    if begins_as_compressed(first) {
+        return eprintln!(rt;
+            "gtpshow: standard input is compressed: 'zcat FILE | gtpshow capture -' shows a compressed capture"
+        );
+    }
+    Ok(())
+}
+
 /// Says why a file, or standard input, is no capture.
 pub fn hint_of_capture<R: Eprint, I>(rt: &R, name: &str, read: &Watched<I>) -> io::Result<()> {
+    if begins_as_compressed(&read.first) {
+        return eprintln!(rt;
+            "gtpshow: {name} is compressed: 'zcat FILE | gtpshow capture -' shows a compressed capture"
+        );
+    }
     if !begins_as_capture(&read.first) {
         return eprintln!(rt; "gtpshow: {name} does not begin as a capture does (pcap, pcapng)");
     }

@@ -17,7 +17,7 @@ use crate::capturing::{CaptureAsked, CaptureForm, capture_file};
 use crate::command::{Failure, command};
 use crate::dumping::dump_printed;
 use crate::explaining::explain_code;
-use crate::hinting::{hint, hint_of_version};
+use crate::hinting::{hint, hint_of_version, hint_of_words};
 use crate::replaying::replay_file;
 use crate::serving::gateway_printed;
 use crate::showing::{show, show_word};
@@ -185,6 +185,9 @@ fn run<R: Print + Eprint + Input + Env + Files + AllocGlobal>(rt: &R) -> Result<
         Err(error) if error.kind() == ErrorKind::OutOfMemory => return Err(Failure::Memory),
         Err(error) => {
             error.print(rt).map_err(|_| Failure::Write)?;
+            if error.kind() == ErrorKind::UnknownArgument {
+                let _ = hint_of_words(rt, &words);
+            }
             return Ok(if error.use_stderr() { 2 } else { 0 });
         }
     };
