@@ -1,0 +1,145 @@
+"""What can be said of a datagram beside the values of its elements: names, TEIDs and sequence numbers of its messages, the types
+and instances of their elements, octets that are left, and the code of its first fault. Of any octets, from anywhere: written
+after the standard and docs/FORMATS.md and not after the program."""
+
+from diagram import NAMES
+from decoding import ROWS, Fault, read_datagram, read_user_datagram
+
+CONTROL = {**NAMES["control"], 3: "version-not-supported"}
+USER = {**NAMES["user"], 31: "supported-extensions"}
+
+
+def fault_of(plane, octets):
+    """The code of the first fault, or None."""
+    try:
+        (read_user_datagram if plane == "user" else read_datagram)(octets)
+    except Fault as fault:
+        return fault.code
+    return None
+
+
+def control_head(octets):
+    """The type, TEID, sequence number, priority and size of the header at the front of octets, if there is one (TS 29.274 5.1)."""
+    if len(octets) < 8 or octets[0] >> 5 != 2:
+        return None
+    if octets[0] & 8 == 0:
+        return octets[1], None, int.from_bytes(octets[4:7], "big"), None, 8
+    if len(octets) < 12:
+        return None
+    return octets[1], octets[4:8].hex(), int.from_bytes(octets[8:11], "big"), octets[11] >> 4 if octets[0] & 4 else None, 12
+
+
+def messages_of(octets):
+    """The octets of the first message of a datagram, and those of a second one that it announces, if it is held whole."""
+    size = 4 + int.from_bytes(octets[2:4], "big")
+    if len(octets) >= 4 and octets[0] & 16 and len(octets) >= size and control_head(octets[:size]):
+        return octets[:size], octets[size:]
+    return octets, b""
+
+
+def whole_elements(octets):
+    """Type and instance of each element at the front of octets, and the octets that are left."""
+    found = []
+    while len(octets) >= 4 and len(octets) >= 4 + int.from_bytes(octets[1:3], "big"):
+        found.append((octets[0], octets[3] & 15))
+        octets = octets[4 + int.from_bytes(octets[1:3], "big"):]
+    return found, octets
+
+
+def named(names, kind):
+    return names.get(kind, f"type {kind}")
+
+
+def brief_message(octets):
+    kind, teid, seq, _, _ = control_head(octets)
+    return named(CONTROL, kind) + (f" teid {teid}" if teid else "") + f" seq {seq}"
+
+
+def user_number(octets):
+    """The sequence number, if the flag S is set and it is there (TS 29.281 5.1)."""
+    return int.from_bytes(octets[8:10], "big") if octets[0] & 2 and len(octets) >= 12 else None
+
+
+def brief_end(plane, octets):
+    """The end of the line of --brief of a datagram without a fault."""
+    if plane == "control":
+        return " then ".join(brief_message(it) for it in messages_of(octets) if it)
+    kind, number = octets[1], user_number(octets)
+    teid = "" if kind in (1, 2, 26, 31) else f" teid {octets[4:8].hex()}"
+    return named(USER, kind) + teid + (f" seq {number}" if number is not None else "")
+
+
+def outline_of_message(octets):
+    head = control_head(octets)
+    if head is None:
+        return [f"rest {octets.hex()}"] if octets else []
+    kind, teid, seq, priority, size = head
+    line = (f"gtpv2 type {kind} {CONTROL.get(kind, 'other')}" + (f" teid {teid}" if teid else "") + f" seq {seq}"
+            + (f" priority {priority}" if priority is not None else ""))
+    found, rest = whole_elements(octets[size:])
+    return [line] + [f"ie {kind} {instance}" for kind, instance in found] + ([f"rest {rest.hex()}"] if rest else [])
+
+
+def outline(plane, octets):
+    """The lines of --all without the values of elements, and of a fault its code. None for a user datagram without a fault."""
+    code = fault_of(plane, octets)
+    end = [f"fault {code}"] if code else []
+    if plane == "control":
+        if control_head(octets) is None:
+            return end
+        return [line for message in messages_of(octets) for line in outline_of_message(message)] + end
+    if not code:
+        return None
+    if len(octets) < 8 or octets[0] >> 4 != 3:
+        return end
+    number = user_number(octets)
+    rest = octets[8 if number is None else 12:]
+    line = f"gtpu type {octets[1]} {USER.get(octets[1], 'other')} teid {octets[4:8].hex()}"
+    return [line + (f" seq {number}" if number is not None else "")] + ([f"rest {rest.hex()}"] if rest else []) + end
+
+
+def outline_of_lines(lines):
+    """Lines of --all, without what an outline leaves out."""
+    kept = {"ie": 3, "fault": 2}
+    return [" ".join(line.split()[:kept.get(line.split()[0])]) for line in lines if not line.startswith("  ")]
+
+
+def members_of_message(octets):
+    kind, teid, seq, priority, size = control_head(octets)
+    members = {"type": kind, "name": CONTROL.get(kind), "teid": teid, "seq": seq, "priority": priority}
+    if kind in ROWS:
+        members["elements"] = whole_elements(octets[size:])[0]
+    else:
+        members["octets"] = octets[size:].hex()
+    return members
+
+
+def members(plane, octets):
+    """The members of the JSON of a datagram, of elements their type and instance, of a fault its code."""
+    code = fault_of(plane, octets)
+    if code:
+        return {"plane": plane, "fault": code}
+    if plane == "user":
+        kind = octets[1]
+        found = {"type": kind, "name": USER.get(kind), "teid": None if kind in (1, 2, 26, 31) else octets[4:8].hex(),
+                 "seq": user_number(octets)}
+    else:
+        first, second = messages_of(octets)
+        found = members_of_message(first)
+        if second:
+            found["second"] = {key: it for key, it in members_of_message(second).items() if it is not None}
+    return {"plane": plane, **{key: it for key, it in found.items() if it is not None}}
+
+
+def members_of_json(it):
+    """The members of an object of JSON that `members` has too."""
+    kept = {key: it[key] for key in ("plane", "type", "name", "teid", "seq", "priority") if key in it}
+    if "fault" in it:
+        kept["fault"] = it["fault"]["code"]
+    if "elements" in it:
+        kept["elements"] = [(element["type"], element["instance"]) for element in it["elements"]]
+    if "octets" in it and it.get("plane", "control") == "control":
+        kept["octets"] = it["octets"]
+    if "second" in it:
+        kept["second"] = members_of_json(it["second"])
+    return kept
