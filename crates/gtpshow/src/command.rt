@@ -21,6 +21,7 @@ Examples:
   gtpshow replay examples/scenarios/attach.json
   gtpshow explain CODE
 
+A message of any interface is judged by the rules of the interface S5/S8 (3GPP TS 29.274).
 Exit status: 0 shown, or replayed as expected; 1 a fault was shown, or an event came to something
 else; 2 bad words, hexadecimal, capture or scenario; 3 no memory, or a failed read or write";
 
