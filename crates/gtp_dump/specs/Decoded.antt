@@ -1,5 +1,5 @@
 -- What is told of the lines of a hex dump.
-use Rattle.std.specs.Prelude.{◌≡◌, ◌≢◌, ℕ, ◌+◌, ◌||◌, ◌⊎◌, Bool, true, false, List, [], ◌∷◌, ◌++◌, Option, codes, decimal}
+use Rattle.std.specs.Prelude.{◌≡◌, ℕ, ◌+◌, ◌||◌, ◌⊎◌, Bool, true, false, List, [], ◌∷◌, ◌++◌, Option, codes, decimal}
 use Rattle.std.specs.Io.KnownBytes.{Appends}
 use Rattle.gtp_counted.specs.Counts.{NoneFailed, FailedOnce, ClosedOnce}
 use Rattle.gtp_counted.specs.Lines.{BeginsWithLines}

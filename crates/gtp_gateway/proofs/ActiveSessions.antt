@@ -1,5 +1,5 @@
 -- Commands about an active session: the rules that come before all others.
-use Rattle.std.proofs.Common.{◌≡◌, ◌↔◌, inl, inr, ℕ, Some, Result, Ok, Err, refl, sym, ◌∙◌, ap, subst}
+use Rattle.std.proofs.Common.{◌≡◌, ◌↔◌, inl, inr, ℕ, Result, Ok, Err, refl, sym, ◌∙◌, ap, subst}
 use Rattle.std.specs.FinMap.{get}
 use Rattle.std.specs.Prelude.{IsErrAnd}
 use Rattle.gtp_machine.specs.declared.role.Role.{Role}
@@ -8,7 +8,7 @@ use Rattle.gtp_machine.specs.declared.outcome.Refusal.{Refusal}
 use Rattle.gtp_machine.specs.declared.outcome.Refusal.TheVariants.{WrongRole, NoSuchContext, NotActive}
 use Rattle.gtp_machine.specs.Command.{OnlyAt, OfActiveSession}
 use Rattle.gtp_machine.specs.Input.{Effect, refused}
-use Rattle.gtp_machine.specs.Node.{Active, Session, Node}
+use Rattle.gtp_machine.specs.Node.{Session, Node}
 use Rattle.gtp_machine.proofs.Basics.Facts.{one_value}
 use Rattle.gtp_gateway.specs.declared.fault.CommandFault.{CommandFault}
 use Rattle.gtp_gateway.specs.declared.fault.CommandFault.TheVariants.{Refused}

@@ -6,13 +6,12 @@ use Rattle.gtp_machine.specs.Config.{user_end}
 use Rattle.gtp_machine.specs.Message.{End_marker}
 use Rattle.gtp_machine.specs.Command.{MayGo, SendsPacket, ClosesBearer, NamesBearer}
 use Rattle.gtp_machine.specs.User.{ended_bearer}
-use Rattle.gtp_machine.specs.declared.outcome.Refusal.TheVariants.{NoSuchContext, NotActive, TeidsUsed, PendingFull, BearerEnded, PacketTooLong}
+use Rattle.gtp_machine.specs.declared.outcome.Refusal.TheVariants.{NoSuchContext, NotActive, PendingFull, BearerEnded, PacketTooLong}
 use Rattle.gtp_machine.specs.declared.outcome.Outcome.TheVariants.{GoneOut}
 use mathlib.Core.Logic.{∥∥₁_elim}
 use Rattle.gtp_machine.specs.Ordered.{Unless}
 use Rattle.gtp_machine.specs.Node.{Active, Session, Bearer, Node, written}
-use Rattle.gtp_machine.specs.Choice.{HasSession, HasBearer, HasDraws, HasPendingRoom}
-use Rattle.gtp_values.specs.declared.qos.Qos.{Qos}
+use Rattle.gtp_machine.specs.Choice.{HasSession, HasBearer, HasPendingRoom}
 use Rattle.gtp_machine.specs.Input.{Came_to, Effect, says, refused}
 use Rattle.gtp_machine.specs.Sound.{IsSound}
 use Rattle.gtp_machine.specs.declared.outcome.Refusal.{Refusal}

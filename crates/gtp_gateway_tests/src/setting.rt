@@ -13,18 +13,18 @@ const HEAD: &str = concat!(
     r#""apns":["internet"],"pool":"10.1.0.1","count":"#
 );
 
-/// A scenario with these events, whose packet gateway has so many addresses, from 10.1.0.1 on, with what else its head has
-/// behind the number, and holds an answer for so many ticks.
+/// A scenario with these events, whose packet gateway has these addresses, from 10.1.0.1 on: how many, and behind the number
+/// what else its head has. It holds an answer for so many ticks.
 pub(crate) fn scenario_of(
     alloc: Global,
-    addresses: &str,
+    packet: &str,
     hold: &str,
     events: &str,
 ) -> Result<String, Fail> {
     let mut text = String::new(alloc);
     for part in [
         HEAD,
-        addresses,
+        packet,
         r#"},"hold":"#,
         hold,
         r#","events":"#,

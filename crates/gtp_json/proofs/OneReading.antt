@@ -1,5 +1,5 @@
 -- The lines of a datagram and its object are of one reading.
-use Rattle.std.proofs.Common.{◌≡◌, ℕ, Bool, true, false, List, ◌++◌, inl, inr, refl, sym, ◌∙◌, ap}
+use Rattle.std.proofs.Common.{◌≡◌, ℕ, Bool, true, false, List, ◌++◌, inl, inr, refl, ◌∙◌, ap}
 use Rattle.json.specs.Json.{Json}
 use Rattle.gtp_values.specs.declared.plane.Plane.TheVariants as planes
 use Rattle.gtp_v2.specs.declared.fault.V2Fault.{V2Fault}
@@ -7,7 +7,6 @@ use Rattle.gtp_v2.specs.Message.{MessageValue}
 use Rattle.gtp_v2.specs.Pair.{DatagramValue, IsDatagram, IsDatagramFault, alone, both}
 use Rattle.gtp_v2.proofs.Pairs.{datagram_decided}
 use Rattle.gtp_user.specs.declared.fault.UserFault.{UserFault}
-use Rattle.gtp_user.specs.Message.{MessageValue as UserValue}
 use Rattle.gtp_user.specs.Datagram.{IsUserMessage, IsUserFault}
 use Rattle.gtp_user.proofs.Messages.{message_decided as user_decided}
 use Rattle.gtp_lines.specs.Control.{AloneLines, PairLines, ControlLines}
@@ -33,7 +32,7 @@ lines_of octets text (inr h) = let s = lines_both octets text h in (both s.0 s.1
 control_reading : (octets text : List ℕ) (faulty : Bool) (j : Json) (wrong : Bool) (ms : List (List ℕ × Json)) → ControlLines octets text faulty → ControlMembers octets ms wrong → j ≡ object_of (plane_member planes.Control ++ ms) → (faulty ≡ wrong) × OfOne planes.Control octets faulty text j
 control_reading octets text true j true ms (f, fails, is) (g, fault, ms_is) j_is =
     let one = one_of _ (IsDatagram octets) (IsDatagramFault octets) (datagram_decided octets) in
-    (refl, (f, is, j_is ∙ ap (λ xs. object_of (plane_member planes.Control ++ xs)) (ms_is ∙ ap (λ (z : V2Fault). fault_member (fault_members z)) (one.fault g f fault fails))))
+    (refl, (f, fails, is, j_is ∙ ap (λ xs. object_of (plane_member planes.Control ++ xs)) (ms_is ∙ ap (λ (z : V2Fault). fault_member (fault_members z)) (one.fault g f fault fails))))
 control_reading octets text true j false ms (f, fails, is) members j_is =
     let one = one_of _ (IsDatagram octets) (IsDatagramFault octets) (datagram_decided octets) in
     let s = spelled octets ms members in
@@ -50,7 +49,7 @@ control_reading octets text false j false ms lines members j_is =
 user_reading : (octets text : List ℕ) (faulty : Bool) (j : Json) (wrong : Bool) (ms : List (List ℕ × Json)) → UserLines octets text faulty → UserMembers octets ms wrong → j ≡ object_of (plane_member planes.User ++ ms) → (faulty ≡ wrong) × OfOne planes.User octets faulty text j
 user_reading octets text true j true ms (f, fails, is) (g, fault, ms_is) j_is =
     let one = one_of _ (IsUserMessage octets) (IsUserFault octets) (user_decided octets) in
-    (refl, (f, is, j_is ∙ ap (λ xs. object_of (plane_member planes.User ++ xs)) (ms_is ∙ ap (λ (z : UserFault). fault_member (user_fault_members z)) (one.fault g f fault fails))))
+    (refl, (f, fails, is, j_is ∙ ap (λ xs. object_of (plane_member planes.User ++ xs)) (ms_is ∙ ap (λ (z : UserFault). fault_member (user_fault_members z)) (one.fault g f fault fails))))
 user_reading octets text true j false ms (f, fails, is) (m, said, ms_is) j_is =
     let one = one_of _ (IsUserMessage octets) (IsUserFault octets) (user_decided octets) in
     absurd (one.either m f said fails)
@@ -59,7 +58,7 @@ user_reading octets text false j true ms (m, said, is) (f, fails, ms_is) j_is =
     absurd (one.either m f said fails)
 user_reading octets text false j false ms (m, said, is) (n, other, ms_is) j_is =
     let one = one_of _ (IsUserMessage octets) (IsUserFault octets) (user_decided octets) in
-    (refl, (m, is, j_is ∙ ap (λ xs. object_of (plane_member planes.User ++ xs)) (ms_is ∙ ap user_members (one.value n m other said))))
+    (refl, (m, said, is, j_is ∙ ap (λ xs. object_of (plane_member planes.User ++ xs)) (ms_is ∙ ap user_members (one.value n m other said))))
 
 pub one_reading : OneReading
 one_reading planes.Control octets text faulty j wrong lines (ms, members, is) = control_reading octets text faulty j wrong ms lines members is

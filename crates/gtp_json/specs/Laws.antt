@@ -4,10 +4,10 @@ use Rattle.json.specs.Json.{Json}
 use Rattle.gtp_values.specs.declared.plane.Plane.{Plane}
 use Rattle.gtp_values.specs.declared.plane.Plane.TheVariants as planes
 use Rattle.gtp_v2.specs.declared.fault.V2Fault.{V2Fault}
-use Rattle.gtp_v2.specs.Pair.{DatagramValue, IsDatagram}
+use Rattle.gtp_v2.specs.Pair.{DatagramValue, IsDatagram, IsDatagramFault}
 use Rattle.gtp_user.specs.declared.fault.UserFault.{UserFault}
 use Rattle.gtp_user.specs.Message.{MessageValue as UserValue}
-use Rattle.gtp_user.specs.Datagram.{IsUserMessage}
+use Rattle.gtp_user.specs.Datagram.{IsUserMessage, IsUserFault}
 use Rattle.gtp_capture.specs.Seen.{Seen}
 use Rattle.gtp_lines.specs.Control.{fault_line}
 use Rattle.gtp_lines.specs.Lines.{LinesOf}
@@ -27,12 +27,13 @@ OneLine =
 abbrev pub OneFrameLine : Type 0
 OneFrameLine = (d : Seen) (text : List ℕ) (faulty : Bool) (other : List ℕ) (wrong : Bool) → FrameJson d text faulty → FrameJson d other wrong → (text ≡ other) × (faulty ≡ wrong)
 
--- the text and the object say one fault; or they say one message, which is all that the octets spell
+-- the text and the object say the one fault of the octets, or their one message of the user plane; of a datagram of the control plane the octets spell one and
+-- no other, so both are of that
 abbrev pub OfOne : Plane → List ℕ → Bool → List ℕ → Json → Type 0
-OfOne planes.Control octets true text j = (f : V2Fault) × (text ≡ fault_line f) × (j ≡ object_of (plane_member planes.Control ++ fault_member (fault_members f)))
+OfOne planes.Control octets true text j = (f : V2Fault) × IsDatagramFault octets f × (text ≡ fault_line f) × (j ≡ object_of (plane_member planes.Control ++ fault_member (fault_members f)))
 OfOne planes.Control octets false text j = (d : DatagramValue) × IsDatagram octets d × ((other : DatagramValue) → IsDatagram octets other → other ≡ d)
-OfOne planes.User octets true text j = (f : UserFault) × (text ≡ user_fault_line f) × (j ≡ object_of (plane_member planes.User ++ fault_member (user_fault_members f)))
-OfOne planes.User octets false text j = (m : UserValue) × (text ≡ user_lines m) × (j ≡ object_of (plane_member planes.User ++ user_members m))
+OfOne planes.User octets true text j = (f : UserFault) × IsUserFault octets f × (text ≡ user_fault_line f) × (j ≡ object_of (plane_member planes.User ++ fault_member (user_fault_members f)))
+OfOne planes.User octets false text j = (m : UserValue) × IsUserMessage octets m × (text ≡ user_lines m) × (j ≡ object_of (plane_member planes.User ++ user_members m))
 
 -- the lines of a datagram and its object are of one reading
 abbrev pub OneReading : Type 0

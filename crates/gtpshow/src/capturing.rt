@@ -3,7 +3,7 @@
 ghost use Rattle.std.specs.Prelude.{◌≡◌, ◌≢◌, ◌-◌, ◌^◌, ◌<◌, ◌≤◌, ◌⊎◌, ◌++◌, ℕ, length, decimal, Err, IfOk, IfErr, IfSome, IfNone, OnOk};
 ghost use Rattle.std.specs.Io.KnownBytes.{Appends};
 ghost use Rattle.gtp_counted.specs.Counts.{inner_of, failures_of};
-ghost use Rattle.gtp_capture.specs.Seen.{Seen, seen_of};
+ghost use Rattle.gtp_capture.specs.Seen.{seen_of};
 ghost use Rattle.gtp_capture.specs.reading.Packet.{packet_of};
 ghost use Rattle.gtpshow.specs.Captured.{nothing_shown, is_cut, counted, counts_line, counts_json, last_line, capture_status, IsShownAs, IsFull, TakesFrame, RefusesFrame, AreFramesShown, IsCaptureShown, IsBrokenShown, IsFirstShown, IsNoCapture};
 ghost use Rattle.gtpshow.specs.Stops.{TellsReads, TellsClosed, StopsCounts, StopsCapture};

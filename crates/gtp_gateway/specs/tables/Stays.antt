@@ -11,7 +11,7 @@ pub record OnlyTablesChange (old new : Parts) : Type 0 where
   pub config : new.config ≡ old.config
   pub role : new.role ≡ old.role
 
--- sessions, bearers and requests may go, and no other begins: what waits after it waited before, and is sent again at the same times
+-- requests may go and none begins: what waits after it waited before, the times and the next number stay, and no TEID is drawn
 pub record OnlyRemoves (old new : Parts) : Type 0 where
   pub only : OnlyTablesChange old new
   pub waits : RequestsWaitOn (state_of old) (state_of new)

@@ -5,14 +5,12 @@ ghost use Rattle.gtp_ie.specs.declared.form.Form.TheVariants as forms;
 ghost use Rattle.std.specs.Prelude.{◌≡◌, ◌↔◌, ◌∷◌, [], IsTrue};
 ghost use Rattle.gtp_ie.specs.Value.{OfCause};
 ghost use Rattle.gtp_v2.specs.Viewed.{row_of, always_has};
-ghost use Rattle.gtp_reliable.specs.Pending.{purpose_of, SameTimes};
+ghost use Rattle.gtp_reliable.specs.Pending.{purpose_of};
 ghost use Rattle.gtp_machine.specs.Node.{written};
 ghost use Rattle.gtp_machine.specs.Removal.{finished_about};
 ghost use Rattle.gtp_gateway.specs.Parts.{node_of};
 ghost use Rattle.gtp_gateway.specs.command.Purpose.{session_of, bearer_of};
-ghost use Rattle.gtp_gateway.specs.GatewayState.{state_of};
 ghost use Rattle.gtp_gateway.specs.tables.Stays.{OnlyRemoves};
-ghost use Rattle.gtp_gateway.specs.user.Receive.{RequestsWaitOn};
 
 use crate::command::purpose::Purpose;
 use crate::parts::Parts;
