@@ -22,12 +22,12 @@ each_datagram() {
     "$1" "$(basename "$(dirname "$file")")" "$(sed -n 's/^\([0-9a-f]*\).*/\1/p' "$file" | tr -d '\n')" "${file%.hex}.lines"
   done
   for name in control control-lengths user; do
-    each_line "$1" "${name%-lengths}" "tests/lines/$name" "$2"
+    each_of_file "$1" "${name%-lengths}" "tests/lines/$name" "$2"
   done
 }
 
-# each_line COMMAND PLANE FROM FILE: the same for the datagrams of one file.
-each_line() {
+# each_of_file COMMAND PLANE FROM FILE: the same for the datagrams of one file.
+each_of_file() {
   local line digits=
   : > "$4"
   while IFS= read -r line || [ -n "$line" ]; do

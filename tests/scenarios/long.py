@@ -168,8 +168,8 @@ def deleted(first):
 def versions_with_template():
     """Sessions of each IP version that get a bearer at once, and those that get no address and so no bearer."""
 
-    def case(name, count, pool6, *parts):
-        return made(f"sessions with a bearer at once: {name}", *parts, packet={**with_template(), "count": count, **pool6})
+    def case(name, count, networks, *parts):
+        return made(f"sessions with a bearer at once: {name}", *parts, packet={**with_template(), "count": count, **networks})
 
     def pool6(count, first=FIRST6):
         return {"pool6": first, "count6": count}
