@@ -131,6 +131,48 @@ def members(plane, octets):
     return {"plane": plane, **{key: it for key, it in found.items() if it is not None}}
 
 
+def shown_of_message(octets):
+    """The members of a message of --all: those of its header, its whole elements, and the octets that are left."""
+    head = control_head(octets)
+    if head is None:
+        return {"rest": octets.hex()} if octets else {}
+    kind, teid, seq, priority, size = head
+    found, rest = whole_elements(octets[size:])
+    shown = {"type": kind, "name": CONTROL.get(kind), "teid": teid, "seq": seq, "priority": priority, "elements": found,
+             "rest": rest.hex() or None}
+    return {key: it for key, it in shown.items() if it is not None}
+
+
+def is_pair(octets):
+    """Whether a second message is announced, and the first one is held whole and has a header."""
+    size = 4 + int.from_bytes(octets[2:4], "big")
+    return len(octets) >= max(4, size) and octets[0] & 16 != 0 and control_head(octets[:size]) is not None
+
+
+def shown_of_user(octets):
+    if len(octets) < 8 or octets[0] >> 4 != 3:
+        return {}
+    number = user_number(octets)
+    rest = octets[8 if number is None else 12:]
+    shown = {"type": octets[1], "name": USER.get(octets[1]), "teid": octets[4:8].hex(), "seq": number, "rest": rest.hex() or None}
+    return {key: it for key, it in shown.items() if it is not None}
+
+
+def all_members(plane, octets):
+    """The members of the JSON of --all, of elements their type and instance, of a fault its code."""
+    code = fault_of(plane, octets)
+    if plane == "user" and not code:
+        return members(plane, octets)
+    if plane == "user":
+        shown = shown_of_user(octets)
+    elif is_pair(octets):
+        first, second = messages_of(octets)
+        shown = {**shown_of_message(first), "second": shown_of_message(second)}
+    else:
+        shown = shown_of_message(octets) if control_head(octets) else {}
+    return {"plane": plane, **shown} | ({"fault": code} if code else {})
+
+
 def members_of_json(it):
     """The members of an object of JSON that `members` has too."""
     kept = {key: it[key] for key in ("plane", "type", "name", "teid", "seq", "priority") if key in it}
@@ -140,6 +182,8 @@ def members_of_json(it):
         kept["elements"] = [(element["type"], element["instance"]) for element in it["elements"]]
     if "octets" in it and it.get("plane", "control") == "control":
         kept["octets"] = it["octets"]
+    if "rest" in it:
+        kept["rest"] = it["rest"]
     if "second" in it:
         kept["second"] = members_of_json(it["second"])
     return kept

@@ -8,6 +8,7 @@ use Rattle.gtp_values.specs.declared.plane.Plane.{Plane}
 use Rattle.gtp_lines.specs.Lines.{LinesOf}
 use Rattle.gtp_lines.specs.All.{AllLines}
 use Rattle.gtp_json.specs.Datagram.{DatagramJson}
+use Rattle.gtp_json.specs.All.{AllJson}
 use Rattle.gtp_dump.specs.Text.{Spells, IsBlank, IsBad}
 use Rattle.gtp_dump.specs.Flaw.{flaw_text, IsFlaw}
 use Rattle.gtp_dump.specs.declared.flaw.Flaw.{Flaw}
@@ -36,6 +37,7 @@ abbrev pub ShowsAs : Form → Plane → List ℕ → List ℕ → Bool → Type 
 ShowsAs forms.Lines plane octets text faulty = LinesOf plane octets text faulty
 ShowsAs forms.All plane octets text faulty = AllLines plane octets text faulty
 ShowsAs forms.Json plane octets text faulty = DatagramJson plane octets text faulty
+ShowsAs forms.AllJson plane octets text faulty = AllJson plane octets text faulty
 
 -- this of the datagram of a line
 abbrev pub ShowsOne : Asked → List ℕ → List ℕ → Bool → Type 0
@@ -46,6 +48,7 @@ abbrev pub index_line : Form → ℕ → List ℕ
 index_line forms.Lines index = datagram_line index
 index_line forms.All index = datagram_line index
 index_line forms.Json index = []
+index_line forms.AllJson index = []
 
 -- of a datagram its index, and then this
 abbrev pub Shows : Form → Plane → List ℕ → ℕ → List ℕ → Bool → Type 0

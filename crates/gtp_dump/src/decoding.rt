@@ -10,7 +10,7 @@ use crate::flaw::{Flaw, flaw_of, put_flaw};
 use crate::holding::next_line;
 use crate::text::{Dumped, LineFault, read_line};
 use gtp_counted::{Counted, Failed};
-use gtp_json::datagram_json;
+use gtp_json::{all_json, datagram_json};
 use gtp_lines::text::{put, put_number};
 use gtp_lines::{Shown, all_lines, decode_lines};
 use gtp_values::{Memory, Plane};
@@ -25,8 +25,10 @@ pub enum Form {
     Lines,
     /// The lines of all that can be shown of it, and then of its fault.
     All,
-    /// A JSON object on one line.
+    /// A JSON object on one line: its message, or its first fault.
     Json,
+    /// A JSON object on one line: all that can be shown of it, and then its fault.
+    AllJson,
 }
 
 /// How the lines of a dump are read and shown.
@@ -113,6 +115,7 @@ fn lines_of(alloc: Global, form: Form, dumped: &Dumped) -> Result<Shown, Memory>
         Form::Lines => decode_lines(alloc, dumped.plane, &dumped.octets),
         Form::All => all_lines(alloc, dumped.plane, &dumped.octets),
         Form::Json => datagram_json(alloc, dumped.plane, &dumped.octets),
+        Form::AllJson => all_json(alloc, dumped.plane, &dumped.octets),
     }
 }
 
@@ -127,7 +130,7 @@ fn put_index(out: &mut Vec<u8>, form: Form, index: u64) -> Result<(), AllocError
             put_number(out, index)?;
             put(out, b"\n")
         }
-        Form::Json => Ok(()),
+        Form::Json | Form::AllJson => Ok(()),
     }
 }
 

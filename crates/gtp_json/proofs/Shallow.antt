@@ -25,12 +25,16 @@ use Rattle.gtp_user.specs.declared.fault.UserFault.TheVariants as user_faults
 use Rattle.gtp_user.specs.Chain.{Extension}
 use Rattle.gtp_user.specs.Message.{EchoRequest, EchoResponse, ErrorIndication, Notification, EndMarker, Packet, Other}
 use Rattle.gtp_user.specs.Message.{Content as UserContent, MessageValue as UserMessage}
-use Rattle.gtp_json.specs.Tree.{members_of, items_of, member, object_of, array_of}
+use Rattle.gtp_json.specs.Tree.{members_of, items_of, member, object_of, array_of, number_of}
 use Rattle.gtp_json.specs.Values.{offending_members, cause_members, paa_members, v4_members, v6_members, end_members, value_json, octets_members, named_members, form_members, body_members}
-use Rattle.gtp_json.specs.Control.{element_head, inner_json, group_members, element_members, element_json, named_by, title_members, teid_members, priority_members, head_members, CarriedMembers, MessageMembers, second_member, element_fault_members, fault_members, fault_member, ControlMembers}
-use Rattle.gtp_json.specs.User.{user_title, target_members, some_member, user_head, extension_json, extensions_members, user_carried, user_members, user_fault_members, UserMembers}
+use Rattle.gtp_json.specs.Control.{element_head, inner_json, group_members, element_members, element_json, named_by, title_members, teid_members, priority_members, head_members, elements_members, CarriedMembers, MessageMembers, second_member, element_fault_members, fault_members, fault_member, ControlMembers}
+use Rattle.gtp_lines.specs.User.{user_name}
+use Rattle.gtp_json.specs.User.{named, user_title, target_members, some_member, user_head, extension_json, extensions_members, user_carried, user_members, user_fault_members, UserMembers}
 use Rattle.gtp_json.specs.Datagram.{plane_member, DatagramMembers}
-use Rattle.gtp_json.specs.Frames.{path_members, frame_members, held_members, part_members, RestMembers}
+use Rattle.gtp_v2.specs.Headed.{Headed}
+use Rattle.gtp_lines.specs.All.{UserHead, head_at, pair_at, user_head_at}
+use Rattle.gtp_json.specs.All.{rest_members, headed_members, MessageShown, AloneShown, SecondShown, ShownBy, is_named, kind_members, user_shown, AllMembers}
+use Rattle.gtp_json.specs.Frames.{path_members, frame_members, held_members, part_members, RestMembers, AllRestMembers}
 use Rattle.gtp_capture.specs.Packet.{Packet as Captured}
 use Rattle.gtp_capture.specs.Seen.{Seen}
 
@@ -285,6 +289,50 @@ pub datagram_within : (plane : Plane) (octets : List ℕ) (ms : List (List ℕ �
 datagram_within planes.Control octets ms faulty h = control_within octets ms faulty h
 datagram_within planes.User octets ms faulty h = user_within octets ms faulty h
 
+-- ---- all that can be shown
+
+left_within : (octets : List ℕ) → Within 6 (rest_members octets)
+unfolding member
+left_within [] = tt
+left_within (octet ∷ octets) = (omega arith, tt)
+
+shown_within : (h : Headed) (ms : List (List ℕ × Json)) → MessageShown h ms → Within 6 ms
+unfolding member
+shown_within h ms (es, rest, front, is) =
+    let head = join 6 (title_members h.kind) _ (title_within h.kind) (join 6 (teid_members h.teid) _ (teid_within h.teid) (omega arith, priority_within h.priority)) in
+    let elements : Within 6 (elements_members es) = (array_depth 5 element_json es element_depth, tt) in
+    subst (Within 6) (sym is) (join 6 (headed_members h) _ head (join 6 (elements_members es) (rest_members rest) elements (left_within rest)))
+
+alone_within : (h : Option Headed) (ms : List (List ℕ × Json)) → AloneShown h ms → Within 6 ms
+alone_within None ms is = subst (Within 6) (sym is) tt
+alone_within (Some h) ms shown = shown_within h ms shown
+
+second_within : (octets : List ℕ) (h : Option Headed) (ms : List (List ℕ × Json)) → SecondShown octets h ms → Within 6 ms
+second_within octets None ms is = subst (Within 6) (sym is) (left_within octets)
+second_within octets (Some h) ms shown = shown_within h ms shown
+
+by_within : (pair : Option (Headed × List ℕ)) (whole : Option Headed) (ms : List (List ℕ × Json)) → ShownBy pair whole ms → Within 7 ms
+by_within None whole ms shown = more 6 7 ms (omega arith) (alone_within whole ms shown)
+by_within (Some pair) whole ms (a, b, first, second, is) =
+    subst (Within 7) (sym is) (join 7 a (second_member b) (more 6 7 a (omega arith) (shown_within pair.0 a first)) (one 7 (codes "second") (object_of b) (object_depth 6 b (second_within pair.1 (head_at pair.1) b second))))
+
+kind_within : (kind : ℕ) → Within 7 (kind_members kind)
+unfolding member
+kind_within kind = chosen_within (is_named kind) 7 (named kind (user_name kind)) (member (codes "type") (number_of kind)) (omega arith, (omega arith, tt)) (omega arith, tt)
+
+user_shown_within : (h : Option UserHead) → Within 7 (user_shown h)
+unfolding member
+user_shown_within None = tt
+user_shown_within (Some h) = join 7 (kind_members h.kind) _ (kind_within h.kind) (omega arith, join 7 (some_member (codes "seq") h.seq) (rest_members h.rest) (some_within (codes "seq") h.seq) (more 6 7 (rest_members h.rest) (omega arith) (left_within h.rest)))
+
+pub all_within : (plane : Plane) (octets : List ℕ) (ms : List (List ℕ × Json)) (faulty : Bool) → AllMembers plane octets ms faulty → Within 7 ms
+all_within planes.Control octets ms true (f, first, (shown, how, is)) =
+    subst (Within 7) (sym is) (join 7 shown _ (by_within (pair_at octets) (head_at octets) shown how) (fault_member_within (fault_members f) (fault_within f)))
+all_within planes.User octets ms true (f, first, is) =
+    subst (Within 7) (sym is) (join 7 (user_shown (user_head_at octets)) _ (user_shown_within (user_head_at octets)) (fault_member_within (user_fault_members f) (user_fault_within f)))
+all_within planes.Control octets ms false (is, how) = by_within (pair_at octets) (head_at octets) ms how
+all_within planes.User octets ms false h = user_within octets ms false h
+
 pub plane_within : (plane : Plane) → Within 7 (plane_member plane)
 plane_within plane = one 7 (codes "plane") _ (omega arith)
 
@@ -305,3 +353,7 @@ part_within p = chosen_within p.fragment 7 (member (codes "fragment") (boolean t
 pub rest_within : (p : Captured) (ms : List (List ℕ × Json)) (faulty : Bool) → RestMembers p ms faulty → Within 7 ms
 rest_within p ms faulty (inl (part, none, is)) = subst (Within 7) (sym is) (part_within p)
 rest_within p ms faulty (inr (all, h)) = datagram_within p.plane p.octets ms faulty h
+
+pub all_rest_within : (p : Captured) (ms : List (List ℕ × Json)) (faulty : Bool) → AllRestMembers p ms faulty → Within 7 ms
+all_rest_within p ms faulty (inl (part, none, is)) = subst (Within 7) (sym is) (part_within p)
+all_rest_within p ms faulty (inr (all, h)) = all_within p.plane p.octets ms faulty h

@@ -52,6 +52,17 @@ whole o m n p q a b none one two three four =
     let all : q ≡ (opened ++ written (a ++ b)) ++ closed = four ∙ (ap (λ (ts : List Token). ts ++ closed) members ∙ ap (λ (ts : List Token). (ts ++ written (a ++ b)) ++ closed) start) in
     all ∙ (append_assoc opened (written (a ++ b)) closed ∙ sym (object_tokens (a ++ b)))
 
+-- a member whose value is an object, written piece by piece
+pub nested : (name : List ℕ) (b : List (List ℕ × Json)) (m n o p q : List Token) → n ≡ m ++ keyed name → o ≡ n ++ opened → p ≡ o ++ written b → q ≡ p ++ closed → q ≡ m ++ written (member name (object_of b))
+nested name b m n o p q key begins members ends =
+    let w = written b in
+    ends
+    ∙ (ap (λ (ts : List Token). ts ++ closed) (members ∙ ap (λ (ts : List Token). ts ++ w) (begins ∙ ap (λ (ts : List Token). ts ++ opened) key))
+    ∙ (append_assoc ((m ++ keyed name) ++ opened) w closed
+    ∙ (append_assoc (m ++ keyed name) opened (w ++ closed)
+    ∙ (append_assoc m (keyed name) (opened ++ (w ++ closed))
+    ∙ (ap (λ (ts : List Token). m ++ (keyed name ++ ts)) (sym (object_tokens b)) ∙ ap (λ (ts : List Token). m ++ ts) (sym (member_tokens_are name (object_of b))))))))
+
 -- of members that stand in an object one after the other
 pub ruleset appending = (append_assoc, append-nil, written-append, written-nil)
 

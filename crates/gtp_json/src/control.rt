@@ -16,7 +16,7 @@ use crate::object::Output;
 use crate::values::{put_body, put_octets};
 use gtp_ie::{ElementView, Elements, IeFault};
 use gtp_v2::{BEARER_CONTEXT, DatagramView, MessageView, V2Fault, type_name, view};
-use gtp_values::{Below, Teid};
+use gtp_values::{Below, Seq, Teid};
 use std::alloc::AllocError;
 
 /// Writes what stands before an element's value.
@@ -114,7 +114,7 @@ fn put_all_elements(out: &mut Output, elements: &Elements) -> Result<(), AllocEr
 
 /// Writes the member of elements.
 #[tactic(auto, using(crate::proofs::Tokens::nesting, crate::proofs::Tokens::array_tokens))]
-fn put_elements(out: &mut Output, elements: &Elements) -> Result<(), AllocError>
+pub fn put_elements(out: &mut Output, elements: &Elements) -> Result<(), AllocError>
     ensures ok { OnOk result (out.new ≡ out.old ++ written (elements_members elements.now)) }
 {
     out.key("elements")?;
@@ -166,15 +166,30 @@ fn put_some_priority(out: &mut Output, priority: Option<Below<16>>) -> Result<()
     }
 }
 
-/// Writes what a message's header says.
+/// Writes what a header says.
 #[tactic(auto, using(crate::proofs::Tokens::appending))]
+pub fn put_head_members(
+    out: &mut Output,
+    kind: u8,
+    teid: Option<Teid>,
+    seq: Seq,
+    priority: Option<Below<16>>,
+) -> Result<(), AllocError>
+    ensures ok { OnOk result (out.new ≡ out.old
+        ++ written (title_members kind ++ (teid_members (option_map (λ t. t.0) teid)
+        ++ (member (codes "seq") (number_of seq) ++ priority_members priority)))) }
+{
+    put_title(out, kind)?;
+    put_some_teid(out, teid)?;
+    out.number_member("seq", u64::from(seq.number()))?;
+    put_some_priority(out, priority)
+}
+
+/// Writes what a message's header says.
 fn put_head(out: &mut Output, seen: &MessageView) -> Result<(), AllocError>
     ensures ok { OnOk result (out.new ≡ out.old ++ written (head_members seen.now.message)) }
 {
-    put_title(out, seen.kind())?;
-    put_some_teid(out, seen.teid())?;
-    out.number_member("seq", u64::from(seen.seq().number()))?;
-    put_some_priority(out, seen.priority())
+    put_head_members(out, seen.kind(), seen.teid(), seen.seq(), seen.priority())
 }
 
 /// Writes what a message carries.
@@ -333,7 +348,7 @@ fn put_fault_detail(out: &mut Output, fault: &V2Fault) -> Result<(), AllocError>
 
 /// Writes the member of a fault.
 #[tactic(auto, using(crate::proofs::Tokens::nesting))]
-fn put_fault(out: &mut Output, fault: &V2Fault) -> Result<(), AllocError>
+pub fn put_fault(out: &mut Output, fault: &V2Fault) -> Result<(), AllocError>
     ensures ok { OnOk result
         (out.new ≡ out.old ++ written (fault_member (fault_members fault.now))) }
 {

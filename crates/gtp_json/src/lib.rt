@@ -1,6 +1,7 @@
 //! A GTP datagram as one JSON object on one line (RFC 8259): what `gtp_lines` shows as lines, for programs.
 #![tactic(auto)]
 
+mod all;
 mod control;
 mod datagram;
 mod frames;
@@ -9,8 +10,9 @@ mod object;
 mod user;
 mod values;
 
+pub use all::all_json;
 pub use datagram::datagram_json;
-pub use frames::{frame_json, put_end};
+pub use frames::{all_frame_json, frame_json, put_end};
 pub use object::Output;
 
 /// What the signatures here name of the crates below.

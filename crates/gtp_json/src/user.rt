@@ -18,7 +18,7 @@ use std::alloc::AllocError;
 
 /// Writes the type of a message, by its number and its name.
 #[tactic(auto, using(crate::proofs::Tokens::appending))]
-fn put_named(out: &mut Output, kind: u8, name: &str) -> Result<(), AllocError>
+pub fn put_named(out: &mut Output, kind: u8, name: &str) -> Result<(), AllocError>
     ensures ok { OnOk result (out.new ≡ out.old ++ written (named kind name.now)) }
 {
     out.number_member("type", u64::from(kind))?;
@@ -55,7 +55,7 @@ fn put_target(out: &mut Output, body: &UserBody) -> Result<(), AllocError>
 
 /// Writes a number, where there is one.
 #[tactic(auto, using(crate::proofs::Tokens::appending))]
-fn put_some(out: &mut Output, name: &str, number: Option<u64>) -> Result<(), AllocError>
+pub fn put_some(out: &mut Output, name: &str, number: Option<u64>) -> Result<(), AllocError>
     ensures ok { OnOk result (out.new ≡ out.old ++ written (some_member name.now number)) }
 {
     match number {
@@ -135,7 +135,7 @@ fn put_carried(out: &mut Output, body: &UserBody) -> Result<(), AllocError>
 
 /// Writes the members of a message.
 #[tactic(auto, using(crate::proofs::Tokens::appending))]
-fn put_message(out: &mut Output, message: &UserMessage) -> Result<(), AllocError>
+pub fn put_message(out: &mut Output, message: &UserMessage) -> Result<(), AllocError>
     ensures ok { OnOk result
         (out.new ≡ out.old ++ written (user_members (message_value message.now))) }
 {
@@ -187,7 +187,7 @@ fn put_fault_detail(out: &mut Output, fault: &UserFault) -> Result<(), AllocErro
 
 /// Writes the member of a fault.
 #[tactic(auto, using(crate::proofs::Tokens::nesting))]
-fn put_fault(out: &mut Output, fault: &UserFault) -> Result<(), AllocError>
+pub fn put_fault(out: &mut Output, fault: &UserFault) -> Result<(), AllocError>
     ensures ok { OnOk result
         (out.new ≡ out.old ++ written (fault_member (user_fault_members fault.now))) }
 {

@@ -17,6 +17,11 @@ pub use all::all_lines;
 pub use control::message_name;
 pub use lines::{Shown, decode_lines};
 
+/// What is there of a datagram at fault: headers, whatever length they state, and the whole elements behind them.
+pub use fronts::front_elements;
+pub use header::{Header, head_at, pair_at};
+pub use user_header::{UserHeader, user_head_at};
+
 /// The pieces of these lines, for other lines.
 pub use control::{put_fault_line, put_some_teid};
 pub use user::{put_some, put_target, put_user_fault_line, user_name};

@@ -16,7 +16,7 @@ use crate::replaying::unopened;
 use gtp_capture::{CaptureFault, Captured, Packet, Ports, Refused, Sink, Stop, read_capture};
 use gtp_counted::{Counted, Failed};
 use gtp_frames::{Form, Shown, frame_lines};
-use gtp_json::frame_json;
+use gtp_json::{all_frame_json, frame_json};
 use gtp_lines::text::{put, put_number};
 use gtp_values::Memory;
 use std::alloc::{AllocError, Global};
@@ -110,7 +110,7 @@ fn last_line(
 {
     match form {
         CaptureForm::Text(_) => counts_text(alloc, frames, counts),
-        CaptureForm::Json => counts_object(alloc, frames, counts),
+        CaptureForm::Json | CaptureForm::AllJson => counts_object(alloc, frames, counts),
     }
 }
 
@@ -136,6 +136,8 @@ pub enum CaptureForm {
     Text(Form),
     /// As JSON objects, one a line.
     Json,
+    /// As JSON objects, one a line, with all that can be shown of a datagram at fault.
+    AllJson,
 }
 
 /// What is shown of a datagram.
@@ -146,6 +148,7 @@ fn shown_as(alloc: Global, form: CaptureForm, captured: &Captured) -> Result<Sho
     match form {
         CaptureForm::Text(form) => frame_lines(alloc, form, captured),
         CaptureForm::Json => frame_json(alloc, captured),
+        CaptureForm::AllJson => all_frame_json(alloc, captured),
     }
 }
 

@@ -43,12 +43,11 @@ fn decode<R: Print + Eprint + Input>(
     ensures { IfOk result (λ status. status ≤ 2) }
 {
     let digits = asked.get_str("octets").unwrap_or("");
-    let form = if asked.get_flag("json") {
-        gtp_dump::Form::Json
-    } else if asked.get_flag("all") {
-        gtp_dump::Form::All
-    } else {
-        gtp_dump::Form::Lines
+    let form = match (asked.get_flag("json"), asked.get_flag("all")) {
+        (true, true) => gtp_dump::Form::AllJson,
+        (true, false) => gtp_dump::Form::Json,
+        (false, true) => gtp_dump::Form::All,
+        (false, false) => gtp_dump::Form::Lines,
     };
     let plane = if asked.get_flag("user") {
         Some(Plane::User)
@@ -93,11 +92,14 @@ fn capture_asked<R: Print + Eprint + Input + Files>(
 ) -> Result<u8, Failure>
     ensures { IfOk result (λ status. status ≤ 2) }
 {
-    let form = if asked.get_flag("json") {
+    let is_all = asked.get_flag("all");
+    let form = if asked.get_flag("json") && is_all {
+        CaptureForm::AllJson
+    } else if asked.get_flag("json") {
         CaptureForm::Json
     } else if asked.get_flag("brief") {
         CaptureForm::Text(Form::Brief)
-    } else if asked.get_flag("all") {
+    } else if is_all {
         CaptureForm::Text(Form::All)
     } else {
         CaptureForm::Text(Form::Lines)
