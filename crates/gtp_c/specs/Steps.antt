@@ -1,5 +1,5 @@
 -- What happens to a gateway and to the datagrams that wait to be taken.
-use Rattle.std.specs.Prelude.{◌≡◌, ℕ, List, [], ◌∷◌, ◌++◌, ◌<◌, drop, take, length, Option, Some, None, slice_index_or, option_to_list}
+use Rattle.std.specs.Prelude.{◌≡◌, ℕ, List, [], ◌∷◌, ◌++◌, ◌<◌, ◌≤◌, IsSome, drop, take, length, Option, Some, None, slice_index_or, option_to_list}
 use Rattle.std.specs.VecDeque.{deque_len}
 use Rattle.gtp_values.specs.declared.address.Endpoint.{Endpoint}
 use Rattle.gtp_machine.specs.Input.{Command, Mark_end, Send_user, Commanded, refused}
@@ -38,13 +38,15 @@ abbrev pub IsPayloadOf : Plane → Option Accepted → List ℕ → Type 0
 IsPayloadOf Control accepted octets = Unit {0}
 IsPayloadOf User accepted octets = IsPayload accepted octets
 
--- a datagram was received: that is a step of the machine, what it sends waits behind all that waited, and what it came to is told
+-- a datagram was received: that is a step of the machine, what it sends waits behind all that waited, and what it came to is told; an accepted packet
+-- changes nothing
 pub record HasReceived (plane : Plane) (source : Endpoint) (octets : List ℕ) (told : Told) (old new : Desk) : Type 0 where
   pub step : Step
   pub received : IsReceived plane source octets old.gateway step new.gateway
   pub queues : QueuesAfterReceive plane source octets step old.gateway new.gateway
   pub choices : ChoosesLowest step.report.made old.gateway.role old.gateway.node new.gateway.node
   pub payload : IsPayloadOf plane step.accepted octets
+  pub packet : IsSome step.accepted → new.gateway ≡ old.gateway
   pub waiting : new.waiting.items ≡ old.waiting.items ++ option_to_list step.out
   pub tells : told ≡ step_told step (deque_len new.waiting)
 
@@ -89,11 +91,13 @@ pub record IsRefused (command : Command) (told : Told) (old new : Desk) : Type 0
   pub refuses : MachineStep old.gateway.role old.gateway.node (Commanded command) (refused old.gateway.node why)
   pub tells : told ≡ refused_told why (deque_len new.waiting)
 
--- a tick passed: that is a step of the machine, what is sent again waits behind all that waited, and what it came to is told
+-- a tick passed: that is a step of the machine, what is sent again, at most 256 datagrams, waits behind all that waited, and what it came to is told
 pub record HasTicked (told : Told) (old new : Desk) : Type 0 where
   pub ticked : Ticked
   pub is_ticked : IsTicked old.gateway ticked new.gateway
   pub counts : QueuesAfterTick old.gateway new.gateway
+  pub few : length ticked.resent.items ≤ 256
+  pub few_forgotten : length ticked.forgotten.items ≤ 4096
   pub waiting : new.waiting.items ≡ old.waiting.items ++ ticked.resent.items
   pub tells : told ≡ tick_told (length ticked.gave_up.items) (length ticked.forgotten.items) (deque_len new.waiting)
 

@@ -12,6 +12,8 @@ returns-in-Ok-clause-done c =
       is_ticked = subst (λ (g : GatewayState). IsTicked old c.in-Ok.ticked g) (sym c.put_all.ensures.gateway)
           (subst (λ (g : GatewayState). IsTicked g c.in-Ok.ticked c.tick.new.self) k.0 c.in-Ok.ensures.ticked);
       counts = subst (λ (g : GatewayState). QueuesAfterTick old g) (sym c.put_all.ensures.gateway) (subst (λ (g : GatewayState). QueuesAfterTick g c.tick.new.self) k.0 c.in-Ok.ensures.counts);
+      few = c.in-Ok.ensures.few;
+      few_forgotten = c.in-Ok.ensures.few_forgotten;
       waiting = c.put_all.ensures.waiting ∙ ap (λ (xs : List Sent). xs ++ c.in-Ok.ticked.resent.items) k.1;
       tells = search rules;
     }
