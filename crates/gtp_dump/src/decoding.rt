@@ -10,7 +10,7 @@ use crate::flaw::{Flaw, flaw_of, put_flaw};
 use crate::holding::next_line;
 use crate::text::{Dumped, LineFault, read_line};
 use gtp_counted::{Counted, Failed};
-use gtp_json::{all_json, datagram_json};
+use gtp_json::{Members, datagram_json};
 use gtp_lines::text::{put, put_number};
 use gtp_lines::{Shown, all_lines, decode_lines};
 use gtp_values::{Memory, Plane};
@@ -114,8 +114,8 @@ fn lines_of(alloc: Global, form: Form, dumped: &Dumped) -> Result<Shown, Memory>
     match form {
         Form::Lines => decode_lines(alloc, dumped.plane, &dumped.octets),
         Form::All => all_lines(alloc, dumped.plane, &dumped.octets),
-        Form::Json => datagram_json(alloc, dumped.plane, &dumped.octets),
-        Form::AllJson => all_json(alloc, dumped.plane, &dumped.octets),
+        Form::Json => datagram_json(alloc, Members::Plain, dumped.plane, &dumped.octets),
+        Form::AllJson => datagram_json(alloc, Members::All, dumped.plane, &dumped.octets),
     }
 }
 

@@ -1,5 +1,5 @@
--- A datagram has one line.
-use Rattle.std.proofs.Common.{◌≡◌, ℕ, ◌+◌, Bool, true, false, List, [], ◌∷◌, ◌++◌, length, take, drop, Some, None, Result, refl, sym, ap, subst, ◌∙◌, inl, inr, arith}
+-- A datagram has one line in each form.
+use Rattle.std.proofs.Common.{◌≡◌, ℕ, ◌+◌, Bool, true, false, List, [], ◌∷◌, ◌++◌, length, take, drop, Option, Some, None, Result, refl, sym, ap, subst, ◌∙◌, inl, inr, arith}
 use Rattle.std.proofs.lemmas.List.{take_at, drop_at}
 use Rattle.json.specs.Json.{Json}
 use Rattle.gtp_values.specs.Decides.{Decides}
@@ -7,7 +7,9 @@ use Rattle.gtp_values.proofs.Outcomes.{ok_same, err_same, apart}
 use Rattle.gtp_values.specs.declared.plane.Plane.{Plane}
 use Rattle.gtp_values.specs.declared.plane.Plane.TheVariants as planes
 use Rattle.gtp_v2.specs.declared.fault.V2Fault.{V2Fault}
+use Rattle.gtp_ie.specs.Element.{Element}
 use Rattle.gtp_v2.specs.Datagram.{IsMessage, IsFault}
+use Rattle.gtp_v2.specs.Headed.{Headed}
 use Rattle.gtp_v2.specs.Message.{Content, Fields, Raw, MessageValue}
 use Rattle.gtp_v2.specs.Pair.{DatagramValue, IsDatagram, IsDatagramFault, Announces, alone, both}
 use Rattle.gtp_v2.specs.Viewed.{place_of}
@@ -17,12 +19,16 @@ use Rattle.gtp_user.specs.declared.fault.UserFault.{UserFault}
 use Rattle.gtp_user.specs.Datagram.{IsUserMessage, IsUserFault}
 use Rattle.gtp_user.proofs.Messages.{message_decided as user_decided}
 use Rattle.gtp_capture.specs.Packet.{Packet as Captured}
+use Rattle.gtp_lines.specs.All.{head_at, pair_at}
 use Rattle.gtp_lines.proofs.Alike.{one_front}
 use Rattle.gtp_lines.proofs.Before.{all_front}
+use Rattle.gtp_json.specs.declared.datagram.Members.{Members}
+use Rattle.gtp_json.specs.declared.datagram.Members.TheVariants.{Plain, All}
 use Rattle.gtp_json.specs.Tree.{object_of, line_of}
-use Rattle.gtp_json.specs.Control.{CarriedMembers, MessageMembers, PairMembers, ControlMembers, head_members, elements_members, second_member, fault_members, fault_member}
-use Rattle.gtp_json.specs.User.{user_members, user_fault_members, UserMembers}
-use Rattle.gtp_json.specs.Datagram.{plane_member, DatagramMembers}
+use Rattle.gtp_json.specs.Control.{CarriedMembers, MessageMembers, PairMembers, header_members, head_members, elements_members, second_member, fault_members, fault_member}
+use Rattle.gtp_json.specs.User.{user_members, user_fault_members}
+use Rattle.gtp_json.specs.All.{rest_members, MessageShown, AloneShown, SecondShown, ShownBy}
+use Rattle.gtp_json.specs.Datagram.{plane_member, ControlMembers, BeforeFault, WithFault, MembersBy}
 use Rattle.gtp_json.specs.Frames.{frame_members, RestMembers}
 use Rattle.gtp_json.specs.Laws.{OneLine, OneFrameLine}
 
@@ -88,9 +94,10 @@ spelled_alone octets ms (m, spelled, rest) = (m, inl (m, spelled, refl))
 spelled_both : (octets : List ℕ) (ms : List (List ℕ × Json)) → PairMembers octets ms → (a : MessageValue) × (b : MessageValue) × IsDatagram octets (both a b)
 spelled_both octets ms (front, back, announces, (a, b, (m, sm, am), (n, sn, bn), is)) = (m, n, inr (front, back, announces, (m, sm, (n, sn, refl))))
 
-pub spelled : (octets : List ℕ) (ms : List (List ℕ × Json)) → ControlMembers octets ms false → (d : DatagramValue) × IsDatagram octets d
-spelled octets ms (inl h) = let s = spelled_alone octets ms h in (alone s.0, s.1)
-spelled octets ms (inr h) = let s = spelled_both octets ms h in (both s.0 s.1, s.2)
+pub spelled : (members : Members) (octets : List ℕ) (ms : List (List ℕ × Json)) → ControlMembers members octets ms → (d : DatagramValue) × IsDatagram octets d
+spelled Plain octets ms (inl h) = let s = spelled_alone octets ms h in (alone s.0, s.1)
+spelled Plain octets ms (inr h) = let s = spelled_both octets ms h in (both s.0 s.1, s.2)
+spelled All octets ms (d, how) = d
 
 not_both : (octets : List ℕ) (ms ns : List (List ℕ × Json)) → MessageMembers octets ms → PairMembers octets ns → ⊥
 not_both octets ms ns a p =
@@ -100,59 +107,91 @@ not_both octets ms ns a p =
     let same : None ≡ Some t.1 = ap (λ (d : DatagramValue). d.second) (one.value (alone s.0) (both t.0 t.1) s.1 t.2) in
     absurd cc
 
-control_one : (octets : List ℕ) (ms ns : List (List ℕ × Json)) (x y : Bool) → ControlMembers octets ms x → ControlMembers octets ns y → (ms ≡ ns) × (x ≡ y)
-control_one octets ms ns true true (f, fails, is) (g, fault, ns_is) =
-    let one = one_of _ (IsDatagram octets) (IsDatagramFault octets) (datagram_decided octets) in
-    (is ∙ (ap (λ (z : V2Fault). fault_member (fault_members z)) (one.fault f g fails fault) ∙ sym ns_is), refl)
-control_one octets ms ns true false (f, fails, is) h =
-    let one = one_of _ (IsDatagram octets) (IsDatagramFault octets) (datagram_decided octets) in
-    let s = spelled octets ns h in
-    absurd (one.either s.0 f s.1 fails)
-control_one octets ms ns false true h (f, fails, is) =
-    let one = one_of _ (IsDatagram octets) (IsDatagramFault octets) (datagram_decided octets) in
-    let s = spelled octets ms h in
-    absurd (one.either s.0 f s.1 fails)
-control_one octets ms ns false false (inl a) (inl b) = (message_one octets ms ns a b, refl)
-control_one octets ms ns false false (inl a) (inr b) = absurd (not_both octets ms ns a b)
-control_one octets ms ns false false (inr a) (inl b) = absurd (not_both octets ns ms b a)
-control_one octets ms ns false false (inr a) (inr b) = (pair_one octets ms ns a b, refl)
+-- ---- all that can be shown
 
--- ---- the user plane
+front_one : (h : Headed) (ms ns : List (List ℕ × Json)) → MessageShown h ms → MessageShown h ns → ms ≡ ns
+front_one h ms ns (es, rest, front, is) (ds, left, other, ns_is) =
+    let p = one_front h.at h.rest es rest ds left front other in
+    let head = header_members h.kind h.teid h.seq h.priority in
+    is ∙ (ap (λ (xs : List Element). head ++ (elements_members xs ++ rest_members rest)) p.0 ∙ (ap (λ (xs : List ℕ). head ++ (elements_members ds ++ rest_members xs)) p.1 ∙ sym ns_is))
 
-user_one : (octets : List ℕ) (ms ns : List (List ℕ × Json)) (x y : Bool) → UserMembers octets ms x → UserMembers octets ns y → (ms ≡ ns) × (x ≡ y)
-user_one octets ms ns true true (f, fails, is) (g, fault, ns_is) =
+alone_one : (w : Option Headed) (ms ns : List (List ℕ × Json)) → AloneShown w ms → AloneShown w ns → ms ≡ ns
+alone_one None ms ns a b = a ∙ sym b
+alone_one (Some h) ms ns a b = front_one h ms ns a b
+
+second_one : (back : List ℕ) (w : Option Headed) (ms ns : List (List ℕ × Json)) → SecondShown back w ms → SecondShown back w ns → ms ≡ ns
+second_one back None ms ns a b = a ∙ sym b
+second_one back (Some h) ms ns a b = front_one h ms ns a b
+
+shown_one : (p : Option (Headed × List ℕ)) (w : Option Headed) (ms ns : List (List ℕ × Json)) → ShownBy p w ms → ShownBy p w ns → ms ≡ ns
+shown_one None w ms ns a b = alone_one w ms ns a b
+shown_one (Some pair) w ms ns (a, b, first, second, is) (c, d, other, third, ns_is) =
+    is
+    ∙ (ap (λ (xs : List (List ℕ × Json)). xs ++ second_member b) (front_one pair.0 a c first other)
+    ∙ (ap (λ (xs : List (List ℕ × Json)). c ++ second_member xs) (second_one pair.1 (head_at pair.1) b d second third) ∙ sym ns_is))
+
+-- ---- datagrams
+
+control_one : (members : Members) (octets : List ℕ) (ms ns : List (List ℕ × Json)) → ControlMembers members octets ms → ControlMembers members octets ns → ms ≡ ns
+control_one Plain octets ms ns (inl a) (inl b) = message_one octets ms ns a b
+control_one Plain octets ms ns (inl a) (inr b) = absurd (not_both octets ms ns a b)
+control_one Plain octets ms ns (inr a) (inl b) = absurd (not_both octets ns ms b a)
+control_one Plain octets ms ns (inr a) (inr b) = pair_one octets ms ns a b
+control_one All octets ms ns (d, a) (e, b) = shown_one (pair_at octets) (head_at octets) ms ns a b
+
+before_one : (members : Members) (plane : Plane) (octets : List ℕ) (ms ns : List (List ℕ × Json)) → BeforeFault members plane octets ms → BeforeFault members plane octets ns → ms ≡ ns
+before_one Plain plane octets ms ns a b = a ∙ sym b
+before_one All planes.Control octets ms ns a b = shown_one (pair_at octets) (head_at octets) ms ns a b
+before_one All planes.User octets ms ns a b = a ∙ sym b
+
+fault_one : (members : Members) (plane : Plane) (octets : List ℕ) (fs gs ms ns : List (List ℕ × Json)) → fs ≡ gs → WithFault members plane octets fs ms → WithFault members plane octets gs ns → ms ≡ ns
+fault_one members plane octets fs gs ms ns same (a, before, is) (b, other, ns_is) =
+    is
+    ∙ (ap (λ (xs : List (List ℕ × Json)). xs ++ fault_member fs) (before_one members plane octets a b before other)
+    ∙ (ap (λ (xs : List (List ℕ × Json)). b ++ fault_member xs) same ∙ sym ns_is))
+
+members_one : (members : Members) (plane : Plane) (octets : List ℕ) (ms ns : List (List ℕ × Json)) (x y : Bool) → MembersBy members plane octets ms x → MembersBy members plane octets ns y → (ms ≡ ns) × (x ≡ y)
+members_one members planes.Control octets ms ns true true (f, fails, has) (g, fault, had) =
+    let one = one_of _ (IsDatagram octets) (IsDatagramFault octets) (datagram_decided octets) in
+    (fault_one members planes.Control octets (fault_members f) (fault_members g) ms ns (ap fault_members (one.fault f g fails fault)) has had, refl)
+members_one members planes.Control octets ms ns true false (f, fails, has) h =
+    let one = one_of _ (IsDatagram octets) (IsDatagramFault octets) (datagram_decided octets) in
+    let s = spelled members octets ns h in
+    absurd (one.either s.0 f s.1 fails)
+members_one members planes.Control octets ms ns false true h (f, fails, has) =
+    let one = one_of _ (IsDatagram octets) (IsDatagramFault octets) (datagram_decided octets) in
+    let s = spelled members octets ms h in
+    absurd (one.either s.0 f s.1 fails)
+members_one members planes.Control octets ms ns false false a b = (control_one members octets ms ns a b, refl)
+members_one members planes.User octets ms ns true true (f, fails, has) (g, fault, had) =
     let one = one_of _ (IsUserMessage octets) (IsUserFault octets) (user_decided octets) in
-    (is ∙ (ap (λ (z : UserFault). fault_member (user_fault_members z)) (one.fault f g fails fault) ∙ sym ns_is), refl)
-user_one octets ms ns true false (f, fails, is) (m, said, ns_is) =
+    (fault_one members planes.User octets (user_fault_members f) (user_fault_members g) ms ns (ap user_fault_members (one.fault f g fails fault)) has had, refl)
+members_one members planes.User octets ms ns true false (f, fails, has) (m, said, ns_is) =
     let one = one_of _ (IsUserMessage octets) (IsUserFault octets) (user_decided octets) in
     absurd (one.either m f said fails)
-user_one octets ms ns false true (m, said, is) (f, fails, ns_is) =
+members_one members planes.User octets ms ns false true (m, said, is) (f, fails, has) =
     let one = one_of _ (IsUserMessage octets) (IsUserFault octets) (user_decided octets) in
     absurd (one.either m f said fails)
-user_one octets ms ns false false (m, said, is) (n, other, ns_is) =
+members_one members planes.User octets ms ns false false (m, said, is) (n, other, ns_is) =
     let one = one_of _ (IsUserMessage octets) (IsUserFault octets) (user_decided octets) in
     (is ∙ (ap user_members (one.value m n said other) ∙ sym ns_is), refl)
 
-members_one : (plane : Plane) (octets : List ℕ) (ms ns : List (List ℕ × Json)) (x y : Bool) → DatagramMembers plane octets ms x → DatagramMembers plane octets ns y → (ms ≡ ns) × (x ≡ y)
-members_one planes.Control octets ms ns x y a b = control_one octets ms ns x y a b
-members_one planes.User octets ms ns x y a b = user_one octets ms ns x y a b
-
 pub one_line : OneLine
-one_line plane octets text faulty other wrong (j, (ms, a, j_is), text_is) (i, (ns, b, i_is), other_is) =
-    let same = members_one plane octets ms ns faulty wrong a b in
+one_line members plane octets text faulty other wrong (j, (ms, a, j_is), text_is) (i, (ns, b, i_is), other_is) =
+    let same = members_one members plane octets ms ns faulty wrong a b in
     let value : j ≡ i = j_is ∙ (ap (λ (xs : List (List ℕ × Json)). object_of (plane_member plane ++ xs)) same.0 ∙ sym i_is) in
     (text_is ∙ (ap line_of value ∙ sym other_is), same.1)
 
 -- ---- captures
 
-rest_one : (p : Captured) (ms ns : List (List ℕ × Json)) (x y : Bool) → RestMembers p ms x → RestMembers p ns y → (ms ≡ ns) × (x ≡ y)
-rest_one p ms ns x y (inl (part, a, is)) (inl (partly, b, ns_is)) = (is ∙ sym ns_is, a ∙ sym b)
-rest_one p ms ns x y (inl (part, a, is)) (inr (all, b)) = absurd cc
-rest_one p ms ns x y (inr (all, a)) (inl (part, b, is)) = absurd cc
-rest_one p ms ns x y (inr (all, a)) (inr (wholly, b)) = members_one p.plane p.octets ms ns x y a b
+rest_one : (members : Members) (p : Captured) (ms ns : List (List ℕ × Json)) (x y : Bool) → RestMembers members p ms x → RestMembers members p ns y → (ms ≡ ns) × (x ≡ y)
+rest_one members p ms ns x y (inl (part, a, is)) (inl (partly, b, ns_is)) = (is ∙ sym ns_is, a ∙ sym b)
+rest_one members p ms ns x y (inl (part, a, is)) (inr (all, b)) = absurd cc
+rest_one members p ms ns x y (inr (all, a)) (inl (part, b, is)) = absurd cc
+rest_one members p ms ns x y (inr (all, a)) (inr (wholly, b)) = members_one members p.plane p.octets ms ns x y a b
 
 pub one_frame_line : OneFrameLine
-one_frame_line d text faulty other wrong (j, (ms, a, j_is), text_is) (i, (ns, b, i_is), other_is) =
-    let same = rest_one d.packet ms ns faulty wrong a b in
+one_frame_line members d text faulty other wrong (j, (ms, a, j_is), text_is) (i, (ns, b, i_is), other_is) =
+    let same = rest_one members d.packet ms ns faulty wrong a b in
     let value : j ≡ i = j_is ∙ (ap (λ (xs : List (List ℕ × Json)). object_of (frame_members d ++ xs)) same.0 ∙ sym i_is) in
     (text_is ∙ (ap line_of value ∙ sym other_is), same.1)

@@ -27,14 +27,16 @@ use Rattle.gtp_user.specs.Message.{EchoRequest, EchoResponse, ErrorIndication, N
 use Rattle.gtp_user.specs.Message.{Content as UserContent, MessageValue as UserMessage}
 use Rattle.gtp_json.specs.Tree.{members_of, items_of, member, object_of, array_of, number_of}
 use Rattle.gtp_json.specs.Values.{offending_members, cause_members, paa_members, v4_members, v6_members, end_members, value_json, octets_members, named_members, form_members, body_members}
-use Rattle.gtp_json.specs.Control.{element_head, inner_json, group_members, element_members, element_json, named_by, title_members, teid_members, priority_members, head_members, elements_members, CarriedMembers, MessageMembers, second_member, element_fault_members, fault_members, fault_member, ControlMembers}
+use Rattle.gtp_json.specs.Control.{element_head, inner_json, group_members, element_members, element_json, named_by, title_members, teid_members, priority_members, header_members, head_members, elements_members, CarriedMembers, MessageMembers, second_member, element_fault_members, fault_members, fault_member}
 use Rattle.gtp_lines.specs.User.{user_name}
-use Rattle.gtp_json.specs.User.{named, user_title, target_members, some_member, user_head, extension_json, extensions_members, user_carried, user_members, user_fault_members, UserMembers}
-use Rattle.gtp_json.specs.Datagram.{plane_member, DatagramMembers}
+use Rattle.gtp_json.specs.User.{named, user_title, target_members, some_member, user_head, extension_json, extensions_members, user_carried, user_members, user_fault_members}
+use Rattle.gtp_json.specs.declared.datagram.Members.{Members}
+use Rattle.gtp_json.specs.declared.datagram.Members.TheVariants.{Plain, All}
+use Rattle.gtp_json.specs.Datagram.{plane_member, ControlMembers, BeforeFault, WithFault, MembersBy}
 use Rattle.gtp_v2.specs.Headed.{Headed}
 use Rattle.gtp_lines.specs.All.{UserHead, head_at, pair_at, user_head_at}
-use Rattle.gtp_json.specs.All.{rest_members, headed_members, MessageShown, AloneShown, SecondShown, ShownBy, is_named, kind_members, user_shown, AllMembers}
-use Rattle.gtp_json.specs.Frames.{path_members, frame_members, held_members, part_members, RestMembers, AllRestMembers}
+use Rattle.gtp_json.specs.All.{rest_members, MessageShown, AloneShown, SecondShown, ShownBy, is_named, kind_members, user_shown}
+use Rattle.gtp_json.specs.Frames.{path_members, frame_members, held_members, part_members, RestMembers}
 use Rattle.gtp_capture.specs.Packet.{Packet as Captured}
 use Rattle.gtp_capture.specs.Seen.{Seen}
 
@@ -175,9 +177,9 @@ unfolding member
 priority_within None = tt
 priority_within (Some p) = (omega arith, tt)
 
-message_head_within : (m : MessageValue) → Within 6 (head_members m)
+header_within : (kind : ℕ) (teid : Option ℕ) (seq : ℕ) (priority : Option ℕ) → Within 6 (header_members kind teid seq priority)
 unfolding member
-message_head_within m = join 6 (title_members m.kind) _ (title_within m.kind) (join 6 (teid_members m.teid) _ (teid_within m.teid) (omega arith, priority_within m.priority))
+header_within kind teid seq priority = join 6 (title_members kind) _ (title_within kind) (join 6 (teid_members teid) _ (teid_within teid) (omega arith, priority_within priority))
 
 carried_within : (octets : List ℕ) (m : MessageValue) (content : Content) (ms : List (List ℕ × Json)) → CarriedMembers octets m content ms → Within 6 ms
 unfolding member
@@ -185,7 +187,7 @@ carried_within octets m (Raw carried) ms is = subst (Within 6) (sym is) (omega a
 carried_within octets m (Fields fields) ms (es, are, is) = subst (Within 6) (sym is) (array_depth 5 element_json es element_depth, tt)
 
 message_within : (octets : List ℕ) (ms : List (List ℕ × Json)) → MessageMembers octets ms → Within 6 ms
-message_within octets ms (m, spelled, (carried, has, is)) = subst (Within 6) (sym is) (join 6 (head_members m) carried (message_head_within m) (carried_within octets m m.content carried has))
+message_within octets ms (m, spelled, (carried, has, is)) = subst (Within 6) (sym is) (join 6 (head_members m) carried (header_within m.kind m.teid m.seq m.priority) (carried_within octets m m.content carried has))
 
 element_fault_within : (f : IeFault) → Within 0 (element_fault_members f)
 unfolding member
@@ -209,13 +211,6 @@ fault_within faults.TooLong = (omega arith, tt)
 
 fault_member_within : (ms : List (List ℕ × Json)) → Within 1 ms → Within 7 (fault_member ms)
 fault_member_within ms h = more 2 7 (fault_member ms) (omega arith) (one 2 (codes "fault") (object_of ms) (object_depth 1 ms h))
-
-control_within : (octets : List ℕ) (ms : List (List ℕ × Json)) (faulty : Bool) → ControlMembers octets ms faulty → Within 7 ms
-control_within octets ms true (f, first, is) = subst (Within 7) (sym is) (fault_member_within (fault_members f) (fault_within f))
-control_within octets ms false (inl h) = more 6 7 ms (omega arith) (message_within octets ms h)
-control_within octets ms false (inr (front, back, announces, (a, b, ha, hb, is))) =
-    subst (Within 7) (sym is)
-    (join 7 a (second_member b) (more 6 7 a (omega arith) (message_within front a ha)) (one 7 (codes "second") (object_of b) (object_depth 6 b (message_within back b hb))))
 
 -- ---- the user plane
 
@@ -279,16 +274,6 @@ user_fault_within (user_faults.Element at) = (omega arith, (omega arith, tt))
 user_fault_within user_faults.Memory = (omega arith, tt)
 user_fault_within user_faults.TooLong = (omega arith, tt)
 
-user_within : (octets : List ℕ) (ms : List (List ℕ × Json)) (faulty : Bool) → UserMembers octets ms faulty → Within 7 ms
-user_within octets ms true (f, first, is) = subst (Within 7) (sym is) (fault_member_within (user_fault_members f) (user_fault_within f))
-user_within octets ms false (m, spelled, is) = subst (Within 7) (sym is) (user_message_within m)
-
--- ---- datagrams
-
-pub datagram_within : (plane : Plane) (octets : List ℕ) (ms : List (List ℕ × Json)) (faulty : Bool) → DatagramMembers plane octets ms faulty → Within 7 ms
-datagram_within planes.Control octets ms faulty h = control_within octets ms faulty h
-datagram_within planes.User octets ms faulty h = user_within octets ms faulty h
-
 -- ---- all that can be shown
 
 left_within : (octets : List ℕ) → Within 6 (rest_members octets)
@@ -299,9 +284,8 @@ left_within (octet ∷ octets) = (omega arith, tt)
 shown_within : (h : Headed) (ms : List (List ℕ × Json)) → MessageShown h ms → Within 6 ms
 unfolding member
 shown_within h ms (es, rest, front, is) =
-    let head = join 6 (title_members h.kind) _ (title_within h.kind) (join 6 (teid_members h.teid) _ (teid_within h.teid) (omega arith, priority_within h.priority)) in
     let elements : Within 6 (elements_members es) = (array_depth 5 element_json es element_depth, tt) in
-    subst (Within 6) (sym is) (join 6 (headed_members h) _ head (join 6 (elements_members es) (rest_members rest) elements (left_within rest)))
+    subst (Within 6) (sym is) (join 6 (header_members h.kind h.teid h.seq h.priority) _ (header_within h.kind h.teid h.seq h.priority) (join 6 (elements_members es) (rest_members rest) elements (left_within rest)))
 
 alone_within : (h : Option Headed) (ms : List (List ℕ × Json)) → AloneShown h ms → Within 6 ms
 alone_within None ms is = subst (Within 6) (sym is) tt
@@ -325,13 +309,28 @@ unfolding member
 user_shown_within None = tt
 user_shown_within (Some h) = join 7 (kind_members h.kind) _ (kind_within h.kind) (omega arith, join 7 (some_member (codes "seq") h.seq) (rest_members h.rest) (some_within (codes "seq") h.seq) (more 6 7 (rest_members h.rest) (omega arith) (left_within h.rest)))
 
-pub all_within : (plane : Plane) (octets : List ℕ) (ms : List (List ℕ × Json)) (faulty : Bool) → AllMembers plane octets ms faulty → Within 7 ms
-all_within planes.Control octets ms true (f, first, (shown, how, is)) =
-    subst (Within 7) (sym is) (join 7 shown _ (by_within (pair_at octets) (head_at octets) shown how) (fault_member_within (fault_members f) (fault_within f)))
-all_within planes.User octets ms true (f, first, is) =
-    subst (Within 7) (sym is) (join 7 (user_shown (user_head_at octets)) _ (user_shown_within (user_head_at octets)) (fault_member_within (user_fault_members f) (user_fault_within f)))
-all_within planes.Control octets ms false (is, how) = by_within (pair_at octets) (head_at octets) ms how
-all_within planes.User octets ms false h = user_within octets ms false h
+-- ---- datagrams
+
+control_within : (members : Members) (octets : List ℕ) (ms : List (List ℕ × Json)) → ControlMembers members octets ms → Within 7 ms
+control_within Plain octets ms (inl h) = more 6 7 ms (omega arith) (message_within octets ms h)
+control_within Plain octets ms (inr (front, back, announces, (a, b, ha, hb, is))) =
+    subst (Within 7) (sym is)
+    (join 7 a (second_member b) (more 6 7 a (omega arith) (message_within front a ha)) (one 7 (codes "second") (object_of b) (object_depth 6 b (message_within back b hb))))
+control_within All octets ms (is, how) = by_within (pair_at octets) (head_at octets) ms how
+
+before_within : (members : Members) (plane : Plane) (octets : List ℕ) (ms : List (List ℕ × Json)) → BeforeFault members plane octets ms → Within 7 ms
+before_within Plain plane octets ms is = subst (Within 7) (sym is) tt
+before_within All planes.Control octets ms how = by_within (pair_at octets) (head_at octets) ms how
+before_within All planes.User octets ms is = subst (Within 7) (sym is) (user_shown_within (user_head_at octets))
+
+with_fault_within : (members : Members) (plane : Plane) (octets : List ℕ) (fault ms : List (List ℕ × Json)) → Within 1 fault → WithFault members plane octets fault ms → Within 7 ms
+with_fault_within members plane octets fault ms low (before, how, is) = subst (Within 7) (sym is) (join 7 before _ (before_within members plane octets before how) (fault_member_within fault low))
+
+pub by_members_within : (members : Members) (plane : Plane) (octets : List ℕ) (ms : List (List ℕ × Json)) (faulty : Bool) → MembersBy members plane octets ms faulty → Within 7 ms
+by_members_within members planes.Control octets ms true (f, first, has) = with_fault_within members planes.Control octets (fault_members f) ms (fault_within f) has
+by_members_within members planes.Control octets ms false has = control_within members octets ms has
+by_members_within members planes.User octets ms true (f, first, has) = with_fault_within members planes.User octets (user_fault_members f) ms (user_fault_within f) has
+by_members_within members planes.User octets ms false (m, spelled, is) = subst (Within 7) (sym is) (user_message_within m)
 
 pub plane_within : (plane : Plane) → Within 7 (plane_member plane)
 plane_within plane = one 7 (codes "plane") _ (omega arith)
@@ -350,10 +349,6 @@ part_within : (p : Captured) → Within 7 (part_members p)
 unfolding member object_of
 part_within p = chosen_within p.fragment 7 (member (codes "fragment") (boolean true)) (member (codes "cut") (object_of (held_members p))) (omega arith, tt) (omega arith, tt)
 
-pub rest_within : (p : Captured) (ms : List (List ℕ × Json)) (faulty : Bool) → RestMembers p ms faulty → Within 7 ms
-rest_within p ms faulty (inl (part, none, is)) = subst (Within 7) (sym is) (part_within p)
-rest_within p ms faulty (inr (all, h)) = datagram_within p.plane p.octets ms faulty h
-
-pub all_rest_within : (p : Captured) (ms : List (List ℕ × Json)) (faulty : Bool) → AllRestMembers p ms faulty → Within 7 ms
-all_rest_within p ms faulty (inl (part, none, is)) = subst (Within 7) (sym is) (part_within p)
-all_rest_within p ms faulty (inr (all, h)) = all_within p.plane p.octets ms faulty h
+pub rest_within : (members : Members) (p : Captured) (ms : List (List ℕ × Json)) (faulty : Bool) → RestMembers members p ms faulty → Within 7 ms
+rest_within members p ms faulty (inl (part, none, is)) = subst (Within 7) (sym is) (part_within p)
+rest_within members p ms faulty (inr (all, h)) = by_members_within members p.plane p.octets ms faulty h

@@ -37,6 +37,9 @@ pub written-nil : written [] ≡ []
 unfolding written
 written-nil = refl
 
+pub none_written : (o : List Token) → o ≡ o ++ written []
+none_written o = sym (append-nil o) ∙ sym (ap (λ (ts : List Token). o ++ ts) written-nil)
+
 -- members written one after the other
 pub twice : (o m n : List Token) (a b : List (List ℕ × Json)) → m ≡ o ++ written a → n ≡ m ++ written b → n ≡ o ++ written (a ++ b)
 twice o m n a b one two = two ∙ (ap (λ (ts : List Token). ts ++ written b) one ∙ (append_assoc o (written a) (written b) ∙ ap (λ (ts : List Token). o ++ ts) (sym (written-append a b))))

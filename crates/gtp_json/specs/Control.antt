@@ -1,5 +1,5 @@
 -- A control datagram as JSON: the reading of `gtp_lines`, by members of objects.
-use Rattle.std.specs.Prelude.{◌≡◌, ℕ, ◌+◌, ◌==◌, if◌then◌else◌, Bool, true, false, List, [], ◌++◌, map, drop, Option, Some, None, Result, Ok, Err, ◌⊎◌, codes}
+use Rattle.std.specs.Prelude.{◌≡◌, ℕ, ◌+◌, ◌==◌, if◌then◌else◌, Bool, true, false, List, [], ◌++◌, map, drop, Option, Some, None, Result, Ok, Err, codes}
 use Rattle.json.specs.Json.{Json, string}
 use Rattle.gtp_ie.specs.declared.fault.IeFault.{IeFault}
 use Rattle.gtp_ie.specs.declared.fault.IeFault.TheVariants as elements
@@ -12,7 +12,7 @@ use Rattle.gtp_v2.specs.Table.{Table}
 use Rattle.gtp_v2.specs.Tables.{table_of}
 use Rattle.gtp_v2.specs.Message.{Content, Fields, Raw, MessageValue}
 use Rattle.gtp_v2.specs.Datagram.{IsMessage}
-use Rattle.gtp_v2.specs.Pair.{Announces, IsDatagramFault}
+use Rattle.gtp_v2.specs.Pair.{Announces}
 use Rattle.gtp_v2.specs.Viewed.{Viewed, place_of}
 use Rattle.gtp_json.specs.Tree.{member, object_of, array_of, number_of}
 use Rattle.gtp_json.specs.Values.{teid_value, octets_members, body_members}
@@ -57,9 +57,12 @@ abbrev pub priority_members : Option ℕ → List (List ℕ × Json)
 priority_members None = []
 priority_members (Some priority) = member (codes "priority") (number_of priority)
 
--- what a message's header says
+-- what a header says
+abbrev pub header_members : ℕ → Option ℕ → ℕ → Option ℕ → List (List ℕ × Json)
+header_members kind teid seq priority = title_members kind ++ (teid_members teid ++ (member (codes "seq") (number_of seq) ++ priority_members priority))
+
 abbrev pub head_members : MessageValue → List (List ℕ × Json)
-head_members m = title_members m.kind ++ (teid_members m.teid ++ (member (codes "seq") (number_of m.seq) ++ priority_members m.priority))
+head_members m = header_members m.kind m.teid m.seq m.priority
 
 -- elements in the datagram's order
 abbrev pub elements_members : List Element → List (List ℕ × Json)
@@ -146,13 +149,6 @@ fault_detail fault = []
 abbrev pub fault_members : V2Fault → List (List ℕ × Json)
 fault_members f = member (codes "code") (string (code_of f)) ++ fault_detail f
 
--- a fault in place of a message
+-- a fault, as a member
 abbrev pub fault_member : List (List ℕ × Json) → List (List ℕ × Json)
 fault_member ms = member (codes "fault") (object_of ms)
-
--- ---- datagrams
-
--- the members of a control datagram after its plane: those of its first fault; or of its message or its two
-abbrev pub ControlMembers : List ℕ → List (List ℕ × Json) → Bool → Type 0
-ControlMembers octets ms true = (f : V2Fault) × IsDatagramFault octets f × (ms ≡ fault_member (fault_members f))
-ControlMembers octets ms false = MessageMembers octets ms ⊎ PairMembers octets ms

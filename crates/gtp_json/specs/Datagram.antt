@@ -1,28 +1,53 @@
 -- A datagram as one JSON object on one line.
-use Rattle.std.specs.Prelude.{◌≡◌, ℕ, Bool, List, ◌++◌, codes}
+use Rattle.std.specs.Prelude.{◌≡◌, ℕ, Bool, true, false, List, [], ◌++◌, ◌⊎◌, codes}
 use Rattle.json.specs.Json.{Json, string}
 use Rattle.gtp_values.specs.declared.plane.Plane.{Plane}
-use Rattle.gtp_values.specs.declared.plane.Plane.TheVariants as planes
+use Rattle.gtp_values.specs.declared.plane.Plane.TheVariants.{Control, User}
+use Rattle.gtp_v2.specs.declared.fault.V2Fault.{V2Fault}
+use Rattle.gtp_v2.specs.Pair.{DatagramValue, IsDatagram, IsDatagramFault}
+use Rattle.gtp_user.specs.declared.fault.UserFault.{UserFault}
+use Rattle.gtp_user.specs.Datagram.{IsUserFault}
+use Rattle.gtp_lines.specs.All.{user_head_at}
+use Rattle.gtp_json.specs.declared.datagram.Members.{Members}
+use Rattle.gtp_json.specs.declared.datagram.Members.TheVariants.{Plain, All}
 use Rattle.gtp_json.specs.Tree.{member, object_of, line_of}
-use Rattle.gtp_json.specs.Control.{ControlMembers}
-use Rattle.gtp_json.specs.User.{UserMembers}
+use Rattle.gtp_json.specs.Control.{MessageMembers, PairMembers, fault_members, fault_member}
+use Rattle.gtp_json.specs.User.{user_fault_members, UserMembers}
+use Rattle.gtp_json.specs.All.{ControlShown, user_shown}
 
 abbrev pub plane_word : Plane → List ℕ
-plane_word planes.Control = codes "control"
-plane_word planes.User = codes "user"
+plane_word Control = codes "control"
+plane_word User = codes "user"
 
 abbrev pub plane_member : Plane → List (List ℕ × Json)
 plane_member plane = member (codes "plane") (string (plane_word plane))
 
--- the members of a datagram after its plane, and whether they are a fault's
-abbrev pub DatagramMembers : Plane → List ℕ → List (List ℕ × Json) → Bool → Type 0
-DatagramMembers planes.Control octets ms faulty = ControlMembers octets ms faulty
-DatagramMembers planes.User octets ms faulty = UserMembers octets ms faulty
+-- the members of a control datagram without a fault: those of its message or of its two; or all that can be shown of it, where it spells these
+abbrev pub ControlMembers : Members → List ℕ → List (List ℕ × Json) → Type 0
+ControlMembers Plain octets ms = MessageMembers octets ms ⊎ PairMembers octets ms
+ControlMembers All octets ms = ((d : DatagramValue) × IsDatagram octets d) × ControlShown octets ms
 
--- the JSON of a datagram: its plane, and its message, its two or its first fault
-abbrev pub IsDatagramJson : Plane → List ℕ → Json → Bool → Type 0
-IsDatagramJson plane octets j faulty = (ms : List (List ℕ × Json)) × DatagramMembers plane octets ms faulty × (j ≡ object_of (plane_member plane ++ ms))
+-- what stands before a fault: nothing; or all that can be shown
+abbrev pub BeforeFault : Members → Plane → List ℕ → List (List ℕ × Json) → Type 0
+BeforeFault Plain plane octets ms = ms ≡ []
+BeforeFault All Control octets ms = ControlShown octets ms
+BeforeFault All User octets ms = ms ≡ user_shown (user_head_at octets)
+
+-- and then the fault, of these members
+abbrev pub WithFault : Members → Plane → List ℕ → List (List ℕ × Json) → List (List ℕ × Json) → Type 0
+WithFault members plane octets fault ms = (before : List (List ℕ × Json)) × BeforeFault members plane octets before × (ms ≡ before ++ fault_member fault)
+
+-- The members of a datagram after its plane, and whether it has a fault, which is its first. A user datagram without one has those of its message, in each form.
+abbrev pub MembersBy : Members → Plane → List ℕ → List (List ℕ × Json) → Bool → Type 0
+MembersBy members Control octets ms true = (f : V2Fault) × IsDatagramFault octets f × WithFault members Control octets (fault_members f) ms
+MembersBy members Control octets ms false = ControlMembers members octets ms
+MembersBy members User octets ms true = (f : UserFault) × IsUserFault octets f × WithFault members User octets (user_fault_members f) ms
+MembersBy members User octets ms false = UserMembers octets ms
+
+-- the JSON of a datagram: its plane, and then these members
+abbrev pub IsDatagramJson : Members → Plane → List ℕ → Json → Bool → Type 0
+IsDatagramJson members plane octets j faulty = (ms : List (List ℕ × Json)) × MembersBy members plane octets ms faulty × (j ≡ object_of (plane_member plane ++ ms))
 
 -- and its line
-abbrev pub DatagramJson : Plane → List ℕ → List ℕ → Bool → Type 0
-DatagramJson plane octets text faulty = (j : Json) × IsDatagramJson plane octets j faulty × (text ≡ line_of j)
+abbrev pub DatagramJson : Members → Plane → List ℕ → List ℕ → Bool → Type 0
+DatagramJson members plane octets text faulty = (j : Json) × IsDatagramJson members plane octets j faulty × (text ≡ line_of j)

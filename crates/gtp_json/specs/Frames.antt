@@ -7,8 +7,8 @@ use Rattle.gtp_capture.specs.Packet.{Packet}
 use Rattle.gtp_capture.specs.Seen.{Seen}
 use Rattle.gtp_frames.specs.Frames.{time_text, is_whole}
 use Rattle.gtp_json.specs.Tree.{member, object_of, number_of, line_of}
-use Rattle.gtp_json.specs.Datagram.{plane_member, DatagramMembers}
-use Rattle.gtp_json.specs.All.{AllMembers}
+use Rattle.gtp_json.specs.declared.datagram.Members.{Members}
+use Rattle.gtp_json.specs.Datagram.{plane_member, MembersBy}
 
 -- where a datagram is from or to
 abbrev pub end_members : Endpoint → List (List ℕ × Json)
@@ -30,24 +30,13 @@ abbrev pub part_members : Packet → List (List ℕ × Json)
 part_members p = if p.fragment then member (codes "fragment") (boolean true) else member (codes "cut") (object_of (held_members p))
 
 -- the members after those of the frame: the datagram's, where the capture has all its octets; else why it has not
-abbrev pub RestMembers : Packet → List (List ℕ × Json) → Bool → Type 0
-RestMembers p ms faulty = ((is_whole p ≡ false) × (faulty ≡ false) × (ms ≡ part_members p)) ⊎ ((is_whole p ≡ true) × DatagramMembers p.plane p.octets ms faulty)
-
--- the same, with all that can be shown of a datagram at fault
-abbrev pub AllRestMembers : Packet → List (List ℕ × Json) → Bool → Type 0
-AllRestMembers p ms faulty = ((is_whole p ≡ false) × (faulty ≡ false) × (ms ≡ part_members p)) ⊎ ((is_whole p ≡ true) × AllMembers p.plane p.octets ms faulty)
+abbrev pub RestMembers : Members → Packet → List (List ℕ × Json) → Bool → Type 0
+RestMembers members p ms faulty = ((is_whole p ≡ false) × (faulty ≡ false) × (ms ≡ part_members p)) ⊎ ((is_whole p ≡ true) × MembersBy members p.plane p.octets ms faulty)
 
 -- the JSON of a datagram of a capture, and whether it has a fault
-abbrev pub IsFrameJson : Seen → Json → Bool → Type 0
-IsFrameJson d j faulty = (ms : List (List ℕ × Json)) × RestMembers d.packet ms faulty × (j ≡ object_of (frame_members d ++ ms))
+abbrev pub IsFrameJson : Members → Seen → Json → Bool → Type 0
+IsFrameJson members d j faulty = (ms : List (List ℕ × Json)) × RestMembers members d.packet ms faulty × (j ≡ object_of (frame_members d ++ ms))
 
 -- and its line
-abbrev pub FrameJson : Seen → List ℕ → Bool → Type 0
-FrameJson d text faulty = (j : Json) × IsFrameJson d j faulty × (text ≡ line_of j)
-
--- the same, with all that can be shown of a datagram at fault
-abbrev pub IsAllFrameJson : Seen → Json → Bool → Type 0
-IsAllFrameJson d j faulty = (ms : List (List ℕ × Json)) × AllRestMembers d.packet ms faulty × (j ≡ object_of (frame_members d ++ ms))
-
-abbrev pub AllFrameJson : Seen → List ℕ → Bool → Type 0
-AllFrameJson d text faulty = (j : Json) × IsAllFrameJson d j faulty × (text ≡ line_of j)
+abbrev pub FrameJson : Members → Seen → List ℕ → Bool → Type 0
+FrameJson members d text faulty = (j : Json) × IsFrameJson members d j faulty × (text ≡ line_of j)

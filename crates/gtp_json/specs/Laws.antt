@@ -12,20 +12,24 @@ use Rattle.gtp_capture.specs.Seen.{Seen}
 use Rattle.gtp_lines.specs.Control.{fault_line}
 use Rattle.gtp_lines.specs.Lines.{LinesOf}
 use Rattle.gtp_lines.specs.User.{user_lines, user_fault_line}
+use Rattle.gtp_json.specs.declared.datagram.Members.{Members}
+use Rattle.gtp_json.specs.declared.datagram.Members.TheVariants.{Plain}
 use Rattle.gtp_json.specs.Tree.{object_of}
 use Rattle.gtp_json.specs.Control.{fault_members, fault_member}
 use Rattle.gtp_json.specs.User.{user_members, user_fault_members}
 use Rattle.gtp_json.specs.Datagram.{plane_member, IsDatagramJson, DatagramJson}
 use Rattle.gtp_json.specs.Frames.{FrameJson}
 
--- a datagram has one line, and whether it has a fault is determined
+-- a datagram has one line, in each form, and whether it has a fault is determined
 abbrev pub OneLine : Type 0
 OneLine =
-    (plane : Plane) (octets : List ℕ) (text : List ℕ) (faulty : Bool) (other : List ℕ) (wrong : Bool) → DatagramJson plane octets text faulty → DatagramJson plane octets other wrong → (text ≡ other) × (faulty ≡ wrong)
+    (members : Members) (plane : Plane) (octets : List ℕ) (text : List ℕ) (faulty : Bool) (other : List ℕ) (wrong : Bool)
+    → DatagramJson members plane octets text faulty → DatagramJson members plane octets other wrong → (text ≡ other) × (faulty ≡ wrong)
 
 -- and so has a datagram of a capture
 abbrev pub OneFrameLine : Type 0
-OneFrameLine = (d : Seen) (text : List ℕ) (faulty : Bool) (other : List ℕ) (wrong : Bool) → FrameJson d text faulty → FrameJson d other wrong → (text ≡ other) × (faulty ≡ wrong)
+OneFrameLine =
+    (members : Members) (d : Seen) (text : List ℕ) (faulty : Bool) (other : List ℕ) (wrong : Bool) → FrameJson members d text faulty → FrameJson members d other wrong → (text ≡ other) × (faulty ≡ wrong)
 
 -- the text and the object say the one fault of the octets, or their one message of the user plane; of a datagram of the control plane the octets spell one and
 -- no other, so both are of that
@@ -38,4 +42,4 @@ OfOne planes.User octets false text j = (m : UserValue) × IsUserMessage octets 
 -- the lines of a datagram and its object are of one reading
 abbrev pub OneReading : Type 0
 OneReading =
-    (plane : Plane) (octets : List ℕ) (text : List ℕ) (faulty : Bool) (j : Json) (wrong : Bool) → LinesOf plane octets text faulty → IsDatagramJson plane octets j wrong → (faulty ≡ wrong) × OfOne plane octets faulty text j
+    (plane : Plane) (octets : List ℕ) (text : List ℕ) (faulty : Bool) (j : Json) (wrong : Bool) → LinesOf plane octets text faulty → IsDatagramJson Plain plane octets j wrong → (faulty ≡ wrong) × OfOne plane octets faulty text j

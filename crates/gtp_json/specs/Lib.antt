@@ -3,8 +3,8 @@ pub mod Adds
 pub mod Values
 pub mod Control
 pub mod User
-pub mod Datagram
 pub mod All
+pub mod Datagram
 pub mod Frames
 pub mod Reads
 pub mod Laws

@@ -1,16 +1,15 @@
 -- A datagram of the user plane as JSON: the reading of `gtp_lines`, by members of objects.
-use Rattle.std.specs.Prelude.{◌≡◌, ℕ, Bool, true, false, List, [], ◌++◌, map, Option, Some, None, codes}
+use Rattle.std.specs.Prelude.{◌≡◌, ℕ, List, [], ◌++◌, map, Option, Some, None, codes}
 use Rattle.json.specs.Json.{Json, string}
 use Rattle.gtp_user.specs.declared.fault.UserFault.{UserFault}
 use Rattle.gtp_user.specs.declared.fault.UserFault.TheVariants as faults
 use Rattle.gtp_user.specs.Chain.{Extension}
 use Rattle.gtp_user.specs.Message.{Content, EchoRequest, EchoResponse, ErrorIndication, Notification, EndMarker, Packet, Other, MessageValue}
-use Rattle.gtp_user.specs.Datagram.{IsUserMessage, IsUserFault}
+use Rattle.gtp_user.specs.Datagram.{IsUserMessage}
 use Rattle.gtp_values.specs.declared.address.Ip.{Ip}
 use Rattle.gtp_values.specs.Address.{ip_text}
 use Rattle.gtp_json.specs.Tree.{member, object_of, array_of, number_of}
 use Rattle.gtp_json.specs.Values.{hexadecimal, teid_value, octets_members}
-use Rattle.gtp_json.specs.Control.{fault_member}
 
 -- the type of a message, by its number and its name
 abbrev pub named : ℕ → List ℕ → List (List ℕ × Json)
@@ -95,7 +94,6 @@ user_fault_detail fault = []
 abbrev pub user_fault_members : UserFault → List (List ℕ × Json)
 user_fault_members f = member (codes "code") (string (user_code f)) ++ user_fault_detail f
 
--- the members of a datagram of the user plane after its plane: those of its first fault, or of its message
-abbrev pub UserMembers : List ℕ → List (List ℕ × Json) → Bool → Type 0
-UserMembers octets ms true = (f : UserFault) × IsUserFault octets f × (ms ≡ fault_member (user_fault_members f))
-UserMembers octets ms false = (m : MessageValue) × IsUserMessage octets m × (ms ≡ user_members m)
+-- the members of the message that octets of the user plane spell
+abbrev pub UserMembers : List ℕ → List (List ℕ × Json) → Type 0
+UserMembers octets ms = (m : MessageValue) × IsUserMessage octets m × (ms ≡ user_members m)

@@ -1,26 +1,19 @@
-//! All that can be shown of a datagram as JSON, and then its fault.
+//! All that can be shown of a datagram, as JSON.
 
-ghost use Rattle.std.specs.Prelude.{◌≡◌, ◌++◌, OnOk, IfOk, option_map};
-ghost use Rattle.gtp_values.specs.declared.plane.Plane.TheVariants as planes;
-ghost use Rattle.gtp_lines.specs.All.{head_at as spec_head_at};
-ghost use Rattle.gtp_lines.specs.reading.Header.{headed_of, user_head_of};
+ghost use Rattle.std.specs.Prelude.{◌≡◌, ◌++◌, OnOk};
+ghost use Rattle.gtp_lines.specs.All.{head_at as spec_head_at, user_head_at as spec_user_head_at};
+ghost use Rattle.gtp_lines.specs.reading.Header.{headed_of};
 ghost use Rattle.gtp_json.specs.reading.Tokens.{written};
 ghost use Rattle.gtp_json.specs.Adds.{Adds};
 ghost use Rattle.gtp_json.specs.Control.{elements_members};
-ghost use Rattle.gtp_json.specs.All.{rest_members, MessageShown, AloneShown, SecondShown, PairShown, ControlShown, is_named, kind_members, user_shown, AllMembers, IsAllJson, AllJson};
-ghost use Rattle.gtp_json.specs.Reads.{ReadsBack};
+ghost use Rattle.gtp_json.specs.All.{rest_members, MessageShown, AloneShown, SecondShown, PairShown, ControlShown, is_named, kind_members, user_shown};
 
-use crate::control::{put_elements, put_fault, put_head_members};
-use crate::datagram::put_plane;
+use crate::control::{put_elements, put_head_members};
 use crate::object::Output;
 use crate::user;
 use gtp_ie::Elements;
-use gtp_lines::{
-    Header, Shown, UserHeader, front_elements, head_at, pair_at, user_head_at, user_name,
-};
-use gtp_v2::view;
-use gtp_values::{Memory, Plane};
-use std::alloc::{AllocError, Global};
+use gtp_lines::{Header, front_elements, head_at, pair_at, user_head_at, user_name};
+use std::alloc::AllocError;
 
 /// Writes octets that are left, where there are some.
 #[tactic(auto, using(crate::proofs::Tokens::appending))]
@@ -95,7 +88,7 @@ fn put_pair(out: &mut Output, header: &Header, back: &[u8]) -> Result<(), AllocE
 }
 
 /// Writes what can be shown of a control datagram.
-fn put_shown(out: &mut Output, octets: &[u8]) -> Result<(), AllocError>
+pub fn put_shown(out: &mut Output, octets: &[u8]) -> Result<(), AllocError>
     ensures ok { OnOk result (Adds (ControlShown octets.now) out.old out.new) }
 {
     match pair_at(octets) {
@@ -129,11 +122,11 @@ fn put_kind(out: &mut Output, kind: u8) -> Result<(), AllocError>
 
 /// Writes what can be shown of a datagram of the user plane that is at fault.
 #[tactic(auto, using(crate::proofs::Tokens::appending))]
-fn put_user_shown(out: &mut Output, header: &Option<UserHeader>) -> Result<(), AllocError>
+pub fn put_user_shown(out: &mut Output, octets: &[u8]) -> Result<(), AllocError>
     ensures ok { OnOk result (out.new
-        ≡ out.old ++ written (user_shown (option_map user_head_of header.now))) }
+        ≡ out.old ++ written (user_shown (spec_user_head_at octets.now))) }
 {
-    let Some(header) = header else {
+    let Some(header) = user_head_at(octets) else {
         return Ok(());
     };
     put_kind(out, header.kind)?;
@@ -141,66 +134,4 @@ fn put_user_shown(out: &mut Output, header: &Option<UserHeader>) -> Result<(), A
     user::put_some(out, "seq", header.seq.map(u64::from))?;
     put_rest(out, header.rest)?;
     Ok(())
-}
-
-/// Writes the members of a control datagram after its plane, and tells whether it has a fault.
-fn put_all_control(out: &mut Output, octets: &[u8]) -> Result<bool, AllocError>
-    ensures { IfOk result (λ faulty.
-        Adds (λ ms. AllMembers planes.Control octets.now ms faulty) out.old out.new) }
-{
-    put_shown(out, octets)?;
-    match view(octets) {
-        Ok(_) => Ok(false),
-        Err(fault) => {
-            put_fault(out, &fault)?;
-            Ok(true)
-        }
-    }
-}
-
-/// The same of a datagram of the user plane.
-fn put_all_user(out: &mut Output, octets: &[u8]) -> Result<bool, AllocError>
-    ensures { IfOk result (λ faulty.
-        Adds (λ ms. AllMembers planes.User octets.now ms faulty) out.old out.new) }
-{
-    match gtp_user::decode(octets) {
-        Ok(message) => {
-            user::put_message(out, &message)?;
-            Ok(false)
-        }
-        Err(fault) => {
-            put_user_shown(out, &user_head_at(octets))?;
-            user::put_fault(out, &fault)?;
-            Ok(true)
-        }
-    }
-}
-
-/// Writes the members of a datagram after its plane, and tells whether it has a fault.
-pub fn put_all_members(out: &mut Output, plane: Plane, octets: &[u8]) -> Result<bool, AllocError>
-    ensures { IfOk result (λ faulty.
-        Adds (λ ms. AllMembers plane octets.now ms faulty) out.old out.new) }
-{
-    match plane {
-        Plane::Control => put_all_control(out, octets),
-        Plane::User => put_all_user(out, octets),
-    }
-}
-
-/// All that can be shown of a datagram as one JSON object on one line, in ASCII, with a line feed: of each message of the control
-/// plane its header and its elements, as many as are whole, and the octets that are left; and then the datagram's first fault,
-/// if it has one. `Memory` where an allocation was refused.
-pub fn all_json(alloc: Global, plane: Plane, octets: &[u8]) -> Result<Shown, Memory>
-    ensures text { IfOk result (λ shown. AllJson plane octets.now shown.text.items shown.faulty) }
-    // A reader of JSON finds this value in the line.
-    ensures reads_back { IfOk result (λ shown.
-        ReadsBack (λ j. IsAllJson plane octets.now j shown.faulty) shown.text.items) }
-{
-    let mut out = Output::new(alloc);
-    out.begin_object()?;
-    put_plane(&mut out, plane)?;
-    let faulty = put_all_members(&mut out, plane, octets)?;
-    out.end_object()?;
-    let text = out.into_line()?;
-    Ok(Shown { text, faulty })
 }

@@ -1,6 +1,6 @@
 //! Control datagrams as JSON.
 
-ghost use Rattle.std.specs.Prelude.{◌≡◌, ◌+◌, ◌++◌, OnOk, IfOk, option_map, map, codes};
+ghost use Rattle.std.specs.Prelude.{◌≡◌, ◌+◌, ◌++◌, OnOk, option_map, map, codes};
 ghost use Rattle.std.specs.List.{flat_map};
 ghost use Rattle.json.specs.Tree.{json_tokens};
 ghost use Rattle.gtp_ie.specs.Element.{elements_of};
@@ -8,14 +8,13 @@ ghost use Rattle.gtp_ie.specs.View.{element_of};
 ghost use Rattle.gtp_v2.specs.Tables.{table_of};
 ghost use Rattle.gtp_json.specs.Tree.{member, number_of, array_of, object_of};
 ghost use Rattle.gtp_json.specs.reading.Tokens.{written};
-ghost use Rattle.gtp_json.specs.Adds.{Adds};
-ghost use Rattle.gtp_json.specs.Control.{element_head, inner_json, group_members, element_json, element_members, named_by, title_members, teid_members, priority_members, head_members, elements_members, carried_members, seen_members, second_members};
-ghost use Rattle.gtp_json.specs.Control.{element_code as spec_element_code, code_of, element_fault_detail, element_fault_members, mark_word, fault_detail, fault_members, fault_member, ControlMembers};
+ghost use Rattle.gtp_json.specs.Control.{element_head, inner_json, group_members, element_json, element_members, named_by, title_members, teid_members, priority_members, header_members, head_members, elements_members, carried_members, seen_members, second_members};
+ghost use Rattle.gtp_json.specs.Control.{element_code as spec_element_code, code_of, element_fault_detail, element_fault_members, mark_word, fault_detail, fault_members, fault_member};
 
 use crate::object::Output;
 use crate::values::{put_body, put_octets};
 use gtp_ie::{ElementView, Elements, IeFault};
-use gtp_v2::{BEARER_CONTEXT, DatagramView, MessageView, V2Fault, type_name, view};
+use gtp_v2::{BEARER_CONTEXT, DatagramView, MessageView, V2Fault, type_name};
 use gtp_values::{Below, Seq, Teid};
 use std::alloc::AllocError;
 
@@ -176,8 +175,7 @@ pub fn put_head_members(
     priority: Option<Below<16>>,
 ) -> Result<(), AllocError>
     ensures ok { OnOk result (out.new ≡ out.old
-        ++ written (title_members kind ++ (teid_members (option_map (λ t. t.0) teid)
-        ++ (member (codes "seq") (number_of seq) ++ priority_members priority)))) }
+        ++ written (header_members kind (option_map (λ t. t.0) teid) seq priority)) }
 {
     put_title(out, kind)?;
     put_some_teid(out, teid)?;
@@ -229,7 +227,7 @@ fn put_second(out: &mut Output, second: &Option<MessageView>) -> Result<(), Allo
 
 /// Writes the members of a datagram's message or of its two.
 #[tactic(auto, using(crate::proofs::Tokens::appending))]
-fn put_datagram(out: &mut Output, seen: &DatagramView) -> Result<(), AllocError>
+pub fn put_datagram(out: &mut Output, seen: &DatagramView) -> Result<(), AllocError>
     ensures ok { OnOk result (out.new ≡ out.old
         ++ written (seen_members seen.now.message ++ second_members seen.now.second)) }
 {
@@ -357,21 +355,4 @@ pub fn put_fault(out: &mut Output, fault: &V2Fault) -> Result<(), AllocError>
     out.string_member("code", code(fault))?;
     put_fault_detail(out, fault)?;
     out.end_object()
-}
-
-/// Writes the members of a control datagram after its plane, and tells whether they are a fault's.
-pub fn put_control(out: &mut Output, octets: &[u8]) -> Result<bool, AllocError>
-    ensures { IfOk result (λ faulty.
-        Adds (λ ms. ControlMembers octets.now ms faulty) out.old out.new) }
-{
-    match view(octets) {
-        Ok(seen) => {
-            put_datagram(out, &seen)?;
-            Ok(false)
-        }
-        Err(fault) => {
-            put_fault(out, &fault)?;
-            Ok(true)
-        }
-    }
 }

@@ -1,17 +1,28 @@
 //! The JSON of a datagram.
 
 ghost use Rattle.std.specs.Prelude.{◌≡◌, ◌++◌, OnOk, IfOk};
+ghost use Rattle.gtp_values.specs.declared.plane.Plane.TheVariants as planes;
 ghost use Rattle.gtp_json.specs.reading.Tokens.{written};
 ghost use Rattle.gtp_json.specs.Adds.{Adds};
-ghost use Rattle.gtp_json.specs.Datagram.{plane_word, plane_member, DatagramMembers, IsDatagramJson, DatagramJson};
+ghost use Rattle.gtp_json.specs.Datagram.{plane_word, plane_member, BeforeFault, MembersBy, IsDatagramJson, DatagramJson};
 ghost use Rattle.gtp_json.specs.Reads.{ReadsBack};
 
-use crate::control::put_control;
+use crate::all::{put_shown, put_user_shown};
 use crate::object::Output;
-use crate::user::put_user;
+use crate::{control, user};
 use gtp_lines::Shown;
+use gtp_v2::view;
 use gtp_values::{Memory, Plane};
 use std::alloc::{AllocError, Global};
+
+/// Which members an object has of a datagram, after its plane.
+#[derive(Clone, Copy, Debug, PartialEq, Eq)]
+pub enum Members {
+    /// Those of its message or of its two; or, in their place, its first fault.
+    Plain,
+    /// All that can be shown of it, and then its first fault, if it has one; of a user datagram without a fault, those of its message.
+    All,
+}
 
 /// The word of a plane.
 fn word(plane: Plane) -> &'static str
@@ -30,30 +41,100 @@ pub fn put_plane(out: &mut Output, plane: Plane) -> Result<(), AllocError>
     out.string_member("plane", word(plane))
 }
 
-/// Writes the members of a datagram after its plane, and tells whether they are a fault's.
-pub fn put_members(out: &mut Output, plane: Plane, octets: &[u8]) -> Result<bool, AllocError>
-    ensures { IfOk result (λ faulty.
-        Adds (λ ms. DatagramMembers plane octets.now ms faulty) out.old out.new) }
+/// Writes what stands before a fault.
+fn put_before(
+    out: &mut Output,
+    members: Members,
+    plane: Plane,
+    octets: &[u8],
+) -> Result<(), AllocError>
+    ensures ok { OnOk result (Adds (BeforeFault members plane octets.now) out.old out.new) }
 {
-    match plane {
-        Plane::Control => put_control(out, octets),
-        Plane::User => put_user(out, octets),
+    match (members, plane) {
+        (Members::Plain, _) => Ok(()),
+        (Members::All, Plane::Control) => put_shown(out, octets),
+        (Members::All, Plane::User) => {
+            put_user_shown(out, octets)?;
+            Ok(())
+        }
     }
 }
 
-/// A datagram as one JSON object on one line, in ASCII, with a line feed; and whether it has a fault, which then stands
-/// in place of its message. `Memory` where an allocation was refused.
-pub fn datagram_json(alloc: Global, plane: Plane, octets: &[u8]) -> Result<Shown, Memory>
+/// Writes the members of a control datagram after its plane, and tells whether it has a fault.
+fn put_control(out: &mut Output, members: Members, octets: &[u8]) -> Result<bool, AllocError>
+    ensures { IfOk result (λ faulty.
+        Adds (λ ms. MembersBy members planes.Control octets.now ms faulty) out.old out.new) }
+{
+    match view(octets) {
+        Ok(seen) => {
+            match members {
+                Members::Plain => control::put_datagram(out, &seen)?,
+                Members::All => put_shown(out, octets)?,
+            }
+            Ok(false)
+        }
+        Err(fault) => {
+            put_before(out, members, Plane::Control, octets)?;
+            control::put_fault(out, &fault)?;
+            Ok(true)
+        }
+    }
+}
+
+/// The same of a datagram of the user plane.
+fn put_user(out: &mut Output, members: Members, octets: &[u8]) -> Result<bool, AllocError>
+    ensures { IfOk result (λ faulty.
+        Adds (λ ms. MembersBy members planes.User octets.now ms faulty) out.old out.new) }
+{
+    match gtp_user::decode(octets) {
+        Ok(message) => {
+            user::put_message(out, &message)?;
+            Ok(false)
+        }
+        Err(fault) => {
+            put_before(out, members, Plane::User, octets)?;
+            user::put_fault(out, &fault)?;
+            Ok(true)
+        }
+    }
+}
+
+/// Writes the members of a datagram after its plane, and tells whether it has a fault.
+pub fn put_members(
+    out: &mut Output,
+    members: Members,
+    plane: Plane,
+    octets: &[u8],
+) -> Result<bool, AllocError>
+    ensures { IfOk result (λ faulty.
+        Adds (λ ms. MembersBy members plane octets.now ms faulty) out.old out.new) }
+{
+    match plane {
+        Plane::Control => put_control(out, members, octets),
+        Plane::User => put_user(out, members, octets),
+    }
+}
+
+/// A datagram as one JSON object on one line, in ASCII, with a line feed: its plane, and then these members; and whether it
+/// has a fault. `Plain`: those of its message or of its two, or its first fault alone. `All`: of each message of the control
+/// plane its header and its elements, as many as are whole, and the octets that are left; and then the datagram's first fault,
+/// if it has one. `Memory` where an allocation was refused.
+pub fn datagram_json(
+    alloc: Global,
+    members: Members,
+    plane: Plane,
+    octets: &[u8],
+) -> Result<Shown, Memory>
     ensures text { IfOk result (λ shown.
-        DatagramJson plane octets.now shown.text.items shown.faulty) }
+        DatagramJson members plane octets.now shown.text.items shown.faulty) }
     // A reader of JSON finds this value in the line.
     ensures reads_back { IfOk result (λ shown.
-        ReadsBack (λ j. IsDatagramJson plane octets.now j shown.faulty) shown.text.items) }
+        ReadsBack (λ j. IsDatagramJson members plane octets.now j shown.faulty) shown.text.items) }
 {
     let mut out = Output::new(alloc);
     out.begin_object()?;
     put_plane(&mut out, plane)?;
-    let faulty = put_members(&mut out, plane, octets)?;
+    let faulty = put_members(&mut out, members, plane, octets)?;
     out.end_object()?;
     let text = out.into_line()?;
     Ok(Shown { text, faulty })

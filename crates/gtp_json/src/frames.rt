@@ -8,11 +8,10 @@ ghost use Rattle.gtp_frames.specs.Frames.{width_of, second_in, time_text, is_who
 ghost use Rattle.gtp_json.specs.Tree.{member, object_of};
 ghost use Rattle.gtp_json.specs.reading.Tokens.{written};
 ghost use Rattle.gtp_json.specs.Adds.{Adds};
-ghost use Rattle.gtp_json.specs.Frames.{end_members, path_members, frame_members, held_members, part_members, RestMembers, AllRestMembers, IsFrameJson, FrameJson, IsAllFrameJson, AllFrameJson};
+ghost use Rattle.gtp_json.specs.Frames.{end_members, path_members, frame_members, held_members, part_members, RestMembers, IsFrameJson, FrameJson};
 ghost use Rattle.gtp_json.specs.Reads.{ReadsBack};
 
-use crate::all::put_all_members;
-use crate::datagram::{put_members, put_plane};
+use crate::datagram::{Members, put_members, put_plane};
 use crate::object::Output;
 use gtp_capture::{Captured, Packet, Time, Unit};
 use gtp_lines::Shown;
@@ -160,25 +159,13 @@ fn put_part(out: &mut Output, packet: &Packet) -> Result<(), AllocError>
     put_cut(out, packet)
 }
 
-/// Writes the members after those of the frame, and tells whether they are a fault's.
-fn put_rest(out: &mut Output, packet: &Packet) -> Result<bool, AllocError>
+/// Writes the members after those of the frame, and tells whether the datagram has a fault.
+fn put_rest(out: &mut Output, members: Members, packet: &Packet) -> Result<bool, AllocError>
     ensures { IfOk result (λ faulty.
-        Adds (λ ms. RestMembers (packet_of packet.now) ms faulty) out.old out.new) }
+        Adds (λ ms. RestMembers members (packet_of packet.now) ms faulty) out.old out.new) }
 {
     if is_whole(packet) {
-        return put_members(out, packet.plane, packet.octets);
-    }
-    put_part(out, packet)?;
-    Ok(false)
-}
-
-/// The same, with all that can be shown of a datagram at fault.
-fn put_all_rest(out: &mut Output, packet: &Packet) -> Result<bool, AllocError>
-    ensures { IfOk result (λ faulty.
-        Adds (λ ms. AllRestMembers (packet_of packet.now) ms faulty) out.old out.new) }
-{
-    if is_whole(packet) {
-        return put_all_members(out, packet.plane, packet.octets);
+        return put_members(out, members, packet.plane, packet.octets);
     }
     put_part(out, packet)?;
     Ok(false)
@@ -187,34 +174,17 @@ fn put_all_rest(out: &mut Output, packet: &Packet) -> Result<bool, AllocError>
 /// A datagram of a capture as one JSON object on one line, in ASCII, with a line feed: frame, time, ends and plane, and
 /// then, where the capture has all its octets, what `datagram_json` has; else why it has not. And whether the datagram
 /// has a fault. `Memory` where an allocation was refused.
-pub fn frame_json(alloc: Global, captured: &Captured) -> Result<Shown, Memory>
+pub fn frame_json(alloc: Global, members: Members, captured: &Captured) -> Result<Shown, Memory>
     ensures text { IfOk result (λ shown.
-        FrameJson (seen_of captured.now) shown.text.items shown.faulty) }
+        FrameJson members (seen_of captured.now) shown.text.items shown.faulty) }
     // A reader of JSON finds this value in the line.
     ensures reads_back { IfOk result (λ shown.
-        ReadsBack (λ j. IsFrameJson (seen_of captured.now) j shown.faulty) shown.text.items) }
+        ReadsBack (λ j. IsFrameJson members (seen_of captured.now) j shown.faulty) shown.text.items) }
 {
     let mut out = Output::new(alloc);
     out.begin_object()?;
     put_frame(&mut out, captured)?;
-    let faulty = put_rest(&mut out, &captured.packet)?;
-    out.end_object()?;
-    let text = out.into_line()?;
-    Ok(Shown { text, faulty })
-}
-
-/// The same, where what can be shown of a datagram at fault stands before its fault, as `all_json` has it.
-pub fn all_frame_json(alloc: Global, captured: &Captured) -> Result<Shown, Memory>
-    ensures text { IfOk result (λ shown.
-        AllFrameJson (seen_of captured.now) shown.text.items shown.faulty) }
-    // A reader of JSON finds this value in the line.
-    ensures reads_back { IfOk result (λ shown.
-        ReadsBack (λ j. IsAllFrameJson (seen_of captured.now) j shown.faulty) shown.text.items) }
-{
-    let mut out = Output::new(alloc);
-    out.begin_object()?;
-    put_frame(&mut out, captured)?;
-    let faulty = put_all_rest(&mut out, &captured.packet)?;
+    let faulty = put_rest(&mut out, members, &captured.packet)?;
     out.end_object()?;
     let text = out.into_line()?;
     Ok(Shown { text, faulty })

@@ -2,12 +2,12 @@
 
 ghost use Rattle.gtp_json.specs.Laws.{OneLine, OneFrameLine, OneReading};
 
-/// A datagram has one line of JSON.
+/// A datagram has one line of JSON in each form.
 pub fn datagrams_have_one_line()
     ensures { OneLine }
 {}
 
-/// A datagram of a capture has one line of JSON.
+/// A datagram of a capture has one line of JSON in each form.
 pub fn frames_have_one_line()
     ensures { OneFrameLine }
 {}

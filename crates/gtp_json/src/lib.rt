@@ -10,9 +10,8 @@ mod object;
 mod user;
 mod values;
 
-pub use all::all_json;
-pub use datagram::datagram_json;
-pub use frames::{all_frame_json, frame_json, put_end};
+pub use datagram::{Members, datagram_json};
+pub use frames::{frame_json, put_end};
 pub use object::Output;
 
 /// What the signatures here name of the crates below.

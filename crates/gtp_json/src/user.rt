@@ -1,14 +1,13 @@
 //! Datagrams of the user plane as JSON.
 
-ghost use Rattle.std.specs.Prelude.{◌≡◌, ◌++◌, OnOk, IfOk};
+ghost use Rattle.std.specs.Prelude.{◌≡◌, ◌++◌, OnOk};
 ghost use Rattle.std.specs.List.{flat_map};
 ghost use Rattle.json.specs.Tree.{json_tokens};
 ghost use Rattle.gtp_user.specs.Chain.{extension_of};
 ghost use Rattle.gtp_user.specs.Message.{content_of, message_value};
 ghost use Rattle.gtp_json.specs.reading.Tokens.{written};
-ghost use Rattle.gtp_json.specs.Adds.{Adds};
 ghost use Rattle.gtp_json.specs.Control.{fault_member};
-ghost use Rattle.gtp_json.specs.User.{named, user_title, target_members, some_member, user_head, extension_json, extensions_members, indication_members, user_carried, user_members, user_code, user_fault_detail, user_fault_members, UserMembers};
+ghost use Rattle.gtp_json.specs.User.{named, user_title, target_members, some_member, user_head, extension_json, extensions_members, indication_members, user_carried, user_members, user_code, user_fault_detail, user_fault_members};
 
 use crate::object::Output;
 use crate::values::put_octets;
@@ -196,21 +195,4 @@ pub fn put_fault(out: &mut Output, fault: &UserFault) -> Result<(), AllocError>
     out.string_member("code", code(fault))?;
     put_fault_detail(out, fault)?;
     out.end_object()
-}
-
-/// Writes the members of a datagram of the user plane after its plane, and tells whether they are a fault's.
-pub fn put_user(out: &mut Output, octets: &[u8]) -> Result<bool, AllocError>
-    ensures { IfOk result (λ faulty.
-        Adds (λ ms. UserMembers octets.now ms faulty) out.old out.new) }
-{
-    match gtp_user::decode(octets) {
-        Ok(message) => {
-            put_message(out, &message)?;
-            Ok(false)
-        }
-        Err(fault) => {
-            put_fault(out, &fault)?;
-            Ok(true)
-        }
-    }
 }

@@ -16,7 +16,7 @@ use crate::replaying::unopened;
 use gtp_capture::{CaptureFault, Captured, Packet, Ports, Refused, Sink, Stop, read_capture};
 use gtp_counted::{Counted, Failed};
 use gtp_frames::{Form, Shown, frame_lines};
-use gtp_json::{all_frame_json, frame_json};
+use gtp_json::{Members, frame_json};
 use gtp_lines::text::{put, put_number};
 use gtp_values::Memory;
 use std::alloc::{AllocError, Global};
@@ -147,8 +147,8 @@ fn shown_as(alloc: Global, form: CaptureForm, captured: &Captured) -> Result<Sho
 {
     match form {
         CaptureForm::Text(form) => frame_lines(alloc, form, captured),
-        CaptureForm::Json => frame_json(alloc, captured),
-        CaptureForm::AllJson => all_frame_json(alloc, captured),
+        CaptureForm::Json => frame_json(alloc, Members::Plain, captured),
+        CaptureForm::AllJson => frame_json(alloc, Members::All, captured),
     }
 }
 

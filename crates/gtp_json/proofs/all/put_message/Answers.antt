@@ -2,8 +2,8 @@ use Rattle.std.proofs.Common.{◌++◌, ℕ, List, refl, subst}
 use Rattle.json.specs.Json.{Json}
 use Rattle.gtp_lines.specs.All.{IsFront}
 use Rattle.gtp_lines.specs.reading.Header.{headed_of}
-use Rattle.gtp_json.specs.Control.{elements_members}
-use Rattle.gtp_json.specs.All.{headed_members, rest_members}
+use Rattle.gtp_json.specs.Control.{header_members, elements_members}
+use Rattle.gtp_json.specs.All.{rest_members}
 use Rattle.gtp_json.proofs.Tokens.{twice}
 use Rattle.gtp_json.proofs.all.put_message.Goals as goal
 
@@ -12,7 +12,8 @@ returns c =
     let header = c.args.header.now in
     let found = c.front_elements-elements.result in
     let front = subst (λ (n : ℕ). IsFront n header.rest.now found.0 found.1.now) c.place.ensures.place c.front_elements-elements.ensures in
-    let first : List (List ℕ × Json) = headed_members (headed_of header) in
+    let h = headed_of header in
+    let first : List (List ℕ × Json) = header_members h.kind h.teid h.seq h.priority in
     let list : List (List ℕ × Json) = elements_members found.0 ++ rest_members found.1.now in
     record {
       ok = (first ++ list, (found.0, found.1.now, front, refl), twice c.args.out.now c.put_head_members.new.out c.put_list.new.out first list c.in_ok-put_head_members.ensures.ok c.in_ok-put_list.ensures.ok);

@@ -1,0 +1,17 @@
+use Rattle.std.proofs.Common.{◌++◌, refl}
+use Rattle.gtp_user.specs.Message.{message_value}
+use Rattle.gtp_json.specs.Control.{fault_member}
+use Rattle.gtp_json.specs.User.{user_members, user_fault_members}
+use Rattle.gtp_json.proofs.Tokens.{twice}
+use Rattle.gtp_json.proofs.datagram.put_user.Goals as goal
+
+pub returns-in_ok-put_message-in-Ok : goal.returns-in_ok-put_message-in-Ok
+returns-in_ok-put_message-in-Ok c =
+    let m = message_value c.in-Ok.message in
+    (user_members m, (m, c.in-Ok.ensures.found, refl), c.in_ok-put_message-in-Ok.ensures.ok)
+
+pub returns-in_ok-put_fault-in-Err : goal.returns-in_ok-put_fault-in-Err
+returns-in_ok-put_fault-in-Err c =
+    let before = c.in_ok-put_before-in-Err.ensures.ok in
+    let fault = user_fault_members c.in-Err.fault in
+    (before.0 ++ fault_member fault, (c.in-Err.fault, c.in-Err.ensures.fault, (before.0, before.1, refl)), twice c.args.out.now c.put_before.new.out c.put_fault.new.out before.0 (fault_member fault) before.2 c.in_ok-put_fault-in-Err.ensures.ok)
