@@ -1,5 +1,4 @@
-pub mod Digits
+pub mod Walk
 pub mod Plain
 pub mod Texts
 pub mod Going
-mod Wrong

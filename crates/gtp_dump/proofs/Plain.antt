@@ -8,8 +8,8 @@ use Rattle.std.proofs.lemmas.List.{take-append-drop, get_or-drop, length-drop}
 use Rattle.std.proofs.lemmas.List.Elements.{All-head, All-tail, All-from_get_or}
 use Rattle.hex.specs.Hex.{decode_of, is_hex_digit}
 use Rattle.hex.proofs.HexLemmas.{decode_of-ok}
-use Rattle.gtp_dump.specs.Text.{is_between, begins_prefix, digits_in, HasOctets}
-use Rattle.gtp_dump.proofs.Digits.{none, otherwise}
+use Rattle.gtp_dump.specs.Text.{is_between, begins_prefix, taken, digits_in, HasOctets}
+use Rattle.gtp_dump.proofs.Walk.{none, otherwise}
 
 abbrev IsBlankAt : ℕ → Type 0
 IsBlankAt x = is_ascii_whitespace x ≡ true
@@ -37,7 +37,7 @@ blank_begins_none a (b ∷ rest) blank = rw (is_other is_ascii_whitespace 48 ref
 passes_blank : (a : ℕ) (rest : List ℕ) → IsBlankAt a → digits_in (a ∷ rest) ≡ digits_in rest
 passes_blank a rest blank =
     let comment = is_other is_ascii_whitespace 35 refl a blank in
-    otherwise a rest (blank_begins_none a rest blank) ∙ rw (comment, blank) refl
+    otherwise taken a rest (blank_begins_none a rest blank) ∙ rw (comment, blank) refl
 
 passes_blanks : (blanks rest : List ℕ) → AllPass is_ascii_whitespace blanks → digits_in (blanks ++ rest) ≡ digits_in rest
 passes_blanks [] rest all = refl
@@ -54,12 +54,12 @@ hex_not_between a hex = rw (hex_not_blank a hex, is_other is_hex_digit 58 refl a
 takes_hex : (a : ℕ) (rest : List ℕ) → IsHexAt a → begins_prefix a rest ≡ false → digits_in (a ∷ rest) ≡ a ∷ digits_in rest
 takes_hex a rest hex begins =
     let comment = is_other is_hex_digit 35 refl a hex in
-    otherwise a rest begins ∙ rw (comment, hex_not_between a hex) refl
+    otherwise taken a rest begins ∙ rw (comment, hex_not_between a hex) refl
 
 -- digits, and blanks after them
 hex_before_blanks : (digits blanks : List ℕ) → AllPass is_hex_digit digits → AllPass is_ascii_whitespace blanks → digits_in (digits ++ blanks) ≡ digits
-hex_before_blanks [] blanks hex blank = ap digits_in (sym (append-nil blanks)) ∙ passes_blanks blanks [] blank ∙ none
-hex_before_blanks (a ∷ []) [] hex blank = takes_hex a [] (All-head IsHexAt a [] hex) refl ∙ ap (λ l. a ∷ l) none
+hex_before_blanks [] blanks hex blank = ap digits_in (sym (append-nil blanks)) ∙ passes_blanks blanks [] blank ∙ none taken
+hex_before_blanks (a ∷ []) [] hex blank = takes_hex a [] (All-head IsHexAt a [] hex) refl ∙ ap (λ l. a ∷ l) (none taken)
 hex_before_blanks (a ∷ []) (b ∷ blanks) hex blank =
     takes_hex a (b ∷ blanks) (All-head IsHexAt a [] hex) (no_prefix is_ascii_whitespace refl refl a b blanks (All-head IsBlankAt b blanks blank)) ∙ ap (λ l. a ∷ l) (hex_before_blanks [] (b ∷ blanks) (All-tail IsHexAt a [] hex) blank)
 hex_before_blanks (a ∷ b ∷ digits) blanks hex blank =

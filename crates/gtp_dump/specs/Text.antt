@@ -18,15 +18,30 @@ abbrev pub begins_prefix : ℕ → List ℕ → Bool
 begins_prefix a [] = false
 begins_prefix a (b ∷ rest) = is_prefix a b
 
--- a character that begins no prefix, before the digits of what follows: `#` begins a comment
-abbrev pub with_digits : ℕ → List ℕ → List ℕ
-with_digits c more = if c == 35 then [] else (if is_between c then more else (c ∷ more))
+-- of a character that begins no prefix, before what follows it, of which a walk gives more: `#` begins a comment, and what stands between octets is passed over;
+-- of any other character `found` says what the walk gives
+abbrev pub step : (ℕ → List ℕ → List ℕ → List ℕ) → ℕ → List ℕ → List ℕ → List ℕ
+step found c after more = if c == 35 then [] else (if is_between c then more else found c after more)
 
--- the digits of a text: what stands between octets, prefixes and a comment are passed over
-unfoldable pub digits_in : List ℕ → List ℕ
-digits_in [] = []
-digits_in (a ∷ []) = with_digits a []
-digits_in (a ∷ b ∷ rest) = if is_prefix a b then digits_in rest else with_digits a (digits_in (b ∷ rest))
+-- what a walk over a text gives: prefixes are passed over
+unfoldable pub walked : (ℕ → List ℕ → List ℕ → List ℕ) → List ℕ → List ℕ
+walked found [] = []
+walked found (a ∷ []) = step found a [] []
+walked found (a ∷ b ∷ rest) = if is_prefix a b then walked found rest else step found a (b ∷ rest) (walked found (b ∷ rest))
+
+-- a text from the first of its digits on
+abbrev pub first_on : ℕ → List ℕ → List ℕ → List ℕ
+first_on c after more = c ∷ after
+
+abbrev pub from_digit : List ℕ → List ℕ
+from_digit text = walked first_on text
+
+-- the digits of a text, which are all characters that are not passed over
+abbrev pub taken : ℕ → List ℕ → List ℕ → List ℕ
+taken c after more = c ∷ more
+
+abbrev pub digits_in : List ℕ → List ℕ
+digits_in text = walked taken text
 
 -- the text has digits, and they spell these octets
 pub record HasOctets (text octets : List ℕ) : Type 0 where

@@ -1,9 +1,9 @@
 //! Why a line of a hex dump is bad.
 
 ghost use Rattle.std.specs.Prelude.{◌≡◌, ◌++◌, ◌-◌, [], OnOk};
-ghost use Rattle.gtp_dump.specs.Flaw.{is_passed, from_wrong, octet_text, flaw_text, IsFlaw};
+ghost use Rattle.gtp_dump.specs.Flaw.{from_wrong, octet_text, flaw_text, IsFlaw};
 
-use crate::text::{MOST_OCTETS, begins_prefix, is_between, named};
+use crate::text::{MOST_OCTETS, from_digit, named};
 use gtp_lines::text::{put, put_number};
 use std::alloc::AllocError;
 
@@ -18,31 +18,16 @@ pub enum Flaw {
     Odd,
 }
 
-/// Whether a character is a digit, or may stand between octets.
-fn is_passed(c: u8) -> bool
-    ensures { result ≡ is_passed c }
-{
-    is_between(c) || c.is_ascii_hexdigit()
-}
-
-/// A text from the first character on that is neither a digit nor passed over; nothing where there is none.
+/// A text from the first of its digits on that is no hexadecimal digit; nothing where there is none.
 fn from_wrong(text: &[u8]) -> &[u8]
     ensures { result.now ≡ from_wrong text.now }
 {
-    let mut rest = text;
+    let mut rest = from_digit(text);
     while let Some((first, after)) = rest.split_first() {
-        if begins_prefix(*first, after) {
-            let (_, behind) = after.split_at(1);
-            rest = behind;
-            continue;
-        }
-        if *first == b'#' {
-            return &[];
-        }
-        if !is_passed(*first) {
+        if !first.is_ascii_hexdigit() {
             return rest;
         }
-        rest = after;
+        rest = from_digit(after);
     }
     rest
 }

@@ -2,7 +2,7 @@
 
 ghost use Rattle.std.specs.Prelude.{◌≡◌, ◌≤◌, [], length, IsTrue, None, Ok, Err, IfOk, IfSome, IsErr};
 ghost use Rattle.hex.specs.Hex.{decode_of};
-ghost use Rattle.gtp_dump.specs.Text.{is_between, begins_prefix, digits_in, HasOctets, Names, plane_by_version, Spells, IsBlank, IsBad};
+ghost use Rattle.gtp_dump.specs.Text.{is_between, begins_prefix, from_digit, digits_in, HasOctets, Names, plane_by_version, Spells, IsBlank, IsBad};
 
 use gtp_values::{Memory, Plane};
 use hex::FromHexError;
@@ -31,25 +31,25 @@ pub enum LineFault {
 }
 
 /// Whether a character may stand between octets: a blank, a colon or a comma.
-pub fn is_between(c: u8) -> bool
+fn is_between(c: u8) -> bool
     ensures { result ≡ is_between c }
 {
     c.is_ascii_whitespace() || c == b':' || c == b','
 }
 
 /// Whether a text of this character and what follows begins with `0x` or `0X`.
-pub fn begins_prefix(first: u8, after: &[u8]) -> bool
+fn begins_prefix(first: u8, after: &[u8]) -> bool
     ensures value { result ≡ begins_prefix first after.now }
     ensures one { IsTrue result → 1 ≤ length after.now }
 {
     first == b'0' && matches!(after.first(), Some(b'x' | b'X'))
 }
 
-/// The digits of a text, without a comment, prefixes, and what stands between octets.
-fn digits_in(alloc: Global, text: &[u8]) -> Result<Vec<u8>, Memory>
-    ensures { IfOk result (λ digits. digits.items ≡ digits_in text.now) }
+/// A text from the first of its digits on: a comment, prefixes, and what stands between octets are passed over.
+pub fn from_digit(text: &[u8]) -> &[u8]
+    ensures value { result.now ≡ from_digit text.now }
+    ensures within { length result.now ≤ length text.now }
 {
-    let mut digits = Vec::with_capacity(alloc, text.len())?;
     let mut rest = text;
     while let Some((first, after)) = rest.split_first() {
         if begins_prefix(*first, after) {
@@ -58,12 +58,25 @@ fn digits_in(alloc: Global, text: &[u8]) -> Result<Vec<u8>, Memory>
             continue;
         }
         if *first == b'#' {
-            return Ok(digits);
+            return &[];
         }
         if !is_between(*first) {
-            digits.push(*first)?;
+            return rest;
         }
         rest = after;
+    }
+    rest
+}
+
+/// The digits of a text.
+fn digits_in(alloc: Global, text: &[u8]) -> Result<Vec<u8>, Memory>
+    ensures { IfOk result (λ digits. digits.items ≡ digits_in text.now) }
+{
+    let mut digits = Vec::with_capacity(alloc, text.len())?;
+    let mut rest = from_digit(text);
+    while let Some((first, after)) = rest.split_first() {
+        digits.push(*first)?;
+        rest = from_digit(after);
     }
     Ok(digits)
 }

@@ -1,22 +1,15 @@
-use Rattle.std.proofs.Common.{ap, ◌∙◌, rules}
-use Rattle.std.proofs.lemmas.List.{nil_from_length}
-use Rattle.gtp_dump.specs.Flaw.{from_wrong}
-use Rattle.gtp_dump.proofs.Wrong.{passes_prefix, ends_at_comment, stops, passes, ends}
+use Rattle.std.proofs.Common.{◌≡◌, ◌∙◌, true, ap, refl, sym, rules}
+use Rattle.std.specs.Char.{is_ascii_hexdigit}
+use Rattle.gtp_dump.specs.Flaw.{wrong, from_wrong}
+use Rattle.gtp_dump.proofs.Walk.{at_digit, onto}
 use Rattle.gtp_dump.proofs.flaw.from_wrong.Goals as goal
 
-pub loop-first-preserved-then-begins_prefix : goal.loop-first-preserved-then-begins_prefix
-loop-first-preserved-then-begins_prefix c =
-    let passed = passes_prefix _ _ c.in-Some.first.now c.in-Some.after.now c.loop-first.invariant.wrong c.in-Some.ensures.cases.0 (search rules) in
-    record { wrong = ap from_wrong c.split_at.ensures.back ∙ passed }
-
-pub returns-then-first-eq35 : goal.returns-then-first-eq35
-returns-then-first-eq35 c = ends_at_comment _ _ c.in-Some.first.now c.in-Some.after.now c.loop-first.invariant.wrong c.in-Some.ensures.cases.0 (search rules) (search rules)
-
-pub returns-then-not-is_passed : goal.returns-then-not-is_passed
-returns-then-not-is_passed c = stops _ _ c.in-Some.first.now c.in-Some.after.now c.loop-first.invariant.wrong c.in-Some.ensures.cases.0 (search rules) (search rules) (search rules)
+pub loop-first-init : goal.loop-first-init
+loop-first-init c = record { wrong = onto wrong c.args.text.now _ c.from_digit-rest.ensures.value }
 
 pub loop-first-preserved : goal.loop-first-preserved
-loop-first-preserved c = record { wrong = passes _ _ c.in-Some.first.now c.in-Some.after.now c.loop-first.invariant.wrong c.in-Some.ensures.cases.0 (search rules) (search rules) (search rules) }
-
-pub returns : goal.returns
-returns c = ends _ _ c.loop-first.invariant.wrong (nil_from_length _ c.in_default.ensures.cases)
+loop-first-preserved c =
+    let after = c.in-Some.after.now in
+    let is_hex : is_ascii_hexdigit c.in-Some.first.now ≡ true = search rules in
+    let passes : wrong c.in-Some.first.now after (from_wrong after) ≡ from_wrong after = rw is_hex refl in
+    record { wrong = onto wrong after _ c.from_digit-rest-in-Some.ensures.value ∙ (sym passes ∙ (sym (ap (at_digit wrong) c.in-Some.ensures.cases.0) ∙ c.loop-first.invariant.wrong)) }

@@ -1,10 +1,11 @@
 use Rattle.std.proofs.Common.{◌≡◌, ◌++◌, length}
-use Rattle.gtp_dump.specs.Text.{digits_in}
+use Rattle.gtp_dump.specs.Text.{taken, digits_in}
+use Rattle.gtp_dump.proofs.Walk.{at_digit}
 use Rattle.gtp_dump.proofs.text.digits_in.Given as goal
 
 abbrev pub invariant-loop-first : goal.invariant-loop-first
 invariant-loop-first l = record {
-  digits : l.digits.items ++ digits_in l.rest ≡ digits_in l.text;
+  digits : l.digits.items ++ at_digit taken l.rest ≡ digits_in l.text;
 }
 
 abbrev pub decreases-loop-first : goal.decreases-loop-first
