@@ -1,7 +1,6 @@
 -- The lines of a datagram and its object are of one reading.
-use Rattle.std.proofs.Common.{◌≡◌, ℕ, Bool, true, false, List, ◌++◌, inl, inr, refl, ◌∙◌, ap}
+use Rattle.std.proofs.Common.{◌≡◌, ℕ, true, false, List, [], ◌++◌, inl, inr, refl, subst, ◌∙◌, ap}
 use Rattle.json.specs.Json.{Json}
-use Rattle.gtp_values.specs.declared.plane.Plane.{Plane}
 use Rattle.gtp_values.specs.declared.plane.Plane.TheVariants as planes
 use Rattle.gtp_v2.specs.declared.fault.V2Fault.{V2Fault}
 use Rattle.gtp_v2.specs.Message.{MessageValue}
@@ -10,14 +9,16 @@ use Rattle.gtp_v2.proofs.Pairs.{datagram_decided}
 use Rattle.gtp_user.specs.declared.fault.UserFault.{UserFault}
 use Rattle.gtp_user.specs.Datagram.{IsUserMessage, IsUserFault}
 use Rattle.gtp_user.proofs.Messages.{message_decided as user_decided}
-use Rattle.gtp_lines.specs.Control.{AloneLines, PairLines, ControlLines}
-use Rattle.gtp_lines.specs.User.{UserLines}
-use Rattle.gtp_json.specs.declared.datagram.Members.TheVariants.{Plain}
+use Rattle.gtp_lines.specs.Control.{AloneLines, PairLines, fault_line}
+use Rattle.gtp_lines.specs.User.{UserLines, user_fault_line}
+use Rattle.gtp_lines.specs.All.{user_shown, user_head_at}
+use Rattle.gtp_json.specs.declared.datagram.Members.{Members}
+use Rattle.gtp_json.specs.declared.datagram.Members.TheVariants.{Plain, All}
 use Rattle.gtp_json.specs.Tree.{object_of}
-use Rattle.gtp_json.specs.Control.{fault_members, fault_member}
+use Rattle.gtp_json.specs.Control.{fault_members}
 use Rattle.gtp_json.specs.User.{user_members, user_fault_members}
-use Rattle.gtp_json.specs.Datagram.{plane_member, WithFault, MembersBy}
-use Rattle.gtp_json.specs.Laws.{OfOne, OneReading}
+use Rattle.gtp_json.specs.Datagram.{plane_member}
+use Rattle.gtp_json.specs.Laws.{LinesBy, EndsInLine, EndsInFault, OneReading}
 use Rattle.gtp_json.proofs.OneLine.{one_of, spelled}
 
 -- what lines that are no fault's are of
@@ -27,47 +28,56 @@ lines_alone octets text (m, is, rest) = (m, inl (m, is, refl))
 lines_both : (octets text : List ℕ) → PairLines octets text → (a : MessageValue) × (b : MessageValue) × IsDatagram octets (both a b)
 lines_both octets text (front, back, announces, (before, (a, first, rest), (b, second, others))) = (a, b, inr (front, back, announces, (a, first, (b, second, refl))))
 
-lines_of : (octets text : List ℕ) → ControlLines octets text false → (d : DatagramValue) × IsDatagram octets d
-lines_of octets text (inl h) = let s = lines_alone octets text h in (alone s.0, s.1)
-lines_of octets text (inr h) = let s = lines_both octets text h in (both s.0 s.1, s.2)
+lines_of : (members : Members) (octets text : List ℕ) → LinesBy members planes.Control octets text false → (d : DatagramValue) × IsDatagram octets d
+lines_of Plain octets text (inl h) = let s = lines_alone octets text h in (alone s.0, s.1)
+lines_of Plain octets text (inr h) = let s = lines_both octets text h in (both s.0 s.1, s.2)
+lines_of All octets text (d, how) = d
 
--- without what can be shown, a fault stands alone
-fault_alone : (plane : Plane) (octets : List ℕ) (fault ms : List (List ℕ × Json)) → WithFault Plain plane octets fault ms → ms ≡ fault_member fault
-fault_alone plane octets fault ms (before, none, is) = is ∙ ap (λ (xs : List (List ℕ × Json)). xs ++ fault_member fault) none
+-- the fault that lines end in
+fault_of : (members : Members) (octets text : List ℕ) → LinesBy members planes.Control octets text true → (f : V2Fault) × IsDatagramFault octets f × EndsInLine members planes.Control octets (fault_line f) text
+fault_of Plain octets text (f, fails, is) = (f, fails, ([], refl, is))
+fault_of All octets text found = found
 
-control_reading : (octets text : List ℕ) (faulty : Bool) (j : Json) (wrong : Bool) (ms : List (List ℕ × Json)) → ControlLines octets text faulty → MembersBy Plain planes.Control octets ms wrong → j ≡ object_of (plane_member planes.Control ++ ms) → (faulty ≡ wrong) × OfOne planes.Control octets faulty text j
-control_reading octets text true j true ms (f, fails, is) (g, fault, has) j_is =
-    let one = one_of _ (IsDatagram octets) (IsDatagramFault octets) (datagram_decided octets) in
-    let ms_is = fault_alone planes.Control octets (fault_members g) ms has in
-    (refl, (f, fails, is, j_is ∙ ap (λ xs. object_of (plane_member planes.Control ++ xs)) (ms_is ∙ ap (λ (z : V2Fault). fault_member (fault_members z)) (one.fault g f fault fails))))
-control_reading octets text true j false ms (f, fails, is) members j_is =
-    let one = one_of _ (IsDatagram octets) (IsDatagramFault octets) (datagram_decided octets) in
-    let s = spelled Plain octets ms members in
-    absurd (one.either s.0 f s.1 fails)
-control_reading octets text false j true ms lines (f, fails, has) j_is =
-    let one = one_of _ (IsDatagram octets) (IsDatagramFault octets) (datagram_decided octets) in
-    let s = lines_of octets text lines in
-    absurd (one.either s.0 f s.1 fails)
-control_reading octets text false j false ms lines members j_is =
-    let one = one_of _ (IsDatagram octets) (IsDatagramFault octets) (datagram_decided octets) in
-    let s = lines_of octets text lines in
-    (refl, (s.0, s.1, λ other is. one.value other s.0 is s.1))
+user_fault_of : (members : Members) (octets text : List ℕ) → LinesBy members planes.User octets text true → (f : UserFault) × IsUserFault octets f × EndsInLine members planes.User octets (user_fault_line f) text
+user_fault_of Plain octets text (f, fails, is) = (f, fails, ([], refl, is))
+user_fault_of All octets text (f, fails, is) = (f, fails, (user_shown (user_head_at octets), refl, is))
 
-user_reading : (octets text : List ℕ) (faulty : Bool) (j : Json) (wrong : Bool) (ms : List (List ℕ × Json)) → UserLines octets text faulty → MembersBy Plain planes.User octets ms wrong → j ≡ object_of (plane_member planes.User ++ ms) → (faulty ≡ wrong) × OfOne planes.User octets faulty text j
-user_reading octets text true j true ms (f, fails, is) (g, fault, has) j_is =
-    let one = one_of _ (IsUserMessage octets) (IsUserFault octets) (user_decided octets) in
-    let ms_is = fault_alone planes.User octets (user_fault_members g) ms has in
-    (refl, (f, fails, is, j_is ∙ ap (λ xs. object_of (plane_member planes.User ++ xs)) (ms_is ∙ ap (λ (z : UserFault). fault_member (user_fault_members z)) (one.fault g f fault fails))))
-user_reading octets text true j false ms (f, fails, is) (m, said, ms_is) j_is =
-    let one = one_of _ (IsUserMessage octets) (IsUserFault octets) (user_decided octets) in
-    absurd (one.either m f said fails)
-user_reading octets text false j true ms (m, said, is) (f, fails, has) j_is =
-    let one = one_of _ (IsUserMessage octets) (IsUserFault octets) (user_decided octets) in
-    absurd (one.either m f said fails)
-user_reading octets text false j false ms (m, said, is) (n, other, ms_is) j_is =
-    let one = one_of _ (IsUserMessage octets) (IsUserFault octets) (user_decided octets) in
-    (refl, (m, said, is, j_is ∙ ap (λ xs. object_of (plane_member planes.User ++ xs)) (ms_is ∙ ap user_members (one.value n m other said))))
+-- and a message of the user plane
+user_of : (members : Members) (octets text : List ℕ) → LinesBy members planes.User octets text false → UserLines octets text false
+user_of Plain octets text lines = lines
+user_of All octets text lines = lines
 
 pub one_reading : OneReading
-one_reading planes.Control octets text faulty j wrong lines (ms, members, is) = control_reading octets text faulty j wrong ms lines members is
-one_reading planes.User octets text faulty j wrong lines (ms, members, is) = user_reading octets text faulty j wrong ms lines members is
+one_reading members planes.Control octets text true j true lines (ms, (g, fault, has), is) =
+    let one = one_of _ (IsDatagram octets) (IsDatagramFault octets) (datagram_decided octets) in
+    let found = fault_of members octets text lines in
+    (refl, (found.0, found.1, found.2, subst (λ (z : V2Fault). EndsInFault members planes.Control octets (fault_members z) j) (one.fault g found.0 fault found.1) (ms, has, is)))
+one_reading members planes.Control octets text true j false lines (ms, has, is) =
+    let one = one_of _ (IsDatagram octets) (IsDatagramFault octets) (datagram_decided octets) in
+    let found = fault_of members octets text lines in
+    let s = spelled members octets ms has in
+    absurd (one.either s.0 found.0 s.1 found.1)
+one_reading members planes.Control octets text false j true lines (ms, (f, fails, has), is) =
+    let one = one_of _ (IsDatagram octets) (IsDatagramFault octets) (datagram_decided octets) in
+    let s = lines_of members octets text lines in
+    absurd (one.either s.0 f s.1 fails)
+one_reading members planes.Control octets text false j false lines (ms, has, is) =
+    let one = one_of _ (IsDatagram octets) (IsDatagramFault octets) (datagram_decided octets) in
+    let s = lines_of members octets text lines in
+    (refl, (s.0, s.1, λ other other_is. one.value other s.0 other_is s.1))
+one_reading members planes.User octets text true j true lines (ms, (g, fault, has), is) =
+    let one = one_of _ (IsUserMessage octets) (IsUserFault octets) (user_decided octets) in
+    let found = user_fault_of members octets text lines in
+    (refl, (found.0, found.1, found.2, subst (λ (z : UserFault). EndsInFault members planes.User octets (user_fault_members z) j) (one.fault g found.0 fault found.1) (ms, has, is)))
+one_reading members planes.User octets text true j false lines (ms, (m, said, ms_is), is) =
+    let one = one_of _ (IsUserMessage octets) (IsUserFault octets) (user_decided octets) in
+    let found = user_fault_of members octets text lines in
+    absurd (one.either m found.0 said found.1)
+one_reading members planes.User octets text false j true lines (ms, (f, fails, has), is) =
+    let one = one_of _ (IsUserMessage octets) (IsUserFault octets) (user_decided octets) in
+    let s = user_of members octets text lines in
+    absurd (one.either s.0 f s.1 fails)
+one_reading members planes.User octets text false j false lines (ms, (n, other, ms_is), is) =
+    let one = one_of _ (IsUserMessage octets) (IsUserFault octets) (user_decided octets) in
+    let s = user_of members octets text lines in
+    (refl, (s.0, s.1, s.2, is ∙ ap (λ (xs : List (List ℕ × Json)). object_of (plane_member planes.User ++ xs)) (ms_is ∙ ap user_members (one.value n s.0 other s.1))))

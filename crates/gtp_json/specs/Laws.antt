@@ -1,5 +1,5 @@
 -- What holds of all octets.
-use Rattle.std.specs.Prelude.{◌≡◌, ℕ, ◌++◌, Bool, true, false, List}
+use Rattle.std.specs.Prelude.{◌≡◌, ℕ, ◌++◌, Bool, true, false, List, []}
 use Rattle.json.specs.Json.{Json}
 use Rattle.gtp_values.specs.declared.plane.Plane.{Plane}
 use Rattle.gtp_values.specs.declared.plane.Plane.TheVariants as planes
@@ -11,13 +11,14 @@ use Rattle.gtp_user.specs.Datagram.{IsUserMessage, IsUserFault}
 use Rattle.gtp_capture.specs.Seen.{Seen}
 use Rattle.gtp_lines.specs.Control.{fault_line}
 use Rattle.gtp_lines.specs.Lines.{LinesOf}
+use Rattle.gtp_lines.specs.All.{ControlShown, user_shown, user_head_at, AllLines}
 use Rattle.gtp_lines.specs.User.{user_lines, user_fault_line}
 use Rattle.gtp_json.specs.declared.datagram.Members.{Members}
-use Rattle.gtp_json.specs.declared.datagram.Members.TheVariants.{Plain}
+use Rattle.gtp_json.specs.declared.datagram.Members.TheVariants.{Plain, All}
 use Rattle.gtp_json.specs.Tree.{object_of}
-use Rattle.gtp_json.specs.Control.{fault_members, fault_member}
+use Rattle.gtp_json.specs.Control.{fault_members}
 use Rattle.gtp_json.specs.User.{user_members, user_fault_members}
-use Rattle.gtp_json.specs.Datagram.{plane_member, IsDatagramJson, DatagramJson}
+use Rattle.gtp_json.specs.Datagram.{plane_member, WithFault, IsDatagramJson, DatagramJson}
 use Rattle.gtp_json.specs.Frames.{FrameJson}
 
 -- a datagram has one line, in each form, and whether it has a fault is determined
@@ -31,15 +32,35 @@ abbrev pub OneFrameLine : Type 0
 OneFrameLine =
     (members : Members) (d : Seen) (text : List ℕ) (faulty : Bool) (other : List ℕ) (wrong : Bool) → FrameJson members d text faulty → FrameJson members d other wrong → (text ≡ other) × (faulty ≡ wrong)
 
+-- the lines of a datagram: those of its message or of its two, or of its first fault; or all that can be shown of it, and then the fault
+abbrev pub LinesBy : Members → Plane → List ℕ → List ℕ → Bool → Type 0
+LinesBy Plain plane octets text faulty = LinesOf plane octets text faulty
+LinesBy All plane octets text faulty = AllLines plane octets text faulty
+
+-- what stands before the line of a fault: nothing; or all that can be shown
+abbrev pub LinesBefore : Members → Plane → List ℕ → List ℕ → Type 0
+LinesBefore Plain plane octets text = text ≡ []
+LinesBefore All planes.Control octets text = ControlShown octets text
+LinesBefore All planes.User octets text = text ≡ user_shown (user_head_at octets)
+
+-- and then the line
+abbrev pub EndsInLine : Members → Plane → List ℕ → List ℕ → List ℕ → Type 0
+EndsInLine members plane octets line text = (before : List ℕ) × LinesBefore members plane octets before × (text ≡ before ++ line)
+
+-- an object whose last member is a fault
+abbrev pub EndsInFault : Members → Plane → List ℕ → List (List ℕ × Json) → Json → Type 0
+EndsInFault members plane octets fault j = (ms : List (List ℕ × Json)) × WithFault members plane octets fault ms × (j ≡ object_of (plane_member plane ++ ms))
+
 -- the text and the object say the one fault of the octets, or their one message of the user plane; of a datagram of the control plane the octets spell one and
 -- no other, so both are of that
-abbrev pub OfOne : Plane → List ℕ → Bool → List ℕ → Json → Type 0
-OfOne planes.Control octets true text j = (f : V2Fault) × IsDatagramFault octets f × (text ≡ fault_line f) × (j ≡ object_of (plane_member planes.Control ++ fault_member (fault_members f)))
-OfOne planes.Control octets false text j = (d : DatagramValue) × IsDatagram octets d × ((other : DatagramValue) → IsDatagram octets other → other ≡ d)
-OfOne planes.User octets true text j = (f : UserFault) × IsUserFault octets f × (text ≡ user_fault_line f) × (j ≡ object_of (plane_member planes.User ++ fault_member (user_fault_members f)))
-OfOne planes.User octets false text j = (m : UserValue) × IsUserMessage octets m × (text ≡ user_lines m) × (j ≡ object_of (plane_member planes.User ++ user_members m))
+abbrev pub OfOne : Members → Plane → List ℕ → Bool → List ℕ → Json → Type 0
+OfOne members planes.Control octets true text j = (f : V2Fault) × IsDatagramFault octets f × EndsInLine members planes.Control octets (fault_line f) text × EndsInFault members planes.Control octets (fault_members f) j
+OfOne members planes.Control octets false text j = (d : DatagramValue) × IsDatagram octets d × ((other : DatagramValue) → IsDatagram octets other → other ≡ d)
+OfOne members planes.User octets true text j = (f : UserFault) × IsUserFault octets f × EndsInLine members planes.User octets (user_fault_line f) text × EndsInFault members planes.User octets (user_fault_members f) j
+OfOne members planes.User octets false text j = (m : UserValue) × IsUserMessage octets m × (text ≡ user_lines m) × (j ≡ object_of (plane_member planes.User ++ user_members m))
 
 -- the lines of a datagram and its object are of one reading
 abbrev pub OneReading : Type 0
 OneReading =
-    (plane : Plane) (octets : List ℕ) (text : List ℕ) (faulty : Bool) (j : Json) (wrong : Bool) → LinesOf plane octets text faulty → IsDatagramJson Plain plane octets j wrong → (faulty ≡ wrong) × OfOne plane octets faulty text j
+    (members : Members) (plane : Plane) (octets : List ℕ) (text : List ℕ) (faulty : Bool) (j : Json) (wrong : Bool)
+    → LinesBy members plane octets text faulty → IsDatagramJson members plane octets j wrong → (faulty ≡ wrong) × OfOne members plane octets faulty text j

@@ -12,7 +12,7 @@ pub fn frames_have_one_line()
     ensures { OneFrameLine }
 {}
 
-/// The lines of a datagram and its JSON are of one reading: of one message, or of one fault.
+/// The lines of a datagram and its JSON are of one reading in each form: of one message, or of one fault.
 pub fn lines_and_json_are_of_one_reading()
     ensures { OneReading }
 {}
