@@ -51,10 +51,7 @@ fn put_alone(out: &mut Output, octets: &[u8]) -> Result<(), AllocError>
     ensures ok { OnOk result (Adds (AloneShown (spec_head_at octets.now)) out.old out.new) }
 {
     match head_at(octets) {
-        Some(header) => {
-            put_message(out, &header)?;
-            Ok(())
-        }
+        Some(header) => put_message(out, &header),
         None => Ok(()),
     }
 }
@@ -64,14 +61,8 @@ fn put_second(out: &mut Output, octets: &[u8]) -> Result<(), AllocError>
     ensures ok { OnOk result (Adds (SecondShown octets.now (spec_head_at octets.now)) out.old out.new) }
 {
     match head_at(octets) {
-        Some(header) => {
-            put_message(out, &header)?;
-            Ok(())
-        }
-        None => {
-            put_rest(out, octets)?;
-            Ok(())
-        }
+        Some(header) => put_message(out, &header),
+        None => put_rest(out, octets),
     }
 }
 
@@ -92,14 +83,8 @@ pub fn put_shown(out: &mut Output, octets: &[u8]) -> Result<(), AllocError>
     ensures ok { OnOk result (Adds (ControlShown octets.now) out.old out.new) }
 {
     match pair_at(octets) {
-        Some((header, back)) => {
-            put_pair(out, &header, back)?;
-            Ok(())
-        }
-        None => {
-            put_alone(out, octets)?;
-            Ok(())
-        }
+        Some((header, back)) => put_pair(out, &header, back),
+        None => put_alone(out, octets),
     }
 }
 

@@ -53,10 +53,7 @@ fn put_before(
     match (members, plane) {
         (Members::Plain, _) => Ok(()),
         (Members::All, Plane::Control) => put_shown(out, octets),
-        (Members::All, Plane::User) => {
-            put_user_shown(out, octets)?;
-            Ok(())
-        }
+        (Members::All, Plane::User) => put_user_shown(out, octets),
     }
 }
 
