@@ -8,7 +8,6 @@ use Rattle.gtp_values.specs.declared.plane.Plane.{Plane}
 use Rattle.gtp_lines.specs.Lines.{LinesOf}
 use Rattle.gtp_lines.specs.All.{AllLines}
 use Rattle.gtp_json.specs.Datagram.{DatagramJson}
-use Rattle.gtp_json.specs.declared.datagram.Members.TheVariants as members
 use Rattle.gtp_dump.specs.Text.{Spells, IsBlank, IsBad}
 use Rattle.gtp_dump.specs.Flaw.{flaw_text, IsFlaw}
 use Rattle.gtp_dump.specs.declared.flaw.Flaw.{Flaw}
@@ -36,8 +35,7 @@ bad_text number flaw = bad_line number ++ flaw_line number flaw
 abbrev pub ShowsAs : Form → Plane → List ℕ → List ℕ → Bool → Type 0
 ShowsAs forms.Lines plane octets text faulty = LinesOf plane octets text faulty
 ShowsAs forms.All plane octets text faulty = AllLines plane octets text faulty
-ShowsAs forms.Json plane octets text faulty = DatagramJson members.Plain plane octets text faulty
-ShowsAs forms.AllJson plane octets text faulty = DatagramJson members.All plane octets text faulty
+ShowsAs (forms.Json members) plane octets text faulty = DatagramJson members plane octets text faulty
 
 -- this of the datagram of a line
 abbrev pub ShowsOne : Asked → List ℕ → List ℕ → Bool → Type 0
@@ -47,8 +45,7 @@ ShowsOne asked line text faulty = (plane : Plane) × (octets : List ℕ) × Spel
 abbrev pub index_line : Form → ℕ → List ℕ
 index_line forms.Lines index = datagram_line index
 index_line forms.All index = datagram_line index
-index_line forms.Json index = []
-index_line forms.AllJson index = []
+index_line (forms.Json members) index = []
 
 -- of a datagram its index, and then this
 abbrev pub Shows : Form → Plane → List ℕ → ℕ → List ℕ → Bool → Type 0

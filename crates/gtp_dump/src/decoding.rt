@@ -25,10 +25,8 @@ pub enum Form {
     Lines,
     /// The lines of all that can be shown of it, and then of its fault.
     All,
-    /// A JSON object on one line: its message, or its first fault.
-    Json,
-    /// A JSON object on one line: all that can be shown of it, and then its fault.
-    AllJson,
+    /// A JSON object on one line, of these members.
+    Json(Members),
 }
 
 /// How the lines of a dump are read and shown.
@@ -114,8 +112,7 @@ fn lines_of(alloc: Global, form: Form, dumped: &Dumped) -> Result<Shown, Memory>
     match form {
         Form::Lines => decode_lines(alloc, dumped.plane, &dumped.octets),
         Form::All => all_lines(alloc, dumped.plane, &dumped.octets),
-        Form::Json => datagram_json(alloc, Members::Plain, dumped.plane, &dumped.octets),
-        Form::AllJson => datagram_json(alloc, Members::All, dumped.plane, &dumped.octets),
+        Form::Json(members) => datagram_json(alloc, members, dumped.plane, &dumped.octets),
     }
 }
 
@@ -130,7 +127,7 @@ fn put_index(out: &mut Vec<u8>, form: Form, index: u64) -> Result<(), AllocError
             put_number(out, index)?;
             put(out, b"\n")
         }
-        Form::Json | Form::AllJson => Ok(()),
+        Form::Json(_) => Ok(()),
     }
 }
 

@@ -1,6 +1,6 @@
 //! Why a line of a hex dump is bad.
 
-ghost use Rattle.std.specs.Prelude.{◌≡◌, ◌++◌, ◌-◌, [], OnOk};
+ghost use Rattle.std.specs.Prelude.{◌≡◌, ◌++◌, ◌-◌, OnOk};
 ghost use Rattle.gtp_dump.specs.Flaw.{from_wrong, octet_text, flaw_text, IsFlaw};
 
 use crate::text::{MOST_OCTETS, from_digit, named};

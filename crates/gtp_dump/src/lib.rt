@@ -12,4 +12,5 @@ pub use text::{Dumped, LineFault, MOST_OCTETS, read_line};
 
 /// What the signatures here name of the crates below.
 pub use gtp_counted::Counted;
+pub use gtp_json::Members;
 pub use gtp_values::Plane;

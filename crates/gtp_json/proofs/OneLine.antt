@@ -6,7 +6,6 @@ use Rattle.gtp_values.specs.Decides.{Decides}
 use Rattle.gtp_values.proofs.Outcomes.{ok_same, err_same, apart}
 use Rattle.gtp_values.specs.declared.plane.Plane.{Plane}
 use Rattle.gtp_values.specs.declared.plane.Plane.TheVariants as planes
-use Rattle.gtp_v2.specs.declared.fault.V2Fault.{V2Fault}
 use Rattle.gtp_ie.specs.Element.{Element}
 use Rattle.gtp_v2.specs.Datagram.{IsMessage, IsFault}
 use Rattle.gtp_v2.specs.Headed.{Headed}
@@ -15,7 +14,6 @@ use Rattle.gtp_v2.specs.Pair.{DatagramValue, IsDatagram, IsDatagramFault, Announ
 use Rattle.gtp_v2.specs.Viewed.{place_of}
 use Rattle.gtp_v2.proofs.Pairs.{datagram_decided}
 use Rattle.gtp_v2.proofs.Told.{message_decided}
-use Rattle.gtp_user.specs.declared.fault.UserFault.{UserFault}
 use Rattle.gtp_user.specs.Datagram.{IsUserMessage, IsUserFault}
 use Rattle.gtp_user.proofs.Messages.{message_decided as user_decided}
 use Rattle.gtp_capture.specs.Packet.{Packet as Captured}

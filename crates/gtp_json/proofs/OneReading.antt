@@ -1,5 +1,5 @@
 -- The lines of a datagram and its object are of one reading.
-use Rattle.std.proofs.Common.{◌≡◌, ℕ, true, false, List, [], ◌++◌, inl, inr, refl, subst, ◌∙◌, ap}
+use Rattle.std.proofs.Common.{ℕ, true, false, List, [], ◌++◌, inl, inr, refl, subst, ◌∙◌, ap}
 use Rattle.json.specs.Json.{Json}
 use Rattle.gtp_values.specs.declared.plane.Plane.TheVariants as planes
 use Rattle.gtp_v2.specs.declared.fault.V2Fault.{V2Fault}

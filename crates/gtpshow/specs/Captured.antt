@@ -10,11 +10,10 @@ use Rattle.gtp_capture.specs.Seen.{Seen, datagrams}
 use Rattle.gtp_capture.specs.declared.ports.Ports.{Ports}
 use Rattle.gtp_frames.specs.Frames.{FrameLines}
 use Rattle.gtp_json.specs.Frames.{FrameJson}
-use Rattle.gtp_json.specs.declared.datagram.Members.TheVariants as members
 use Rattle.gtpshow.specs.declared.command.Failure.{Failure}
 use Rattle.gtpshow.specs.declared.command.Failure.TheVariants.{Memory, TooLong, Write, Closed}
 use Rattle.gtpshow.specs.declared.capturing.CaptureForm.{CaptureForm}
-use Rattle.gtpshow.specs.declared.capturing.CaptureForm.TheVariants.{Text, Json, AllJson}
+use Rattle.gtpshow.specs.declared.capturing.CaptureForm.TheVariants.{Text, Json}
 use Rattle.gtpshow.specs.declared.capturing.Counts.{Counts}
 use Rattle.gtpshow.specs.declared.capturing.FrameWriter.{FrameWriter}
 
@@ -43,14 +42,12 @@ counts_json frames c =
 -- in each form
 abbrev pub last_line : CaptureForm → ℕ → Counts → List ℕ
 last_line (Text form) frames c = counts_line frames c
-last_line Json frames c = counts_json frames c
-last_line AllJson frames c = counts_json frames c
+last_line (Json members) frames c = counts_json frames c
 
 -- a datagram in a form: its lines, or its object, and whether it has a fault
 abbrev pub IsShownAs : CaptureForm → Seen → List ℕ → Bool → Type 0
 IsShownAs (Text form) d text faulty = FrameLines form d text faulty
-IsShownAs Json d text faulty = FrameJson members.Plain d text faulty
-IsShownAs AllJson d text faulty = FrameJson members.All d text faulty
+IsShownAs (Json members) d text faulty = FrameJson members d text faulty
 
 -- the exit status: 1 where a datagram has a fault
 abbrev pub capture_status : Counts → ℕ

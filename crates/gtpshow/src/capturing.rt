@@ -110,7 +110,7 @@ fn last_line(
 {
     match form {
         CaptureForm::Text(_) => counts_text(alloc, frames, counts),
-        CaptureForm::Json | CaptureForm::AllJson => counts_object(alloc, frames, counts),
+        CaptureForm::Json(_) => counts_object(alloc, frames, counts),
     }
 }
 
@@ -134,10 +134,8 @@ fn counts_text(alloc: Global, frames: u64, counts: Counts) -> Result<Vec<u8>, Al
 pub enum CaptureForm {
     /// As lines.
     Text(Form),
-    /// As JSON objects, one a line.
-    Json,
-    /// As JSON objects, one a line, with all that can be shown of a datagram at fault.
-    AllJson,
+    /// As JSON objects, one a line, of these members.
+    Json(Members),
 }
 
 /// What is shown of a datagram.
@@ -147,8 +145,7 @@ fn shown_as(alloc: Global, form: CaptureForm, captured: &Captured) -> Result<Sho
 {
     match form {
         CaptureForm::Text(form) => frame_lines(alloc, form, captured),
-        CaptureForm::Json => frame_json(alloc, Members::Plain, captured),
-        CaptureForm::AllJson => frame_json(alloc, Members::All, captured),
+        CaptureForm::Json(members) => frame_json(alloc, members, captured),
     }
 }
 

@@ -28,6 +28,7 @@ use gtp_codes::parts;
 use gtp_counted::Counted;
 use gtp_dump::Asked;
 use gtp_frames::Form;
+use gtp_json::Members;
 use gtp_lines::Plane;
 use std::alloc::Global;
 use std::process::ExitCode;
@@ -44,8 +45,8 @@ fn decode<R: Print + Eprint + Input>(
 {
     let digits = asked.get_str("octets").unwrap_or("");
     let form = match (asked.get_flag("json"), asked.get_flag("all")) {
-        (true, true) => gtp_dump::Form::AllJson,
-        (true, false) => gtp_dump::Form::Json,
+        (true, true) => gtp_dump::Form::Json(Members::All),
+        (true, false) => gtp_dump::Form::Json(Members::Plain),
         (false, true) => gtp_dump::Form::All,
         (false, false) => gtp_dump::Form::Lines,
     };
@@ -94,9 +95,9 @@ fn capture_asked<R: Print + Eprint + Input + Files>(
 {
     let is_all = asked.get_flag("all");
     let form = if asked.get_flag("json") && is_all {
-        CaptureForm::AllJson
+        CaptureForm::Json(Members::All)
     } else if asked.get_flag("json") {
-        CaptureForm::Json
+        CaptureForm::Json(Members::Plain)
     } else if asked.get_flag("brief") {
         CaptureForm::Text(Form::Brief)
     } else if is_all {

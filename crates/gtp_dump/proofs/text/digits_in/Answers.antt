@@ -1,5 +1,5 @@
-use Rattle.std.proofs.Common.{◌≡◌, ◌∙◌, [], ◌∷◌, ◌++◌, List, ℕ, ap, sym, append_assoc}
-use Rattle.gtp_dump.specs.Text.{taken, digits_in}
+use Rattle.std.proofs.Common.{◌∙◌, [], ◌∷◌, ◌++◌, List, ℕ, ap, sym, append_assoc}
+use Rattle.gtp_dump.specs.Text.{taken}
 use Rattle.gtp_dump.proofs.Walk.{at_digit, onto}
 use Rattle.gtp_dump.proofs.text.digits_in.Goals as goal
 

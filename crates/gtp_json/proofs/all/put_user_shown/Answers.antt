@@ -1,5 +1,4 @@
-use Rattle.std.proofs.Common.{rules, ◌≡◌, ◌++◌, ℕ, List, Option, Some, option_map, codes, sym, ◌∙◌, ap, subst}
-use Rattle.json.specs.Json.{Json}
+use Rattle.std.proofs.Common.{rules, ◌≡◌, ◌++◌, Option, option_map, codes, sym, ◌∙◌, ap, subst}
 use Rattle.gtp_lines.specs.All.{UserHead}
 use Rattle.gtp_lines.specs.reading.Header.{user_head_of}
 use Rattle.gtp_json.specs.Tree.{member}
