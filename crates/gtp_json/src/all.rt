@@ -58,7 +58,8 @@ fn put_alone(out: &mut Output, octets: &[u8]) -> Result<(), AllocError>
 
 /// Writes a second message, or its octets where there is no header.
 fn put_second(out: &mut Output, octets: &[u8]) -> Result<(), AllocError>
-    ensures ok { OnOk result (Adds (SecondShown octets.now (spec_head_at octets.now)) out.old out.new) }
+    ensures ok { OnOk result
+        (Adds (SecondShown octets.now (spec_head_at octets.now)) out.old out.new) }
 {
     match head_at(octets) {
         Some(header) => put_message(out, &header),

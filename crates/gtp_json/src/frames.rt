@@ -178,8 +178,8 @@ pub fn frame_json(alloc: Global, members: Members, captured: &Captured) -> Resul
     ensures text { IfOk result (λ shown.
         FrameJson members (seen_of captured.now) shown.text.items shown.faulty) }
     // A reader of JSON finds this value in the line.
-    ensures reads_back { IfOk result (λ shown.
-        ReadsBack (λ j. IsFrameJson members (seen_of captured.now) j shown.faulty) shown.text.items) }
+    ensures reads_back { IfOk result (λ shown. ReadsBack
+        (λ j. IsFrameJson members (seen_of captured.now) j shown.faulty) shown.text.items) }
 {
     let mut out = Output::new(alloc);
     out.begin_object()?;
