@@ -31,7 +31,7 @@ pub use interface::Interface;
 pub use laws::{a_file_has_one_reading, what_is_read_is_carried};
 pub use octets::Order;
 pub use packet::{Packet, read_packet};
-pub use ports::Ports;
+pub use ports::{Ports, plane_of};
 pub use reading::read_capture;
 pub use writing::{
     Ends, WrittenDatagram, what_is_written_is_read_back, write_capture, write_datagram, write_head,

@@ -1,17 +1,16 @@
 -- What is captured, one event after the other.
-use Rattle.std.proofs.Common.{◌≡◌, ℕ, ◌+◌, ◌≤◌, min, List, [], ◌∷◌, ◌++◌, Option, Some, None, map, length, take, drop, refl, sym, ◌∙◌, ap, ap₂, subst, append_assoc}
-use Rattle.std.specs.Prelude.{Bool, true, false, All, option_and_then, option_to_list, nat_le, if◌then◌else◌}
+use Rattle.std.proofs.Common.{◌≡◌, ℕ, ◌+◌, ◌≤◌, min, List, [], ◌∷◌, ◌++◌, map, length, take, drop, sym, ◌∙◌, ap, ap₂, subst, append_assoc}
+use Rattle.std.specs.Prelude.{All}
 use Rattle.std.specs.List.{flat_map, enumerate_from}
-use Rattle.std.proofs.lemmas.Bool.{leb-true}
-use Rattle.std.proofs.lemmas.List.Elements.{All-nil, All-cons, All-head, All-tail, All-append}
+use Rattle.std.proofs.lemmas.List.Elements.{All-nil, All-cons, All-head, All-tail}
 use Rattle.gtp_capture.specs.Writing.{Sent, sent_of, most_octets}
-use Rattle.gtp_capture.specs.declared.writing.Ends.{Ends}
 use Rattle.gtp_capture.specs.declared.writing.WrittenDatagram.{WrittenDatagram}
 use Rattle.gtp_machine.specs.Spelling.{Datagram}
 use Rattle.gtp_machine.specs.World.{By}
 use Rattle.gtp_world.specs.Kept.{Told}
-use Rattle.gtp_replay.specs.Captures.{sent_between, where_room, frame_in, frames_from}
+use Rattle.gtp_replay.specs.Captures.{frame_in, frames_from, HavePackets}
 use Rattle.gtp_outcomes.proofs.Numbered.{front_is, rest_is}
+use Rattle.gtp_replay.proofs.Framed.{AllShow, all_framed}
 
 -- an event more
 pub one_note : {D : Type 0} (f : D → By Datagram) (event next count : ℕ) (rest front back : List D) (told : Told) (notes_left notes : List Told) (before mid new : List Sent)
@@ -33,22 +32,11 @@ one_note f event next count rest front back told notes_left notes before mid new
 abbrev Fits : Sent → Type 0
 Fits s = length s.octets ≤ most_octets s.ends
 
-one_fits : (s : Sent) (b : Bool) → nat_le (length s.octets) (most_octets s.ends) ≡ b → All Fits (option_to_list (if b then Some s else None))
-one_fits s true is = All-cons Fits s [] (leb-true (length s.octets) (most_octets s.ends) is) (All-nil Fits)
-one_fits s false is = All-nil Fits
-
-any_fits : (f : Ends → Sent) (o : Option Ends) → All Fits (option_to_list (option_and_then (λ ends. where_room (f ends)) o))
-any_fits f None = All-nil Fits
-any_fits f (Some ends) = one_fits (f ends) (nat_le (length (f ends).octets) (most_octets (f ends).ends)) refl
-
-those_fit : (event : ℕ) (ds : List (ℕ × By Datagram)) → All Fits (flat_map (frame_in event) ds)
-those_fit event [] = All-nil Fits
-those_fit event (d ∷ ds) = All-append Fits (frame_in event d) (flat_map (frame_in event) ds) (any_fits (sent_between event d) _) (those_fit event ds)
-
-all_fit : (notes : List Told) (event : ℕ) (ds : List (ℕ × By Datagram)) → All Fits (frames_from event ds notes)
-all_fit [] event ds = those_fit event ds
-all_fit (told ∷ notes) event ds =
-    All-append Fits (flat_map (frame_in event) (take told.sent ds)) (frames_from (event + 1) (drop told.sent ds) notes) (those_fit event (take told.sent ds)) (all_fit notes (event + 1) (drop told.sent ds))
+all_fit : (ds : List (ℕ × By Datagram)) (ss : List Sent) → AllShow ds ss → All Fits ss
+all_fit [] [] h = All-nil Fits
+all_fit [] (s ∷ ss) h = absurd h
+all_fit (d ∷ ds) [] h = absurd h
+all_fit (d ∷ ds) (s ∷ ss) h = All-cons Fits s ss h.0.0.size (all_fit ds ss h.1)
 
 abbrev IsFitting : WrittenDatagram → Type 0
 IsFitting s = length s.octets.now ≤ most_octets s.ends
@@ -57,5 +45,6 @@ fitting : (frames : List WrittenDatagram) → All Fits (map sent_of frames) → 
 fitting [] h = All-nil IsFitting
 fitting (s ∷ frames) h = All-cons IsFitting s frames (All-head Fits (sent_of s) (map sent_of frames) h) (fitting frames (All-tail Fits (sent_of s) (map sent_of frames) h))
 
-pub all_fitting : (frames held : List WrittenDatagram) (ds : List (ℕ × By Datagram)) (notes : List Told) → held ≡ frames → map sent_of frames ≡ frames_from 0 ds notes → All IsFitting held
-all_fitting frames held ds notes same are = subst (λ l. All IsFitting l) (sym same) (fitting frames (subst (λ l. All Fits l) (sym are) (all_fit notes 0 ds)))
+pub all_fitting : (frames held : List WrittenDatagram) (datagrams : List (By Datagram)) (notes : List Told) → HavePackets datagrams → held ≡ frames → map sent_of frames ≡ frames_from 0 (enumerate_from 0 datagrams) notes → All IsFitting held
+all_fitting frames held datagrams notes has same are =
+    subst (λ l. All IsFitting l) (sym same) (fitting frames (subst (λ l. All Fits l) (sym are) (all_fit (enumerate_from 0 datagrams) (frames_from 0 (enumerate_from 0 datagrams) notes) (all_framed datagrams notes has))))

@@ -1,102 +1,17 @@
 -- What is captured of a run is read back.
-use Rattle.std.proofs.Common.{◌≡◌, ℕ, suc, ◌+◌, List, [], ◌∷◌, ◌++◌, Option, Some, None, map, take, drop, refl, sym, ◌∙◌, ap, ap₂, subst, arith}
-use Rattle.std.specs.Prelude.{true, All, option_and_then, option_to_list, nat_le, length, if◌then◌else◌, ⊤}
-use Rattle.std.specs.List.{flat_map, enumerate_from, AllByRecursion}
-use Rattle.std.proofs.lemmas.List.{take-append-drop}
-use Rattle.std.proofs.lemmas.List.Elements.{All-from_recursion, recursion_from_All, All-take, All-drop}
-use Rattle.std.proofs.lemmas.Bool.{le-leb}
-use Rattle.std.proofs.lemmas.Option.{same_Some}
-use Rattle.gtp_values.specs.declared.address.Ip.{Ip}
-use Rattle.gtp_values.specs.declared.address.Ip.TheVariants as ip
+use Rattle.std.proofs.Common.{◌≡◌, ℕ, suc, ◌+◌, List, [], ◌∷◌, map, refl, sym, ◌∙◌, ap, ap₂, subst}
+use Rattle.std.specs.List.{enumerate_from, AllByRecursion}
 use Rattle.gtp_capture.specs.Capture.{Records, IsCapture}
-use Rattle.gtp_capture.specs.Writing.{Sent, HasRoom, ReadsBack, kind_written, most_octets, ip_from, ip_to, seen_sent, seen_all}
-use Rattle.gtp_capture.specs.declared.writing.Ends.{Ends}
-use Rattle.gtp_capture.specs.declared.writing.Ends.TheVariants.{V4, V6}
+use Rattle.gtp_capture.specs.Writing.{Sent, HasRoom, ReadsBack, kind_written, seen_all}
 use Rattle.gtp_machine.specs.Spelling.{Datagram}
 use Rattle.gtp_machine.specs.World.{By}
-use Rattle.gtp_world.specs.Kept.{Told}
-use Rattle.gtp_replay.specs.Captures.{ends_between, sent_between, where_room, captured_in, frame_in, frames_from, frames_of}
-use Rattle.gtp_replay.specs.Recaptured.{standard_ports, HasPacket, datagram_seen, CaptureReadsBack}
-
--- the addresses are those of the ends
-from_is : (a b : Ip) (ends : Ends) → ends_between a b ≡ Some ends → ip_from ends ≡ a
-from_is (ip.V4 a) (ip.V4 b) ends is = ap ip_from (sym (same_Some (V4 a b) ends is))
-from_is (ip.V6 a) (ip.V6 b) ends is = ap ip_from (sym (same_Some (V6 a b) ends is))
-from_is (ip.V4 a) (ip.V6 b) ends is = absurd cc
-from_is (ip.V6 a) (ip.V4 b) ends is = absurd cc
-
-to_is : (a b : Ip) (ends : Ends) → ends_between a b ≡ Some ends → ip_to ends ≡ b
-to_is (ip.V4 a) (ip.V4 b) ends is = ap ip_to (sym (same_Some (V4 a b) ends is))
-to_is (ip.V6 a) (ip.V6 b) ends is = ap ip_to (sym (same_Some (V6 a b) ends is))
-to_is (ip.V4 a) (ip.V6 b) ends is = absurd cc
-to_is (ip.V6 a) (ip.V4 b) ends is = absurd cc
-
-abbrev HasPacketIn : ℕ × By Datagram → Type 0
-HasPacketIn d = HasPacket d.1.what
-
-abbrev rebuilt : Datagram → Ip → Ip → Datagram
-rebuilt d from to = record { plane = d.plane; from = record { ip = from; port = d.from.port }; to = record { ip = to; port = d.to.port }; octets = d.octets }
-
--- a datagram is seen again in what is captured of it
-abbrev Shows : ℕ × By Datagram → Sent → Type 0
-Shows d s = (room : HasRoom standard_ports s) × ((n : ℕ) → datagram_seen (seen_sent standard_ports n s room) ≡ d.1.what)
-
-abbrev AllShow : List (ℕ × By Datagram) → List Sent → Type 0
-AllShow [] [] = ⊤
-AllShow [] (s ∷ ss) = ⊥
-AllShow (d ∷ ds) [] = ⊥
-AllShow (d ∷ ds) (s ∷ ss) = Shows d s × AllShow ds ss
-
-captured : (event : ℕ) (d : ℕ × By Datagram) (h : HasPacketIn d) → captured_in event d ≡ Some (sent_between event d h.ends)
-captured event d h =
-    let fits : nat_le (length d.1.what.octets) (most_octets h.ends) ≡ true = le-leb (length d.1.what.octets) (most_octets h.ends) h.size in
-    ap (option_and_then (λ ends. where_room (sent_between event d ends))) h.between ∙ ap (λ b. if b then Some (sent_between event d h.ends) else None) fits
-
-shows : (event : ℕ) (d : ℕ × By Datagram) (h : HasPacketIn d) → Shows d (sent_between event d h.ends)
-shows event d h = (
-  record {
-    plane = d.1.what.plane;
-    is = h.plane;
-    ends = h.whole;
-    seconds = omega arith;
-    microseconds = omega arith;
-    from_port = h.from_port;
-    to_port = h.to_port;
-    size = h.size;
-  },
-  λ n. ap₂ (rebuilt d.1.what) (from_is d.1.what.from.ip d.1.what.to.ip h.ends h.between) (to_is d.1.what.from.ip d.1.what.to.ip h.ends h.between),
-)
-
--- of one event
-filtered : (event : ℕ) (ds : List (ℕ × By Datagram)) → AllByRecursion HasPacketIn ds → AllShow ds (flat_map (frame_in event) ds)
-filtered event [] h = tt
-filtered event (d ∷ ds) h =
-    subst (λ (o : Option Sent). AllShow (d ∷ ds) (option_to_list o ++ flat_map (frame_in event) ds)) (sym (captured event d h.0)) (shows event d h.0, filtered event ds h.1)
-
-both : (ds es : List (ℕ × By Datagram)) (ss ts : List Sent) → AllShow ds ss → AllShow es ts → AllShow (ds ++ es) (ss ++ ts)
-both [] es [] ts h k = k
-both [] es (s ∷ ss) ts h k = absurd h
-both (d ∷ ds) es [] ts h k = absurd h
-both (d ∷ ds) es (s ∷ ss) ts h k = (h.0, both ds es ss ts h.1 k)
-
--- of all events from one on
-framed : (notes : List Told) (event : ℕ) (ds : List (ℕ × By Datagram)) → All HasPacketIn ds → AllShow ds (frames_from event ds notes)
-framed [] event ds h = filtered event ds (recursion_from_All HasPacketIn ds h)
-framed (told ∷ notes) event ds h =
-    let front = take told.sent ds in
-    let back = drop told.sent ds in
-    subst (λ l. AllShow l (flat_map (frame_in event) front ++ frames_from (event + 1) back notes)) (take-append-drop told.sent ds)
-    (both front back (flat_map (frame_in event) front) (frames_from (event + 1) back notes)
-    (filtered event front (recursion_from_All HasPacketIn front (All-take HasPacketIn told.sent ds h)))
-    (framed notes (event + 1) back (All-drop HasPacketIn told.sent ds h)))
+use Rattle.gtp_replay.specs.Captures.{standard_ports, frames_of}
+use Rattle.gtp_replay.specs.Recaptured.{datagram_seen, CaptureReadsBack}
+use Rattle.gtp_replay.proofs.Framed.{AllShow, all_framed}
 
 numbered : (n : ℕ) (ds : List (By Datagram)) → map (λ (d : ℕ × By Datagram). d.1.what) (enumerate_from n ds) ≡ map (λ (d : By Datagram). d.what) ds
 numbered n [] = refl
 numbered n (d ∷ ds) = ap (λ l. d.what ∷ l) (numbered (n + 1) ds)
-
-all_numbered : (n : ℕ) (ds : List (By Datagram)) → AllByRecursion (λ (d : By Datagram). HasPacket d.what) ds → AllByRecursion HasPacketIn (enumerate_from n ds)
-all_numbered n [] h = tt
-all_numbered n (d ∷ ds) h = (h.0, all_numbered (n + 1) ds h.1)
 
 -- the premise of what is read back
 gathered : (ds : List (ℕ × By Datagram)) (ss : List Sent) (n : ℕ) → AllShow ds ss
@@ -109,10 +24,8 @@ gathered (d ∷ ds) (s ∷ ss) n h =
     ((h.0.0, rest.0), ap₂ (λ (x : Datagram) (l : List Datagram). x ∷ l) (h.0.1 n) rest.1)
 
 pub recaptured : ReadsBack → CaptureReadsBack
-recaptured back world text (body, whole, written) has =
+recaptured back world text is =
     let datagrams = world.log.datagrams in
-    let ds = enumerate_from 0 datagrams in
-    let all : All HasPacketIn ds = All-from_recursion HasPacketIn ds (all_numbered 0 datagrams (recursion_from_All (λ (d : By Datagram). HasPacket d.what) datagrams has)) in
-    let seen = gathered ds (frames_of world.log) 1 (framed world.log.notes 0 ds all) in
-    let found = back standard_ports (frames_of world.log) body seen.0 written in
-    (found.0, subst (λ t. IsCapture t (Records kind_written) found.0 []) (sym whole) found.1, ap (map datagram_seen) found.2 ∙ (seen.1 ∙ numbered 0 datagrams))
+    let seen = gathered (enumerate_from 0 datagrams) (frames_of world.log) 1 (all_framed datagrams world.log.notes is.packets) in
+    let found = back standard_ports (frames_of world.log) is.body seen.0 is.written in
+    (found.0, subst (λ t. IsCapture t (Records kind_written) found.0 []) (sym is.head) found.1, ap (map datagram_seen) found.2 ∙ (seen.1 ∙ numbered 0 datagrams))

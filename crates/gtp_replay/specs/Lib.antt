@@ -10,6 +10,7 @@ pub mod Labels
 pub mod Diagram
 pub mod Svg
 pub mod Captures
+pub mod Faults
 pub mod Recaptured
 pub mod Told
 pub mod Ran

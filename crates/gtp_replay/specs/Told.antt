@@ -9,7 +9,7 @@ use Rattle.gtp_scenario.specs.declared.fault.Refusal.{Refusal}
 use Rattle.gtp_scenario.specs.declared.fault.Refusal.TheVariants as refusals
 use Rattle.gtp_scenario.specs.Entries.{events_in}
 use Rattle.gtp_scenario.specs.Scenarios.{Scenario, scenario_of}
-use Rattle.gtp_replay.specs.Captures.{IsCaptureOf}
+use Rattle.gtp_replay.specs.Captures.{IsCaptureOf, IsFirstWithoutPacket}
 use Rattle.gtp_replay.specs.Report.{IsReport}
 use Rattle.gtp_replay.specs.Rows.{Row, rows_of}
 use Rattle.gtp_replay.specs.Diagram.{IsDiagram}
@@ -63,6 +63,17 @@ pub record TellsRefusal (refusal : Refusal) (text : List ℕ) (verdict : Verdict
 -- the text and the verdict for these octets, in this form: by the scenario that they are, or by the first thing that is wrong with them
 unfoldable pub Tells : Form → List ℕ → List ℕ → Verdict → Type 0
 Tells form octets text verdict = MatchResult (scenario_of octets) (λ scenario. TellsScenario form scenario text verdict) (λ refusal. TellsRefusal refusal text verdict)
+
+-- a capture is wanted, and this is the number of the first datagram that no packet carries, in a world that a run of the scenario leaves
+pub record LacksPacket (form : Form) (scenario : Scenario) (number : ℕ) : Type 0 where
+  pub wanted : form ≡ Capture
+  pub world : Kept
+  pub run : IsWhole scenario.setup (events_of scenario) world
+  pub first : IsFirstWithoutPacket world.log.datagrams number
+
+-- of octets that are a scenario
+unfoldable pub HasNoCapture : Form → List ℕ → ℕ → Type 0
+HasNoCapture form octets number = MatchResult (scenario_of octets) (λ scenario. LacksPacket form scenario number) (λ _. ⊥)
 
 -- a writer whose contents are known has such a text after what it had
 abbrev pub Told : Form → List ℕ → Verdict → Option (List ℕ) → Option (List ℕ) → Type 0

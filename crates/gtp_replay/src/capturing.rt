@@ -1,19 +1,22 @@
 //! A run as a packet capture.
 
-ghost use Rattle.std.specs.Prelude.{◌≡◌, ◌+◌, ◌<◌, ◌^◌, ◌++◌, OnOk, IfOk, map, length, nat_le, option_map};
+ghost use Rattle.std.specs.Prelude.{◌≡◌, ℕ, ◌+◌, ◌<◌, ◌^◌, ◌++◌, ◌↔◌, IsTrue, OnOk, IfOk, IfSome, None, map, length, nat_le, option_map};
 ghost use Rattle.std.specs.List.{flat_map, enumerate_from};
+ghost use Rattle.gtp_gateway.specs.messages.Sent.{datagram_by};
 ghost use Rattle.gtp_world.specs.Kept.{sent_by, told_by};
-ghost use Rattle.gtp_capture.specs.Writing.{sent_of, most_octets};
-ghost use Rattle.gtp_replay.specs.Captures.{ends_between, sent_between, where_room, captured_in, frame_in, frames_from, IsCaptureOf};
+ghost use Rattle.gtp_capture.specs.Writing.{sent_of, most_octets, AreWhole};
+ghost use Rattle.gtp_replay.specs.Captures.{ends_between, sent_between, captured_in, frame_in, frames_from, HasPacket, HavePackets, IsFirstWithoutPacket, IsCaptureOf};
 
-use gtp_capture::{Ends, WrittenDatagram, write_capture};
-use gtp_values::{Ip, Memory};
-use gtp_world::{Datagram, Note, World};
+use crate::verdict::NoCapture;
+use gtp_capture::{Ends, Ports, WrittenDatagram, plane_of, write_capture};
+use gtp_values::Ip;
+use gtp_world::{Datagram, Note, Sent, World};
 use std::alloc::{AllocError, Global};
 
 /// Both addresses, if they are of one version.
 fn ends_between(from: Ip, to: Ip) -> Option<Ends>
-    ensures { result ≡ ends_between from to }
+    ensures ends { result ≡ ends_between from to }
+    ensures whole { IfSome result AreWhole }
 {
     match (from, to) {
         (Ip::V4(from), Ip::V4(to)) => Some(Ends::V4 { from, to }),
@@ -32,21 +35,37 @@ fn has_room(ends: Ends, size: usize) -> bool
     }
 }
 
-/// The datagram with this number, which this event sent, as it is captured between these ends.
-fn captured_between(
-    event: usize,
-    number: usize,
-    datagram: &Datagram,
-    ends: Ends,
-) -> Option<WrittenDatagram<'_>>
-    ensures { option_map sent_of result
-        ≡ where_room (sent_between event (number, sent_by datagram.now) ends) }
+/// Whether a packet carries a datagram.
+fn has_packet(sent: &Sent) -> bool
+    ensures { IsTrue result ↔ HasPacket (datagram_by sent.now) }
+{
+    let Some(ends) = ends_between(sent.from.ip, sent.to.ip) else {
+        return false;
+    };
+    has_room(ends, sent.octets.len())
+        && plane_of(Ports::standard(), sent.from.port, sent.to.port) == Some(sent.plane)
+}
+
+/// The number of the first datagram that no packet carries.
+fn first_without_packet(datagrams: &[Datagram]) -> Option<usize>
+    ensures first { IfSome result (λ number.
+        IsFirstWithoutPacket (map sent_by datagrams.now) number) }
+    ensures none { result ≡ None → HavePackets (map sent_by datagrams.now) }
+{
+    for (number, datagram) in datagrams.iter().enumerate() {
+        if !has_packet(&datagram.sent) {
+            return Some(number);
+        }
+    }
+    None
+}
+
+/// The datagram with this number, which this event sent, as it is captured.
+fn captured_in(event: usize, number: usize, datagram: &Datagram) -> Option<WrittenDatagram<'_>>
+    ensures { option_map sent_of result ≡ captured_in event (number, sent_by datagram.now) }
 {
     let sent = &datagram.sent;
-    let octets = sent.octets.as_slice();
-    if !has_room(ends, octets.len()) {
-        return None;
-    }
+    let ends = ends_between(sent.from.ip, sent.to.ip)?;
     Some(WrittenDatagram {
         seconds: (event % 4_294_967_296) as u32,
         microseconds: (number % 1_000_000) as u32,
@@ -54,18 +73,8 @@ fn captured_between(
         from_port: sent.from.port,
         to_port: sent.to.port,
         identification: (number % 65_536) as u16,
-        octets,
+        octets: &sent.octets,
     })
-}
-
-/// The datagram with this number, which this event sent, as it is captured.
-fn captured_in(event: usize, number: usize, datagram: &Datagram) -> Option<WrittenDatagram<'_>>
-    ensures { option_map sent_of result ≡ captured_in event (number, sent_by datagram.now) }
-{
-    match ends_between(datagram.sent.from.ip, datagram.sent.to.ip) {
-        None => None,
-        Some(ends) => captured_between(event, number, datagram, ends),
-    }
 }
 
 /// Appends a datagram.
@@ -125,18 +134,25 @@ fn all_frames<'a>(
     Ok(out)
 }
 
-/// The datagrams of a world as a packet capture (pcap, the high octet first, microseconds, link 101), in order, each
-/// from the address and port that it was sent from to those that it was sent to. The seconds of its time are the number
-/// of the event that sent it, modulo 2^32, and the microseconds its own number, modulo 1,000,000, both from 0. A
-/// datagram is left out if its addresses are of two versions, or if it is longer than a packet has room for (65,507
-/// octets over IPv4, 65,527 over IPv6); no scenario makes one. `Memory` if an allocation was refused.
-pub fn capture(alloc: Global, world: &World) -> Result<Vec<u8>, Memory>
-    ensures { IfOk result (λ text. IsCaptureOf world.now text.items) }
+/// The datagrams of a world as a packet capture (pcap, the high octet first, microseconds, link 101), all of them and in
+/// order, each from the address and port that it was sent from to those that it was sent to. The seconds of its time are
+/// the number of the event that sent it, modulo 2^32, and the microseconds its own number, modulo 1,000,000, both from 0.
+/// `NoPacket` if no packet carries one of them: its addresses are of two versions, it is neither from nor to the port of
+/// its plane (2123 or 2152), or it is longer than a packet has room for (65,507 octets over IPv4, 65,527 over IPv6); no
+/// scenario makes one. `Memory` if an allocation was refused.
+pub fn capture(alloc: Global, world: &World) -> Result<Vec<u8>, NoCapture>
+    ensures text { IfOk result (λ text. IsCaptureOf world.now text.items) }
+    ensures no_packet { (number : ℕ) → result ≡ Err (NoCapture.NoPacket number)
+        → IsFirstWithoutPacket world.now.log.datagrams number }
 {
-    let frames = all_frames(alloc, world.datagrams(), world.outcomes())?;
+    let datagrams = world.datagrams();
+    if let Some(number) = first_without_packet(datagrams) {
+        return Err(NoCapture::NoPacket { number });
+    }
+    let frames = all_frames(alloc, datagrams, world.outcomes())?;
     let mut text = Vec::new(alloc);
     match write_capture(&mut text, &frames) {
         Ok(()) => Ok(text),
-        Err(_) => Err(Memory),
+        Err(_) => Err(NoCapture::Memory),
     }
 }

@@ -13,7 +13,7 @@ pub fn reports_are_determined()
     ensures told { OctetsHaveOneText }
 {}
 
-/// The capture of a run is read as its datagrams, where each has its plane by its ports, and a packet has room for it.
+/// The capture of a run is read as its datagrams: all of them, in order.
 pub fn captures_are_read_back()
     ensures { CaptureReadsBack }
 {

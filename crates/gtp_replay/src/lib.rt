@@ -19,7 +19,7 @@ pub use drawing::diagram;
 pub use picture::svg;
 pub use replaying::{Form, replay};
 pub use reporting::report;
-pub use verdict::{ReplayFault, Verdict};
+pub use verdict::{NoCapture, ReplayFault, Verdict};
 
 /// What the signatures and contracts here name of the crates below.
 pub use gtp_counted::Counted;

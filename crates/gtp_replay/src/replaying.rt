@@ -1,13 +1,15 @@
 //! Replays: from the octets of a scenario to those of a text of its run.
 
-ghost use Rattle.std.specs.Prelude.{◌≡◌, ◌≢◌, ◌+◌, ◌-◌, ◌^◌, ◌<◌, map, IfOk, IfErr, IfSome};
+ghost use Rattle.std.specs.Prelude.{◌≡◌, ◌≢◌, ◌+◌, ◌-◌, ◌^◌, ◌<◌, ℕ, map, IfOk, IfErr, IfSome};
 ghost use Rattle.gtp_world.specs.Events.{event_of};
 ghost use Rattle.gtp_world.specs.Runs.{IsWhole};
 ghost use Rattle.gtp_scenario.specs.Views.{scenario as scenario_view};
 ghost use Rattle.gtp_replay.specs.Ran.{IsRan};
 ghost use Rattle.gtp_counted.specs.Counts.{inner_of, failures_of};
 ghost use Rattle.gtp_replay.specs.Streams.{ConsumesUpTo};
-ghost use Rattle.gtp_replay.specs.Told.{refusal_line, verdict_on, IsText, TellsScenario, Tells, Told, ToldFront};
+ghost use Rattle.gtp_replay.specs.Captures.{IsFirstWithoutPacket};
+ghost use Rattle.gtp_replay.specs.Faults.{IsMemoryOr};
+ghost use Rattle.gtp_replay.specs.Told.{refusal_line, verdict_on, IsText, TellsScenario, LacksPacket, Tells, HasNoCapture, Told, ToldFront};
 
 use crate::capturing::capture;
 use crate::drawing::diagram;
@@ -20,7 +22,6 @@ use gtp_counted::Counted;
 use gtp_lines::text::{put, put_number};
 use gtp_run_json::run_json;
 use gtp_scenario::{ReadFault, Refusal, Scenario, events_of, read_scenario};
-use gtp_values::Memory;
 use gtp_world::{Event, World, WorldConfig};
 use std::alloc::Global;
 use std::io::{Read, Write};
@@ -99,18 +100,20 @@ fn judged(scenario: &Scenario, world: &World) -> Verdict
     }
 }
 
-/// The text of a run.
-fn text_of(alloc: Global, form: Form, ran: &Ran) -> Result<Vec<u8>, Memory>
-    ensures { IfOk result (λ text. IsText form
+/// The text of a run: `NoPacket` of a capture alone.
+fn text_of(alloc: Global, form: Form, ran: &Ran) -> Result<Vec<u8>, ReplayFault>
+    ensures text { IfOk result (λ text. IsText form
         (map event_of ran.now.events.items) ran.now.world text.items) }
+    ensures fault { IfErr result (λ e. IsMemoryOr e (λ number. (form ≡ Form.Capture)
+        × IsFirstWithoutPacket ran.now.world.log.datagrams number)) }
 {
-    match form {
-        Form::Report => report(alloc, &ran.events, &ran.world),
-        Form::Diagram => diagram(alloc, &ran.events, &ran.world),
-        Form::Svg => svg(alloc, &ran.events, &ran.world),
-        Form::Capture => capture(alloc, &ran.world),
-        Form::Json => run_json(alloc, &ran.events, &ran.world),
-    }
+    Ok(match form {
+        Form::Report => report(alloc, &ran.events, &ran.world)?,
+        Form::Diagram => diagram(alloc, &ran.events, &ran.world)?,
+        Form::Svg => svg(alloc, &ran.events, &ran.world)?,
+        Form::Capture => capture(alloc, &ran.world)?,
+        Form::Json => run_json(alloc, &ran.events, &ran.world)?,
+    })
 }
 
 /// The text of a run of a scenario, and whether each event came to what it expects.
@@ -122,7 +125,8 @@ fn told_of(
 ) -> Result<(Vec<u8>, Verdict), ReplayFault>
     ensures told { IsRan (scenario_view scenario.now) ran.now → IfOk result (λ p.
         TellsScenario form (scenario_view scenario.now) p.0.items p.1) }
-    ensures err { IfErr result (λ e. e ≡ ReplayFault.Memory) }
+    ensures fault { IsRan (scenario_view scenario.now) ran.now → IfErr result (λ e.
+        IsMemoryOr e (LacksPacket form (scenario_view scenario.now))) }
 {
     let text = text_of(alloc, form, ran)?;
     Ok((text, judged(scenario, &ran.world)))
@@ -132,7 +136,8 @@ fn told_of(
 fn told(alloc: Global, form: Form, scenario: &Scenario) -> Result<(Vec<u8>, Verdict), ReplayFault>
     ensures told { IfOk result (λ p.
         TellsScenario form (scenario_view scenario.now) p.0.items p.1) }
-    ensures err { IfErr result (λ e. e ≡ ReplayFault.Memory) }
+    ensures fault { IfErr result (λ e. IsMemoryOr e
+        (LacksPacket form (scenario_view scenario.now))) }
 {
     let ran = run_scenario(alloc, scenario)?;
     let told = told_of(alloc, form, scenario, &ran);
@@ -141,10 +146,10 @@ fn told(alloc: Global, form: Form, scenario: &Scenario) -> Result<(Vec<u8>, Verd
 }
 
 /// What is written for these octets, and the result of the replay.
-#[tactic(auto, unfolding(crate::specs::Told::Tells))]
+#[tactic(auto, unfolding(crate::specs::Told::Tells, crate::specs::Told::HasNoCapture))]
 fn answered(alloc: Global, form: Form, octets: &[u8]) -> Result<(Vec<u8>, Verdict), ReplayFault>
     ensures told { IfOk result (λ p. Tells form octets.now p.0.items p.1) }
-    ensures err { IfErr result (λ e. e ≡ ReplayFault.Memory) }
+    ensures fault { IfErr result (λ e. IsMemoryOr e (HasNoCapture form octets.now)) }
 {
     match read_scenario(alloc, octets) {
         Ok(scenario) => told(alloc, form, &scenario),
@@ -156,7 +161,7 @@ fn answered(alloc: Global, form: Form, octets: &[u8]) -> Result<(Vec<u8>, Verdic
 /// Reads a scenario, runs it, and writes the run in a form: of the world that its events leave, or, if the octets are not a
 /// scenario, one line with the first error in them. At most 16,777,217 octets are read, one past the limit of a
 /// scenario. The text is complete before its first octet is written. `Read` or `Write` if a call of the reader or the
-/// writer failed, and `Memory` if an allocation was refused.
+/// writer failed, `Memory` if an allocation was refused, and `NoPacket` where `capture` answers it.
 pub fn replay<R: Read, W: Write>(
     alloc: Global,
     form: Form,
@@ -186,6 +191,10 @@ pub fn replay<R: Read, W: Write>(
         (W.contents (inner_of writer.old)) (W.contents (inner_of writer.new))) }
     ensures unread { result ≡ Err ReplayFault.Read → writer.new ≡ writer.old }
     ensures memory { result ≡ Err ReplayFault.Memory → writer.new ≡ writer.old }
+    // `NoPacket` means that a capture of these octets is wanted, and names the first datagram that no packet carries.
+    ensures no_packet { (number : ℕ) → result ≡ Err (ReplayFault.NoPacket number)
+        → (writer.new ≡ writer.old) × IfSome (R.remaining (inner_of reader.old)) (λ octets.
+        HasNoCapture form octets number) }
 {
     let octets = read_octets(alloc, reader, MOST_READ)?;
     let (text, verdict) = answered(alloc, form, &octets)?;

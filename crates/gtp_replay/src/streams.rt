@@ -1,6 +1,6 @@
 //! All octets of a reader, up to a limit, and all octets to a writer.
 
-ghost use Rattle.std.specs.Prelude.{◌≡◌, ◌+◌, ◌-◌, ◌^◌, ◌<◌, ◌≢◌, take, IfOk, IfErr, OnOk, OnErr, IfSome};
+ghost use Rattle.std.specs.Prelude.{◌≡◌, ◌+◌, ◌-◌, ◌^◌, ◌<◌, ◌≢◌, ◌⊎◌, take, IfOk, IfErr, OnOk, OnErr, IfSome};
 ghost use Rattle.std.specs.Io.KnownBytes.{Appends};
 ghost use Rattle.gtp_counted.specs.Counts.{inner_of, failures_of};
 ghost use Rattle.gtp_counted.specs.Streams.{WritesFront};
@@ -29,7 +29,7 @@ pub(crate) fn read_octets<R: Read>(
         → failures_of reader.new ≡ failures_of reader.old + 1 }
     ensures unfailed { result ≢ Err ReplayFault.Read
         → failures_of reader.new ≡ failures_of reader.old }
-    ensures kind { IfErr result (λ e. e ≢ ReplayFault.Write) }
+    ensures kind { IfErr result (λ e. (e ≡ ReplayFault.Memory) ⊎ (e ≡ ReplayFault.Read)) }
 {
     let mut octets = Vec::new(alloc);
     let mut chunk = [0u8; CHUNK];

@@ -22,7 +22,7 @@ use Rattle.gtp_capture.specs.declared.fault.CaptureFault.TheVariants.{Broken}
 use Rattle.gtpshow.specs.Captured.{nothing_shown, is_cut, counted, AreShown, TakesFrame, IsFull, IsUnshown, RefusesFrame, AreWritten, IsBrokenShown, IsFirstShown}
 use Rattle.gtpshow.specs.Stops.{StopsCapture}
 use Rattle.gtpshow.specs.declared.command.Failure.{Failure}
-use Rattle.gtpshow.specs.declared.command.Failure.TheVariants.{BadWords, BadPort, BadHex, BadCode, BadGateway, BadCapture, BrokenCapture, Memory, Read, TooLong, Write, Closed}
+use Rattle.gtpshow.specs.declared.command.Failure.TheVariants.{BadWords, BadPort, BadHex, BadCode, BadGateway, BadCapture, BrokenCapture, Memory, Read, TooLong, Write, Closed, NoPacket}
 use Rattle.gtpshow.specs.declared.capturing.Counts.{Counts}
 use Rattle.gtpshow.specs.declared.capturing.FrameWriter.{FrameWriter}
 
@@ -99,6 +99,7 @@ refusal_by before middle after BadGateway few kept is = absurd is
 refusal_by before middle after BadCapture few kept is = absurd is
 refusal_by before middle after (BrokenCapture at) few kept is = absurd is
 refusal_by before middle after Read few kept is = absurd is
+refusal_by before middle after (NoPacket number) few kept is = absurd is
 
 -- why the writer notes that it did not show one
 noted_why : {W : Type 0} (middle after : FrameWriter W) (d : Seen) (why : Failure) → RefusesFrame middle d after → after.unshown ≡ Some why → IsUnshown why middle after
@@ -127,6 +128,7 @@ refusal_else before after BadGateway is unwritten unclosed = absurd is
 refusal_else before after BadCapture is unwritten unclosed = absurd is
 refusal_else before after (BrokenCapture at) is unwritten unclosed = absurd is
 refusal_else before after Read is unwritten unclosed = absurd is
+refusal_else before after (NoPacket number) is unwritten unclosed = absurd is
 
 pub refusal_stops : {W : Type 0} (before after : FrameWriter W) (why : Failure) → Refusal why before after → StopsCapture why
 refusal_stops before after Memory is = tt
@@ -141,6 +143,7 @@ refusal_stops before after BadGateway is = absurd is
 refusal_stops before after BadCapture is = absurd is
 refusal_stops before after (BrokenCapture at) is = absurd is
 refusal_stops before after Read is = absurd is
+refusal_stops before after (NoPacket number) is = absurd is
 
 pub refusal_first : {W : Type 0} (before after : FrameWriter W) (why : Failure) → Refusal why before after → (why ≡ Memory) ⊎ (why ≡ Read) ⊎ (why ≡ TooLong) → (why ≡ Memory) ⊎ (why ≡ TooLong)
 refusal_first before after why is (inl memory) = inl memory

@@ -1,2 +1,3 @@
 pub mod FramesShown
 pub mod Texts
+pub mod Failures

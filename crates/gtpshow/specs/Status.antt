@@ -1,13 +1,13 @@
 -- What the program says where nothing could be shown or replayed, and how a replay ends.
 use Rattle.std.specs.Prelude.{ℕ, List, ◌++◌, codes, decimal}
 use Rattle.gtpshow.specs.declared.command.Failure.{Failure}
-use Rattle.gtpshow.specs.declared.command.Failure.TheVariants.{BadWords, BadPort, BadHex, BadCode, BadGateway, BadCapture, BrokenCapture, Memory, Read, TooLong, Write, Closed}
+use Rattle.gtpshow.specs.declared.command.Failure.TheVariants.{BadWords, BadPort, BadHex, BadCode, BadGateway, BadCapture, BrokenCapture, Memory, Read, TooLong, Write, Closed, NoPacket}
 use Rattle.gtp_replay.specs.declared.verdict.Verdict.{Verdict}
 use Rattle.gtp_replay.specs.declared.verdict.Verdict.TheVariants.{Expected, Unexpected, Bad}
 use Rattle.gtp_replay.specs.declared.verdict.ReplayFault.{ReplayFault}
 use Rattle.gtp_replay.specs.declared.verdict.ReplayFault.TheVariants as faults
 
--- the exit status: 2 for bad arguments, and 3 if memory ran out, or a read or write failed
+-- the exit status: 2 for bad arguments, and 3 if memory ran out, a read or write failed, or a run has no capture
 abbrev pub status_of : Failure → ℕ
 status_of BadWords = 2
 status_of BadPort = 2
@@ -21,6 +21,7 @@ status_of Read = 3
 status_of TooLong = 3
 status_of Write = 3
 status_of Closed = 3
+status_of (NoPacket number) = 3
 
 -- the words that are printed
 abbrev pub failure_text : Failure → List ℕ
@@ -36,6 +37,7 @@ failure_text Read = codes "read failed"
 failure_text TooLong = codes "read failed"
 failure_text Write = codes "write failed"
 failure_text Closed = codes "closed"
+failure_text (NoPacket number) = codes "no packet for datagram " ++ decimal number
 
 -- the exit status of a replay
 abbrev pub verdict_status : Verdict → ℕ
@@ -48,3 +50,4 @@ abbrev pub failure_by : ReplayFault → Failure
 failure_by faults.Memory = Memory
 failure_by faults.Read = Read
 failure_by faults.Write = Write
+failure_by (faults.NoPacket number) = NoPacket number

@@ -3,7 +3,7 @@ use Rattle.std.specs.Prelude.{◌≡◌, ◌≢◌, ◌+◌, Result, Err}
 use Rattle.gtp_counted.specs.Counts.{failures_of, NoneFailed, FailedOnce, ClosedOnce}
 use Rattle.gtp_counted.specs.declared.counted.Counted.{Counted}
 use Rattle.gtpshow.specs.declared.command.Failure.{Failure}
-use Rattle.gtpshow.specs.declared.command.Failure.TheVariants.{BadHex, BadCode, BadGateway, BadCapture, BrokenCapture, Memory, Read, TooLong, Write, Closed}
+use Rattle.gtpshow.specs.declared.command.Failure.TheVariants.{BadHex, BadCode, BadGateway, BadCapture, BrokenCapture, Memory, Read, TooLong, Write, Closed, NoPacket}
 
 -- The answer is `Read` exactly if a call of the reader failed.
 pub record TellsReads {A R : Type 0} (answer : Result A Failure) (before after : Counted R) : Type 0 where
@@ -60,6 +60,7 @@ abbrev pub StopsReplay : Failure → Type 0
 StopsReplay Memory = Unit {0}
 StopsReplay Read = Unit {0}
 StopsReplay Write = Unit {0}
+StopsReplay (NoPacket number) = Unit {0}
 StopsReplay other = ⊥
 
 -- what serving one gateway can stop at

@@ -299,10 +299,12 @@ pub enum Failure {
     Write,
     /// A write found the output closed by whoever read it.
     Closed,
+    /// A capture of a run is wanted, and no packet carries the datagram with this number.
+    NoPacket { number: usize },
 }
 
 impl Failure {
-    /// The exit status: 2 for bad arguments, 3 if memory, a read or a write failed.
+    /// The exit status: 2 for bad arguments; 3 if memory, a read or a write failed, or a run has no capture.
     pub fn status(self) -> u8
         ensures { result ≡ status_of self }
     {
@@ -314,8 +316,12 @@ impl Failure {
             | Failure::BadGateway
             | Failure::BadCapture
             | Failure::BrokenCapture { .. } => 2,
-            Failure::Memory | Failure::Read | Failure::TooLong | Failure::Write | Failure::Closed =>
-                3,
+            Failure::Memory
+            | Failure::Read
+            | Failure::TooLong
+            | Failure::Write
+            | Failure::Closed
+            | Failure::NoPacket { .. } => 3,
         }
     }
 }
@@ -328,6 +334,7 @@ impl From<ReplayFault> for Failure {
             ReplayFault::Memory => Failure::Memory,
             ReplayFault::Read => Failure::Read,
             ReplayFault::Write => Failure::Write,
+            ReplayFault::NoPacket { number } => Failure::NoPacket { number },
         }
     }
 }
@@ -348,6 +355,7 @@ impl fmt::Display for Failure {
             Failure::Read | Failure::TooLong => write!(f, "read failed"),
             Failure::Write => write!(f, "write failed"),
             Failure::Closed => write!(f, "closed"),
+            Failure::NoPacket { number } => write!(f, "no packet for datagram {number}"),
         }
     }
 }

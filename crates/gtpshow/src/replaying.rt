@@ -1,8 +1,9 @@
 //! Replaying a scenario.
 
-ghost use Rattle.std.specs.Prelude.{◌≡◌, ◌≢◌, ◌-◌, ◌^◌, ◌<◌, ◌≤◌, Err, IfOk, IfErr, IfSome};
+ghost use Rattle.std.specs.Prelude.{◌≡◌, ◌≢◌, ◌-◌, ◌^◌, ◌<◌, ◌≤◌, ℕ, Err, IfOk, IfErr, IfSome};
 ghost use Rattle.std.specs.IoError.{error_kind};
 ghost use Rattle.gtp_counted.specs.Counts.{inner_of, failures_of};
+ghost use Rattle.gtp_replay.specs.Told.{HasNoCapture};
 ghost use Rattle.gtpshow.specs.Status.{verdict_status};
 ghost use Rattle.gtpshow.specs.Replayed.{IsReplayed};
 ghost use Rattle.gtpshow.specs.Stops.{TellsReads, TellsWrites, StopsReplay};
@@ -45,6 +46,9 @@ fn replay_from<I: Read, W: Write>(
     ensures writes { TellsWrites result writer.old writer.new }
     ensures unread { result ≡ Err Failure.Read → writer.new ≡ writer.old }
     ensures memory { result ≡ Err Failure.Memory → writer.new ≡ writer.old }
+    ensures no_packet { (number : ℕ) → result ≡ Err (Failure.NoPacket number)
+        → (writer.new ≡ writer.old) × IfSome (I.remaining (inner_of reader.old)) (λ octets.
+        HasNoCapture form octets number) }
     ensures kind { IfErr result StopsReplay }
 {
     Ok(status(replay(alloc, form, reader, writer)?))
