@@ -1,5 +1,5 @@
 -- What happens to a gateway and to the datagrams that wait to be taken.
-use Rattle.std.specs.Prelude.{◌≡◌, ℕ, List, [], ◌∷◌, ◌++◌, ◌<◌, ◌≤◌, IsSome, drop, take, length, Option, Some, None, slice_index_or, option_to_list}
+use Rattle.std.specs.Prelude.{◌≡◌, ℕ, List, [], ◌∷◌, ◌++◌, ◌<◌, ◌≤◌, IsSome, drop, length, Option, Some, None, slice_index_or, option_to_list}
 use Rattle.std.specs.VecDeque.{deque_len}
 use Rattle.gtp_values.specs.declared.address.Endpoint.{Endpoint}
 use Rattle.gtp_machine.specs.Input.{Command, Mark_end, Send_user, Commanded, refused}
@@ -19,6 +19,7 @@ use Rattle.gtp_gateway.specs.declared.tick.Ticked.{Ticked}
 use Rattle.gtp_c.specs.Common.{AreLast}
 use Rattle.gtp_c.specs.Ends.{endpoint_at, plane_at}
 use Rattle.gtp_c.specs.Told.{step_told, begun_told, refused_told, tick_told}
+use Rattle.gtp_c.specs.Writing.{StandsAt}
 use Rattle.gtp_c.specs.declared.desk.Desk.{Desk}
 use Rattle.gtp_c.specs.declared.ends.End.{End}
 use Rattle.gtp_c.specs.declared.taken.Datagram.{Datagram}
@@ -122,11 +123,11 @@ pub record Shows (old : Desk) (datagram : Datagram) (sent : Sent) : Type 0 where
   pub first : sent ≡ slice_index_or old.waiting.items 0 sent
   pub says : Says datagram sent
 
--- these octets begin with the datagram that waited longest
-pub record Hands (octets : List ℕ) (datagram : Datagram) (old new : Desk) : Type 0 where
+-- the datagram that waited longest stands at the front of a buffer, with all behind it as it was
+pub record Hands (before after : List ℕ) (datagram : Datagram) (old new : Desk) : Type 0 where
   pub sent : Sent
   pub shows : Shows old datagram sent
-  pub written : take (length sent.octets.items) octets ≡ sent.octets.items
+  pub written : StandsAt 0 sent.octets.items before after
   pub taken : HasTaken old new
 
 -- the datagram that waited longest has more octets than there is room for

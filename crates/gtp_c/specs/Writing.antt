@@ -1,13 +1,13 @@
 -- What is written to a caller's buffer.
-use Rattle.std.specs.Prelude.{◌≡◌, ◌≢◌, ◌⊎◌, ◌↔◌, ℕ, ◌+◌, ◌<◌, ◌≤◌, ◌==◌, List, [], ◌∷◌, ◌++◌, if◌then◌else◌, length, take, Option, Some, None}
+use Rattle.std.specs.Prelude.{◌≡◌, ◌≢◌, ◌⊎◌, ◌↔◌, ℕ, ◌+◌, ◌<◌, ◌≤◌, ◌==◌, List, [], ◌∷◌, ◌++◌, if◌then◌else◌, length, take, drop, Option, Some, None}
 use Rattle.gtp_v2.specs.Encoding.{headed_encoding}
 use Rattle.gtp_values.specs.Numbers.{two, three, four}
 use Rattle.gtp_c.specs.Common.{IsOneOf}
 use Rattle.gtp_c.specs.declared.control.Head.{Head}
 
--- the text stands at a place of the buffer, with all before it as it was
+-- the text stands at a place of the buffer, with all before and behind it as it was
 abbrev pub StandsAt : ℕ → List ℕ → List ℕ → List ℕ → Type 0
-StandsAt place text old new = take (place + length text) new ≡ take place old ++ text
+StandsAt place text old new = new ≡ take place old ++ (text ++ drop (place + length text) old)
 
 -- The text is to be written at a place of the buffer, by values that may be bad: 0 where it stands there, 5 where there is less room behind the place, and then the
 -- size is that of the text; 1 exactly for a bad value, and then the size is as it was; and no other status. After any but 0 the buffer is as it was.

@@ -122,7 +122,7 @@ pub extern "C" fn gtp_gateway_take(
     buffer: &mut [u8],
     datagram: &mut Datagram,
 ) -> u8
-    ensures taken { result ≡ 0 → Goes (Hands buffer.new datagram.new)
+    ensures taken { result ≡ 0 → Goes (Hands buffer.old buffer.new datagram.new)
         handle.old.hidden.value handle.new.hidden.value }
     ensures small { result ≡ 5 → Goes (IsTooSmall (length buffer.old) datagram.new)
         handle.old.hidden.value handle.new.hidden.value }

@@ -1,8 +1,9 @@
 //! Datagrams that are taken, to be sent.
 
-ghost use Rattle.std.specs.Prelude.{◌≡◌, ◌≢◌, ◌↔◌, ◌<◌, [], ◌∷◌, length, take};
+ghost use Rattle.std.specs.Prelude.{◌≡◌, ◌≢◌, ◌↔◌, ◌<◌, [], ◌∷◌, length};
 ghost use Rattle.gtp_c.specs.Common.{IsOneOf};
 ghost use Rattle.gtp_c.specs.Steps.{Says, Hands, IsTooSmall, NothingWaits};
+ghost use Rattle.gtp_c.specs.Writing.{StandsAt};
 
 use crate::desk::Desk;
 use crate::ends::{End, plane_number};
@@ -36,7 +37,7 @@ impl Datagram {
 
 /// Writes octets to a buffer, where it has room for them: 0, or 5.
 fn put_octets(octets: &[u8], buffer: &mut [u8]) -> u8
-    ensures written { result ≡ 0 → take (length octets.now) buffer.new ≡ octets.now }
+    ensures written { result ≡ 0 → StandsAt 0 octets.now buffer.old buffer.new }
     ensures small { result ≢ 0 → length buffer.old < length octets.now }
     ensures kept { result ≢ 0 → buffer.new ≡ buffer.old }
     ensures known { result ≢ 0 → result ≡ 5 }
@@ -52,7 +53,7 @@ fn put_octets(octets: &[u8], buffer: &mut [u8]) -> u8
 impl Desk {
     /// Hands out the next datagram, where it fits.
     pub(crate) fn take(&mut self, buffer: &mut [u8], datagram: &mut Datagram) -> u8
-        ensures taken { result ≡ 0 → Hands buffer.new datagram.new self.old self.new }
+        ensures taken { result ≡ 0 → Hands buffer.old buffer.new datagram.new self.old self.new }
         ensures small { result ≡ 5
             → IsTooSmall (length buffer.old) datagram.new self.old self.new }
         ensures buffer { result ≢ 0 → buffer.new ≡ buffer.old }

@@ -1,6 +1,6 @@
 //! Writing to a caller's buffer. A call that lacks room writes nothing, and says how much it needs.
 
-ghost use Rattle.std.specs.Prelude.{◌≡◌, ◌⊎◌, ◌+◌, ◌<◌, ◌≤◌, ◌^◌, ◌++◌, length, take};
+ghost use Rattle.std.specs.Prelude.{◌≡◌, ◌⊎◌, ◌+◌, ◌<◌, ◌≤◌, ◌^◌, ◌++◌, length, take, drop};
 ghost use Rattle.gtp_ie.specs.Text.{element_encoding};
 ghost use Rattle.gtp_c.specs.Writing.{IsWritten, IsBadMessage, packet_encoding, message_encoding};
 ghost use Rattle.gtp_c.specs.Writing.{headed_plain, headed_by_teid, version};
@@ -14,8 +14,8 @@ const LONGEST: usize = 65_535;
 /// Writes two pieces at a place where there is room for both.
 fn put_parts(buffer: &mut [u8], place: usize, head: &[u8], body: &[u8])
     requires { place + (length head.now + length body.now) ≤ length buffer.old }
-    ensures { take (place + (length head.now + length body.now)) buffer.new
-        ≡ take place buffer.old ++ (head.now ++ body.now) }
+    ensures { buffer.new ≡ take place buffer.old ++ ((head.now ++ body.now)
+        ++ drop (place + (length head.now + length body.now)) buffer.old) }
 {
     let (_before, rest) = buffer.split_at_mut(place);
     let (first, rest) = rest.split_at_mut(head.len());
