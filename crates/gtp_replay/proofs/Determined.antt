@@ -9,13 +9,14 @@ use Rattle.gtp_world.proofs.Determined.Runs.{follow_one}
 use Rattle.gtp_scenario.specs.declared.fault.Refusal.{Refusal}
 use Rattle.gtp_scenario.specs.Scenarios.{Scenario, scenario_of}
 use Rattle.gtp_replay.specs.Contexts.{node_text}
-use Rattle.gtp_replay.specs.Determined.{WorldsHaveOneReport, OctetsHaveOneText}
+use Rattle.gtp_replay.specs.Determined.{WorldsHaveOneReport, OctetsHaveOneText, OfOneRun, FormsAreOfOneRun}
 use Rattle.gtp_replay.specs.Events.{events_text}
 use Rattle.gtp_outcomes.specs.Owed.{IsOwed}
 use Rattle.gtp_replay.specs.Report.{late_line}
 use Rattle.gtp_replay.specs.Told.{TellsScenario, TellsRefusal, Tells, events_of}
 use Rattle.gtp_outcomes.specs.Each.{TellsEach}
 use Rattle.gtp_replay.specs.Verdicts.{mutual_line, taken_line}
+use Rattle.gtp_replay.specs.declared.replaying.Form.{Form}
 use Rattle.gtp_replay.specs.declared.replaying.Form.TheVariants.{Report}
 use Rattle.gtp_replay.specs.declared.verdict.Verdict.{Verdict}
 use Rattle.gtp_replay.specs.declared.verdict.Verdict.TheVariants.{Expected, Unexpected}
@@ -68,3 +69,18 @@ tell_one octets text other_text verdict other_verdict r s = by_scenario (scenari
     by_scenario : (o : Result Scenario Refusal) → MatchResult o (λ scenario. TellsScenario Report scenario text verdict) (λ refusal. TellsRefusal refusal text verdict) → MatchResult o (λ scenario. TellsScenario Report scenario other_text other_verdict) (λ refusal. TellsRefusal refusal other_text other_verdict) → (text ≡ other_text) × (verdict ≡ other_verdict)
     by_scenario (Ok scenario) p q = scenario_one scenario text other_text verdict other_verdict p q
     by_scenario (Err refusal) p q = refusal_one refusal text other_text verdict other_verdict p q
+
+scenario_forms : (form other : Form) (scenario : Scenario) (text other_text : List ℕ) (verdict other_verdict : Verdict) → TellsScenario form scenario text verdict → TellsScenario other scenario other_text other_verdict → (verdict ≡ other_verdict) × OfOneRun form other scenario text other_text
+scenario_forms form other scenario text other_text verdict other_verdict r s =
+    let alike = follow_one scenario.setup (events_of scenario) r.world s.world r.run.comes s.run.comes in (
+      r.verdict_is ∙ (ap (λ (l : Log). if all_met scenario.entries l.notes then Expected else Unexpected) alike.log ∙ sym s.verdict_is),
+      record { world = r.world; other_world = s.world; alike = alike; text_is = r.text_is; other_is = s.text_is },
+    )
+
+pub forms_one : FormsAreOfOneRun
+unfolding Tells
+forms_one form other octets text other_text verdict other_verdict r s = by_scenario (scenario_of octets) r s
+  where
+    by_scenario : (o : Result Scenario Refusal) → MatchResult o (λ scenario. TellsScenario form scenario text verdict) (λ refusal. TellsRefusal refusal text verdict) → MatchResult o (λ scenario. TellsScenario other scenario other_text other_verdict) (λ refusal. TellsRefusal refusal other_text other_verdict) → (verdict ≡ other_verdict) × MatchResult o (λ scenario. OfOneRun form other scenario text other_text) (λ _. text ≡ other_text)
+    by_scenario (Ok scenario) p q = scenario_forms form other scenario text other_text verdict other_verdict p q
+    by_scenario (Err refusal) p q = (p.verdict_is ∙ sym q.verdict_is, p.line ∙ sym q.line)

@@ -42,7 +42,7 @@ frames_of log = frames_from 0 (enumerate_from 0 log.datagrams) log.notes
 abbrev pub standard_ports : Ports
 standard_ports = record { control = None; user = None }
 
--- a datagram that a packet carries: its addresses are of one version, it is from or to the port of its plane (TS 29.274, 4.2; TS 29.281, 4.4.2), and a packet has room for it
+-- a datagram that a packet carries: its addresses are of one version, its ports are those of its plane, where 2123 comes before 2152 (TS 29.274, 4.2; TS 29.281, 4.4.2), and a packet has room for it
 pub record HasPacket (d : Datagram) : Type 0 where
   pub ends : Ends
   pub between : ends_between d.from.ip d.to.ip ≡ Some ends

@@ -1,10 +1,12 @@
 -- What is written for octets is determined.
-use Rattle.std.specs.Prelude.{◌≡◌, ℕ, List}
+use Rattle.std.specs.Prelude.{◌≡◌, ℕ, List, MatchResult}
 use Rattle.gtp_machine.specs.World.{Event}
 use Rattle.gtp_world.specs.Determined.{WorldsAlike}
 use Rattle.gtp_world.specs.Kept.{Kept}
 use Rattle.gtp_replay.specs.Report.{IsReport}
-use Rattle.gtp_replay.specs.Told.{Tells}
+use Rattle.gtp_scenario.specs.Scenarios.{Scenario, scenario_of}
+use Rattle.gtp_replay.specs.Told.{Tells, IsText, events_of}
+use Rattle.gtp_replay.specs.declared.replaying.Form.{Form}
 use Rattle.gtp_replay.specs.declared.replaying.Form.TheVariants.{Report}
 use Rattle.gtp_replay.specs.declared.verdict.Verdict.{Verdict}
 
@@ -24,3 +26,19 @@ OctetsHaveOneText =
     → Tells Report octets text verdict
     → Tells Report octets other_text other_verdict
     → (text ≡ other_text) × (verdict ≡ other_verdict)
+
+-- What is written of a scenario in two forms is of worlds that are alike.
+pub record OfOneRun (form other : Form) (scenario : Scenario) (text other_text : List ℕ) : Type 0 where
+  pub world : Kept
+  pub other_world : Kept
+  pub alike : WorldsAlike world other_world
+  pub text_is : IsText form (events_of scenario) world text
+  pub other_is : IsText other (events_of scenario) other_world other_text
+
+-- Whatever octets come, what is told of them in two forms has one verdict, and is of one run, or is one line of a refusal.
+abbrev pub FormsAreOfOneRun : Type 0
+FormsAreOfOneRun =
+    (form other : Form) (octets text other_text : List ℕ) (verdict other_verdict : Verdict)
+    → Tells form octets text verdict
+    → Tells other octets other_text other_verdict
+    → (verdict ≡ other_verdict) × MatchResult (scenario_of octets) (λ s. OfOneRun form other s text other_text) (λ _. text ≡ other_text)

@@ -137,9 +137,9 @@ fn all_frames<'a>(
 /// The datagrams of a world as a packet capture (pcap, the high octet first, microseconds, link 101), all of them and in
 /// order, each from the address and port that it was sent from to those that it was sent to. The seconds of its time are
 /// the number of the event that sent it, modulo 2^32, and the microseconds its own number, modulo 1,000,000, both from 0.
-/// `NoPacket` if no packet carries one of them: its addresses are of two versions, it is neither from nor to the port of
-/// its plane (2123 or 2152), or it is longer than a packet has room for (65,507 octets over IPv4, 65,527 over IPv6); no
-/// scenario makes one. `Memory` if an allocation was refused.
+/// `NoPacket` if no packet carries one of them: its addresses are of two versions; its ports are not those of its plane
+/// (of a control datagram one is 2123; of a user datagram one is 2152, and none 2123); or it is longer than a packet has
+/// room for (65,507 octets over IPv4, 65,527 over IPv6). No scenario makes one. `Memory` if an allocation was refused.
 pub fn capture(alloc: Global, world: &World) -> Result<Vec<u8>, NoCapture>
     ensures text { IfOk result (λ text. IsCaptureOf world.now text.items) }
     ensures no_packet { (number : ℕ) → result ≡ Err (NoCapture.NoPacket number)

@@ -1,6 +1,6 @@
 //! What the clauses of a replay leave open. The functions do nothing: each clause is a law.
 
-ghost use Rattle.gtp_replay.specs.Determined.{WorldsHaveOneReport, OctetsHaveOneText};
+ghost use Rattle.gtp_replay.specs.Determined.{WorldsHaveOneReport, OctetsHaveOneText, FormsAreOfOneRun};
 ghost use Rattle.gtp_replay.specs.Recaptured.{CaptureReadsBack};
 
 use gtp_capture::what_is_written_is_read_back;
@@ -11,6 +11,8 @@ pub fn reports_are_determined()
     ensures report { WorldsHaveOneReport }
     // Octets have one report, or one line of a refusal, and one verdict.
     ensures told { OctetsHaveOneText }
+    // What is told in two forms is of one run.
+    ensures forms { FormsAreOfOneRun }
 {}
 
 /// The capture of a run is read as its datagrams: all of them, in order.
