@@ -22,8 +22,8 @@ Examples:
   gtpshow explain CODE
 
 A message of any interface is judged by the rules of the interface S5/S8 (3GPP TS 29.274).
-Exit status: 0 shown, or replayed as expected; 1 a fault was shown, or an event came to something
-else; 2 bad words, hexadecimal, capture or scenario; 3 no memory, or a failed read or write";
+Exit status: 0 shown, or as expected; 1 a fault, or an event that came to something else; 2 bad words,
+hexadecimal, port, code, capture, scenario or gateway; 3 no memory, or a failed read or write";
 
 const SCENARIO: &str = "\
 A scenario:
@@ -35,7 +35,7 @@ A scenario:
     {\"do\": \"deliver\", \"datagram\": 0},
     {\"do\": \"deliver\", \"datagram\": 1, \"expect\": \"opened\"}]}
 
-docs/FORMATS.md of the repository lists all events, and explains the report";
+FORMATS.md (docs, or share/doc/gtpshow where it is installed) lists all events, and explains the report";
 
 const GATEWAY: &str = "\
 Lines:
@@ -45,7 +45,8 @@ Lines:
   {\"do\":\"receive\",\"plane\":\"control\",\"from\":{\"address\":\"127.0.0.3\",\"port\":2123},\"octets\":\"..\"}
   {\"do\":\"tick\"}
 
-docs/FORMATS.md of the repository lists all lines and answers; examples/bridge joins UDP sockets to it";
+FORMATS.md (docs, or share/doc/gtpshow where it is installed) lists all lines and answers; examples/bridge
+beside it joins UDP sockets to it";
 
 /// An option without a value.
 fn flag<'a>(alloc: Global, name: &'a str, help: &'a str) -> Arg<'a>

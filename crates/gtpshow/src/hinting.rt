@@ -46,7 +46,10 @@ fn hint_of_line<R: Eprint>(rt: &R, alloc: Global, word: &str) -> io::Result<()> 
 /// Says why the word of `decode` is no hexadecimal, or that it names a file.
 fn hint_of_hex<R: Eprint + Files>(rt: &R, alloc: Global, asked: &ArgMatches) -> io::Result<()> {
     let word = asked.get_str("octets").unwrap_or("");
-    if fs::exists(rt, word).unwrap_or(false) {
+    if let Ok(about) = fs::metadata(rt, word) {
+        if about.is_dir() {
+            return eprintln!(rt; "gtpshow: {word} is a folder");
+        }
         return eprintln!(rt;
             "gtpshow: {word} is a file: 'decode -' reads datagrams from standard input, 'capture' a capture"
         );
@@ -191,6 +194,11 @@ pub fn hint_of_gateway<R: Eprint>(rt: &R, alloc: Global, line: &[u8]) -> io::Res
 
 /// Says that no code is called so.
 fn hint_of_code<R: Eprint>(rt: &R, word: &str) -> io::Result<()> {
+    if word.contains(" ") {
+        return eprintln!(rt;
+            "gtpshow: a code is one word, as H7, I2, S1 or 73: 'explain' without a word shows all"
+        );
+    }
     eprintln!(rt; "gtpshow: no code is called {word}: 'explain' without a word shows all")
 }
 
