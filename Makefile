@@ -45,7 +45,8 @@ install: $(program) $(library)
 	$(INSTALL) -d $(pages)/examples
 	$(INSTALL) -m 644 docs/PROTOCOL.md docs/FORMATS.md docs/JSON.md docs/C.md docs/PROVED.md docs/BELIEVE.md docs/CHANGELOG.md $(pages)
 	sed -i 's|](../include/|](../../../include/|g; s|](../examples/|](examples/|g; s|](../rust/gtp)|](../../gtp/rust)|g' $(pages)/C.md
-	cp -R examples/scenarios examples/captures examples/datagrams examples/c examples/rust $(pages)/examples
+	sed -i 's|](../examples/|](examples/|g' $(pages)/FORMATS.md
+	cp -R examples/scenarios examples/captures examples/datagrams examples/bridge examples/c examples/rust $(pages)/examples
 	rm -rf $(pages)/examples/rust/target
 	sed -i 's|"../../rust/gtp"|"../../../../gtp/rust"|' $(pages)/examples/rust/Cargo.toml
 	$(INSTALL) -d $(rust)/src

@@ -9,7 +9,7 @@ since it has to outlive the gateway, and is one higher at each start (TS 23.007 
 Standard input, which may be a terminal, a pipe or a file, has further lines of `gtpshow gateway`: commands. At its end the
 gateway goes on. Standard output has a line for each answer but those of ticks in which nothing happened. For tests,
 a share of the datagrams that arrive is lost or comes twice, and each is held back for a random time up to a delay.
-The environment may name the program in GTPSHOW; else it is scripts/gtpshow."""
+The environment may name the program in GTPSHOW; else it is scripts/gtpshow, or, where that is not there, gtpshow."""
 
 import argparse
 import asyncio
@@ -21,7 +21,8 @@ import sys
 import threading
 
 TOP = pathlib.Path(__file__).resolve().parents[2]
-PROGRAM = os.environ.get("GTPSHOW", str(TOP / "scripts/gtpshow"))
+SCRIPT = TOP / "scripts/gtpshow"
+PROGRAM = os.environ.get("GTPSHOW", str(SCRIPT) if SCRIPT.exists() else "gtpshow")
 PORTS = {"control": 2123, "user": 2152}
 # The longest line that the gateway writes: each octet of a tick's datagrams and forgotten requests is two digits.
 LONGEST = 1 << 28

@@ -29,9 +29,8 @@ static const struct { uint8_t kind; const char *name; read_number *read; } NUMBE
 
 /* Whether the body of an element of this type says something, which is shown then. */
 static bool put_value(uint8_t kind, const uint8_t *body, size_t len) {
-    struct gtp_imsi imsi; struct gtp_cause cause; struct gtp_apn apn; struct gtp_ambr ambr; struct gtp_paa paa;
-    struct gtp_quality qos; struct gtp_network network; struct gtp_fteid fteid;
-    memset(&qos, 0, sizeof qos);
+    struct gtp_imsi imsi = {0}; struct gtp_cause cause = {0}; struct gtp_apn apn = {0}; struct gtp_ambr ambr = {0};
+    struct gtp_paa paa = {0}; struct gtp_quality qos = {0}; struct gtp_network network = {0}; struct gtp_fteid fteid = {0};
     if (kind == 1 && !gtp_imsi_read(body, len, &imsi)) { printf("imsi "); put_digits(imsi.digits, imsi.count); return true; }
     if (kind == 2 && !gtp_cause_read(body, len, &cause)) {
         printf("cause %u", cause.value);

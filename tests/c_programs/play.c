@@ -11,7 +11,8 @@ static unsigned carry(gtp_gateway *from, gtp_gateway *to, struct gtp_told *told)
         uint8_t status = gtp_gateway_take(from, none, 0, &d);
         if (status == GTP_NONE) return count;
         CHECK(status == GTP_TOO_SMALL && d.len > 0);
-        uint8_t *octets = malloc(d.len);
+        uint8_t *octets = malloc(d.len), *wide = malloc(d.len + 8);
+        memset(wide, 0xa5, d.len + 8);
         for (uint64_t room = 1; room < d.len; room++) {
             uint8_t *small = malloc(room);
             memset(small, 0xa5, room);
@@ -19,7 +20,10 @@ static unsigned carry(gtp_gateway *from, gtp_gateway *to, struct gtp_told *told)
             for (uint64_t i = 0; i < room; i++) CHECK(small[i] == 0xa5);
             free(small);
         }
-        CHECK(gtp_gateway_take(from, octets, d.len, &again) == GTP_DONE && !memcmp(&d.to, &again.to, sizeof d.to));
+        CHECK(gtp_gateway_take(from, wide, d.len + 8, &again) == GTP_DONE && !memcmp(&d.to, &again.to, sizeof d.to));
+        for (int i = 0; i < 8; i++) CHECK(wide[d.len + i] == 0xa5);
+        memcpy(octets, wide, d.len);
+        free(wide);
         CHECK(d.to.port == (d.plane == GTP_CONTROL ? 2123 : 2152) && d.from.port == d.to.port);
         CHECK(gtp_gateway_receive(to, &d.from, d.plane, octets, d.len, told) == GTP_DONE);
         if (told->outcome.kind == GTP_ACCEPTED) CHECK(told->payload_len <= d.len && octets[d.len - told->payload_len] == 'p');
@@ -72,6 +76,8 @@ static void exchange(bool six) {
 
     CHECK(bearers(&serving, &bearer) == 1 && bearer.state == 1 && bearer.identity == 5 && !bearer.dedicated);
     uint32_t up = bearer.teid, down = bearer.remote;
+    static uint8_t long_packet[65001];
+    CHECK(gtp_gateway_send_user(&serving, up, long_packet, sizeof long_packet, &told) == GTP_REFUSED && told.outcome.cause == 8);
     CHECK(gtp_gateway_send_user(&serving, up, text("p1"), 2, &told) == GTP_DONE && told.outcome.kind == GTP_GONE_OUT && told.teid == 0);
     CHECK(carry(&serving, &packet, &told) == 1 && told.outcome.kind == GTP_ACCEPTED && told.teid == down && told.payload_len == 2);
     CHECK(gtp_gateway_send_user(&packet, down, text("p"), 1, &told) == GTP_DONE);
@@ -229,6 +235,15 @@ static void refusals(void) {
         CHECK(gtp_gateway_receive(&packet, &peer, GTP_CONTROL, cut, n, &told) == GTP_DONE && told.outcome.cause == 1 && told.outcome.fault);
         free(cut);
     }
+    static uint8_t more[70000];
+    more[0] = 0x30; more[1] = 255;
+    peer.port = 2152;
+    CHECK(gtp_gateway_receive(&packet, &peer, GTP_USER, more, sizeof more, &told) == GTP_DONE && told.outcome.kind == GTP_DROPPED
+          && told.outcome.cause == 1 && told.outcome.fault == 4);
+    peer.port = 2123;
+    q.gbr_up = 0;
+    CHECK(gtp_gateway_create_bearer(&packet, 1, &q, more, 256, &told) == GTP_BAD_VALUE);
+    CHECK(create(&packet, "", 1, &told) == GTP_BAD_VALUE);
     /* Nobody takes: it fills, says so, and goes on once one is taken. */
     uint8_t status;
     unsigned long steps = 0;
@@ -265,10 +280,14 @@ static void not_written(void) {
 
 /* The longest whose length two octets state, and one octet more. */
 static void longest(void) {
-    static uint8_t octets[65536], room[65543];
+    static uint8_t octets[65536], room[65543], more[70000];
     uint64_t size = 0;
-    struct gtp_head head; struct gtp_user_head user;
-    memset(&head, 0, sizeof head); memset(&user, 0, sizeof user);
+    struct gtp_head head; struct gtp_user_head user; struct gtp_fault fault;
+    memset(&head, 0, sizeof head); memset(&user, 0, sizeof user); memset(&fault, 0, sizeof fault);
+    more[0] = 0x48; more[1] = 34;
+    CHECK(gtp_control_read(more, sizeof more, &head, &fault) == GTP_FAULTY && fault.number == 3 && fault.held == 69996);
+    more[0] = 0x30; more[1] = 255;
+    CHECK(gtp_user_read(more, sizeof more, &user, &fault) == GTP_FAULTY && fault.number == 4 && fault.held == 69992);
     head.kind = 34; head.has_teid = 1; user.kind = 255;
     CHECK(gtp_control_write(room, sizeof room, &head, octets, 65527, &size) == GTP_DONE && size == 65539);
     CHECK(gtp_control_write(room, sizeof room, &head, octets, 65528, &size) == GTP_BAD_VALUE);
@@ -296,6 +315,10 @@ static void bodies(void) {
     CHECK(gtp_apn_write(room, sizeof room, &apn, &size) == GTP_DONE && size == 9 && !memcmp(room, "\x08internet", 9));
     CHECK(gtp_paa_write(room, sizeof room, &paa, &size) == GTP_DONE && size == 18 && !memcmp(room, "\x02\x40\x20\x01", 4));
     CHECK(gtp_charging_id_write(room, sizeof room, 0x01020304, &size) == GTP_DONE && size == 4 && !memcmp(room, "\1\2\3\4", 4));
+    memset(room, 0xa5, sizeof room);
+    CHECK(gtp_element_write(room, sizeof room, 4, 3, 0, text("\7"), 1, &size) == GTP_DONE && size == 5);
+    for (size_t i = 0; i < sizeof room; i++) if (i < 4 || i > 8) CHECK(room[i] == 0xa5);
+    memcpy(room, "\1\2\3\4", 4);
     size = 7;
     imsi.count = 16; CHECK(gtp_imsi_write(room, sizeof room, &imsi, &size) == GTP_BAD_VALUE);
     imsi.count = 5; CHECK(gtp_imsi_write(room, sizeof room, &imsi, &size) == GTP_BAD_VALUE);

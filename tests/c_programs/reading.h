@@ -15,15 +15,15 @@ static uint8_t *block(const uint8_t *octets, size_t len) {
 
 static bool is_value_status(uint8_t s) { return s == GTP_DONE || s == GTP_SHORT_VALUE || s == GTP_NO_VALUE; }
 
-/* A room of every size below the text's is left as it is; then the text is written. */
+/* A room of every size below the text's is left as it is; then the text is written, and what is behind it is left as it is. */
 #define EVERY_ROOM(len, call) do { \
     uint64_t size = 0; \
-    for (uint64_t room = 0; room <= (len); room++) { \
+    for (uint64_t room = 0; room <= (len) + 4; room++) { \
         uint8_t *buffer = malloc(room ? room : 1); \
         memset(buffer, 0xa5, room ? room : 1); \
         uint8_t status = (call); \
         CHECK(status == (room < (len) ? GTP_TOO_SMALL : GTP_DONE) && size == (len)); \
-        for (uint64_t i = 0; room < (len) && i < room; i++) CHECK(buffer[i] == 0xa5); \
+        for (uint64_t i = room < (len) ? 0 : (len); i < room; i++) CHECK(buffer[i] == 0xa5); \
         if (room == (len)) memcpy(written, buffer, room); \
         free(buffer); \
     } } while (0)

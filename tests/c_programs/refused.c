@@ -36,6 +36,10 @@ static void run(void) {
     gtp_gateway serving = {0}, packet = {0};
     struct gtp_setup s = setup_of(GTP_SERVING, false), p = setup_of(GTP_PACKET, false);
     struct gtp_quality q = wish(1).quality;
+    struct gtp_session wanted = wish(1);
+    p.template_count = 1;                   /* a session of "ims" gets a second bearer in the same datagram */
+    p.templates[0].quality = q; p.templates[0].access_point = 1; p.templates[0].tft_len = 3;
+    memcpy(p.templates[0].tft, "\x21\x10\x00", 3);
     this_len = 0;
     TWICE(gtp_gateway_new(&serving, &s, text(""), 0));
     TWICE(gtp_gateway_new(&packet, &p, text("internet,ims"), 12));
@@ -60,6 +64,12 @@ static void run(void) {
         pass(&serving, &packet);
         pass(&packet, &serving);
     }
+    TWICE(gtp_gateway_create_session(&serving, &wanted, text("001010123456780"), 15, text("ims"), 3, &told));
+    pass(&serving, &packet);
+    pass(&packet, &serving);
+    CHECK(told.outcome.kind == GTP_OPENED && told.second.kind == GTP_ANSWERED);
+    pass(&serving, &packet);
+    CHECK(told.outcome.kind == GTP_OPENED);
     CHECK(gtp_gateway_free(&serving) == GTP_DONE && gtp_gateway_free(&packet) == GTP_DONE);
 }
 
@@ -102,7 +112,7 @@ static uint8_t written(int writer, uint8_t *room, size_t len, uint64_t *size) {
 
 /* A call that writes lacks memory exactly where an allocation was refused; it has then written nothing, and once more it writes. */
 static void each_writer_is_refused(void) {
-    uint8_t whole[64], room[64], blank[64];
+    uint8_t whole[64] = {0}, room[64], blank[64];
     memset(blank, 0xaa, sizeof blank);
     for (int writer = 0; writer < WRITERS; writer++) {
         uint64_t octets = 0;
