@@ -43,6 +43,27 @@ each_of_file() {
   done < <(cat "$3"; echo)
 }
 
+# cuts_and_changes: of lines 'control HEX' and 'user HEX' each cut of a datagram of at most 400 octets, and what it is with an octet
+# that is 0, 1 or 255. Lines of bodies are left out.
+cuts_and_changes() {
+  awk '$1 != "body" && length($2) <= 800 {
+    for (n = 2; n <= length($2); n += 2) print $1, substr($2, 1, n)
+    for (n = 1; n < length($2); n += 2) for (v = 0; v < 3; v++) print $1, substr($2, 1, n - 1) substr("0001ff", 2 * v + 1, 2) substr($2, n + 2)
+  }'
+}
+
+# reports_to FILE: what a sanitizer finds in a program ends it with status 9, and is told in FILE.PID. A program that ends with
+# status 1, or whose status is not looked at, is told of as well. (gcc's undefined behaviour sanitizer tells it on standard error.)
+reports_to() {
+  export ASAN_OPTIONS=detect_leaks=1:exitcode=9:log_path=$1 TSAN_OPTIONS=exitcode=9:log_path=$1
+  export UBSAN_OPTIONS=halt_on_error=1:exitcode=9:log_path=$1
+}
+
+# no_reports FILE: a case, that no sanitizer has told anything.
+no_reports() {
+  if compgen -G "$1.*" > /dev/null; then fail "a sanitizer: $(cat "$1".* | head -20)"; else pass; fi
+}
+
 # finish: the last line, 'N passed, M failed', and the status.
 finish() {
   printf '%s passed, %s failed\n' "$passed" "$failed"

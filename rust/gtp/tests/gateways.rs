@@ -74,13 +74,22 @@ impl Pair {
     }
 }
 
-/// Hands on the datagram that waits longest.
+/// Hands on the datagram that waits longest, in a block of its own length. A smaller room is refused with that length, and stays as
+/// it is; so does what a larger one has behind.
 fn forward(from: &mut Gateway, to: &mut Gateway, accepted: &mut Vec<Vec<u8>>) -> bool {
-    let mut room = [0; 2048];
-    let Some(sent) = from.take(&mut room).unwrap() else {
+    let Err(TooSmall { needed }) = from.take(&mut []) else {
         return false;
     };
-    let received = to.receive(sent.from, sent.plane, sent.octets).unwrap();
+    for len in 1..needed {
+        let mut small = vec![0xa5; len].into_boxed_slice();
+        assert_eq!(from.take(&mut small), Err(TooSmall { needed }));
+        assert!(small.iter().all(|octet| *octet == 0xa5));
+    }
+    let mut room = vec![0xa5; needed + 8].into_boxed_slice();
+    let sent = from.take(&mut room).unwrap().unwrap();
+    let (source, plane, octets) = (sent.from, sent.plane, Box::<[u8]>::from(sent.octets));
+    assert_eq!(room[octets.len()..], [0xa5; 8]);
+    let received = to.receive(source, plane, &octets).unwrap();
     if let Outcome::Accepted { packet, .. } = received.outcome {
         accepted.push(packet.to_vec());
     }

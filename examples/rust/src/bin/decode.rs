@@ -10,7 +10,8 @@ fn hex(octets: &[u8]) -> String {
     octets.iter().map(|octet| format!("{octet:02x}")).collect()
 }
 
-fn octets_of(digits: &str) -> Option<Vec<u8>> {
+/// The octets of hexadecimal digits.
+pub fn octets_of(digits: &str) -> Option<Vec<u8>> {
     let octet = |at| u8::from_str_radix(digits.get(at..at + 2)?, 16).ok();
     (0..digits.len()).step_by(2).map(octet).collect()
 }
@@ -148,6 +149,22 @@ fn show_user(message: &UserMessage<'_>) {
     }
 }
 
+/// Shows a datagram, or its first fault, and says whether it has none.
+pub fn show(octets: &[u8], is_user: bool) -> bool {
+    let shown = if is_user {
+        UserMessage::read(octets).map(|message| show_user(&message)).map_err(|fault| fault.to_string())
+    } else {
+        ControlMessage::read(octets).map(|message| show_control(&message)).map_err(|fault| fault.to_string())
+    };
+    match shown {
+        Ok(()) => true,
+        Err(fault) => {
+            println!("fault {fault}");
+            false
+        }
+    }
+}
+
 fn main() -> ExitCode {
     let words: Vec<String> = std::env::args().skip(1).collect();
     let (is_user, digits) = match words.iter().map(String::as_str).collect::<Vec<_>>()[..] {
@@ -162,16 +179,9 @@ fn main() -> ExitCode {
         eprintln!("bad hex");
         return ExitCode::from(2);
     };
-    let fault = if is_user {
-        UserMessage::read(&octets).map(|message| show_user(&message)).map_err(|fault| fault.to_string())
+    if show(&octets, is_user) {
+        ExitCode::SUCCESS
     } else {
-        ControlMessage::read(&octets).map(|message| show_control(&message)).map_err(|fault| fault.to_string())
-    };
-    match fault {
-        Ok(()) => ExitCode::SUCCESS,
-        Err(fault) => {
-            println!("fault {fault}");
-            ExitCode::FAILURE
-        }
+        ExitCode::FAILURE
     }
 }
