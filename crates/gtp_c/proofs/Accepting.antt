@@ -15,7 +15,7 @@ use Rattle.gtp_machine.specs.Reading.{user_reading, user_content_message, user_f
 use Rattle.gtp_machine.specs.User.{PacketCame, EndCame, ErrorCame, UserTaken, UserRead, UserStep}
 use Rattle.gtp_machine.proofs.Octets.ByGrammar.{user_by_grammar}
 use Rattle.gtp_gateway.specs.GatewayState.{GatewayState}
-use Rattle.gtp_gateway.specs.declared.step.Accepted.{Accepted}
+use Rattle.gtp_gateway.specs.user.Accepted.{Accepted}
 use Rattle.gtp_gateway.specs.declared.step.Step.{Step}
 use Rattle.gtp_gateway.specs.receive.Received.{IsReceived}
 use Rattle.gtp_gateway.specs.user.Receive.{AreEntries}

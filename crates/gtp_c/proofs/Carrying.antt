@@ -1,6 +1,6 @@
 -- What a message of the user plane carries, and where it lies.
 use Rattle.std.proofs.Common.{◌≡◌, ℕ, ◌+◌, ◌-◌, ◌*◌, ◌%◌, ◌<◌, true, false, List, [], ◌∷◌, ◌++◌, length, drop, refl, sym, ap, ◌∙◌, subst, append_assoc, length-append, inl, inr, arith}
-use Rattle.std.specs.Prelude.{Some, ◌==◌}
+use Rattle.std.specs.Prelude.{Some, ◌==◌, unwrap_or}
 use Rattle.std.proofs.lemmas.Bool.Decides.{nat_tests}
 use Rattle.std.proofs.lemmas.List.{drop-drop, drop_at}
 use Rattle.std.proofs.Math.Seq.{drop-append_seam}
@@ -11,8 +11,9 @@ use Rattle.gtp_user.proofs.Headers.{flags_are, test_not}
 use Rattle.gtp_user.specs.Chain.{Extension, IsChain, Leads, chain_encoding}
 use Rattle.gtp_user.specs.Datagram.{IsUserMessage, Carries}
 use Rattle.gtp_user.specs.Headed.{Headed}
-use Rattle.gtp_user.specs.Header.{Flags, IsHeaded, bits}
-use Rattle.gtp_user.specs.Message.{Content, EchoRequest, EchoResponse, ErrorIndication, Notification, EndMarker, Packet, Other, MessageValue, packet_in}
+use Rattle.gtp_user.specs.Flags.{Flags, bits}
+use Rattle.gtp_user.specs.Header.{IsHeaded}
+use Rattle.gtp_user.specs.Message.{Content, EchoRequest, EchoResponse, ErrorIndication, Notification, EndMarker, Packet, Other, MessageValue, packet_in, receiver_in}
 use Rattle.gtp_c.specs.Common.{AreLast}
 use Rattle.gtp_c.specs.Reading.{LiesAtEnd, IsCarried}
 use Rattle.gtp_c.specs.Sizes.{HasTypes, header_size}
@@ -29,10 +30,12 @@ packet_is (EndMarker t) teid payload is = absurd (none_some (teid, payload) (sym
 packet_is (Other k t p) teid payload is = absurd (none_some (teid, payload) (sym is))
 
 -- the head tells what it carries
-pub packet_carried : (content : Content) (told : Carried) (teid : ℕ) (payload : List ℕ) → Some (teid, payload) ≡ packet_in content
-    → told.teid ≡ teid → told.payload_len ≡ length payload → told.peer.version ≡ 0 → IsCarried content told
-packet_carried content told teid payload is to long none =
-    subst (λ (c : Content). IsCarried c told) (packet_is content teid payload is) (record { teid = to; payload = long; peer = none })
+pub packet_carried : (content : Content) (told : Carried) (teid receiver : ℕ) (payload : List ℕ) → Some (teid, payload) ≡ packet_in content → receiver ≡ unwrap_or (receiver_in content) 0
+    → IsCarried (Packet receiver payload) told → IsCarried content told
+packet_carried content told teid receiver payload is to carried =
+    let packet = packet_is content teid payload is in
+    let same : receiver ≡ teid = to ∙ ap (λ (c : Content). unwrap_or (receiver_in c) 0) (sym packet) in
+    subst (λ (c : Content). IsCarried c told) packet (subst (λ (n : ℕ). IsCarried (Packet n payload) told) same carried)
 
 -- the octets end so
 abbrev Ends : List ℕ → List ℕ → Type 0

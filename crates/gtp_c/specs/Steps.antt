@@ -13,7 +13,7 @@ use Rattle.gtp_gateway.specs.GatewayState.{GatewayState}
 use Rattle.gtp_gateway.specs.Tick.{IsTicked, QueuesAfterTick}
 use Rattle.gtp_gateway.specs.declared.sent.Begun.{Begun}
 use Rattle.gtp_gateway.specs.declared.sent.Sent.{Sent}
-use Rattle.gtp_gateway.specs.declared.step.Accepted.{Accepted}
+use Rattle.gtp_gateway.specs.user.Accepted.{Accepted}
 use Rattle.gtp_gateway.specs.declared.step.Step.{Step}
 use Rattle.gtp_gateway.specs.declared.tick.Ticked.{Ticked}
 use Rattle.gtp_c.specs.Common.{AreLast}
@@ -32,7 +32,7 @@ Keeps old new = (new.gateway ≡ old.gateway) × (new.waiting.items ≡ old.wait
 -- the packet that was accepted is the last octets of the datagram
 abbrev pub IsPayload : Option Accepted → List ℕ → Type 0
 IsPayload None octets = Unit {0}
-IsPayload (Some accepted) octets = AreLast accepted.payload.now octets
+IsPayload (Some accepted) octets = AreLast accepted.payload octets
 
 -- the same on the user plane; no packet comes on the other
 abbrev pub IsPayloadOf : Plane → Option Accepted → List ℕ → Type 0

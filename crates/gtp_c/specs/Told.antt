@@ -9,7 +9,7 @@ use Rattle.gtp_machine.specs.declared.outcome.Outcome.TheVariants.{Begun, GoneOu
 use Rattle.gtp_values.specs.declared.counter.Counter.{Counter}
 use Rattle.gtp_values.specs.declared.identifiers.Teid.{Teid}
 use Rattle.gtp_gateway.specs.declared.sent.Begun as commands
-use Rattle.gtp_gateway.specs.declared.step.Accepted as packets
+use Rattle.gtp_gateway.specs.user.Accepted as packets
 use Rattle.gtp_gateway.specs.declared.step.Step.{Step}
 use Rattle.gtp_c.specs.Common.{flag}
 use Rattle.gtp_c.specs.declared.coming.Coming.{Coming}
@@ -81,11 +81,11 @@ second_told (Some o) = outcome_told o
 
 abbrev pub bearer_in : Option packets.Accepted → ℕ
 bearer_in None = 0
-bearer_in (Some packet) = packet.bearer.0
+bearer_in (Some packet) = packet.bearer
 
 abbrev pub length_in : Option packets.Accepted → ℕ
 length_in None = 0
-length_in (Some packet) = length packet.payload.now
+length_in (Some packet) = length packet.payload
 
 abbrev pub counter_in : Option Counter → ℕ
 counter_in None = 0
@@ -93,7 +93,7 @@ counter_in (Some counter) = counter.0
 
 abbrev pub teid_in : Option Teid → ℕ
 teid_in None = 0
-teid_in (Some teid) = teid.0
+teid_in (Some teid) = teid
 
 -- nothing but what it came to and a TEID, with so many datagrams that wait
 abbrev pub plain_told : Coming → ℕ → ℕ → Told

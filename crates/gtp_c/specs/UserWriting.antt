@@ -1,5 +1,6 @@
 -- Messages of the user plane that are written to a caller's buffer.
 use Rattle.std.specs.Prelude.{◌≡◌, ◌≢◌, ◌↔◌, ℕ, ◌+◌, ◌<◌, ◌≤◌, ◌==◌, List, [], ◌∷◌, if◌then◌else◌, length, Option, Some, None, option_map, IsSomeAnd}
+use Rattle.gtp_user.specs.declared.kinds.TheConstants.{ECHO_REQUEST, ECHO_RESPONSE, ERROR_INDICATION, SUPPORTED_EXTENSION_HEADERS_NOTIFICATION, END_MARKER, G_PDU}
 use Rattle.gtp_user.specs.Encoding.{encoding, IsEncodable}
 use Rattle.gtp_user.specs.Message as user
 use Rattle.gtp_c.specs.Common.{IsOneOf}
@@ -14,12 +15,15 @@ where_told has value = if has == 0 then None else Some value
 -- what a message of a type without an address carries, by its type
 abbrev pub plain_content : ℕ → ℕ → List ℕ → user.Content
 plain_content kind teid octets =
-    if kind == 1 then user.EchoRequest else (if kind == 2 then user.EchoResponse else (if kind == 31 then user.Notification octets else (
-    if kind == 254 then user.EndMarker teid else (if kind == 255 then user.Packet teid octets else user.Other kind teid octets))))
+    if kind == ECHO_REQUEST then user.EchoRequest
+    else (if kind == ECHO_RESPONSE then user.EchoResponse
+    else (if kind == SUPPORTED_EXTENSION_HEADERS_NOTIFICATION then user.Notification octets
+    else (if kind == END_MARKER then user.EndMarker teid
+    else (if kind == G_PDU then user.Packet teid octets else user.Other kind teid octets))))
 
 -- what the message of C's head carries, with these octets: an Error Indication has an address
 abbrev pub content_asked : UserHead → List ℕ → Option user.Content
-content_asked head octets = if head.kind == 26 then option_map (user.ErrorIndication head.teid) (ip_at head.peer) else Some (plain_content head.kind head.teid octets)
+content_asked head octets = if head.kind == ERROR_INDICATION then option_map (user.ErrorIndication head.teid) (ip_at head.peer) else Some (plain_content head.kind head.teid octets)
 
 -- the message without extension headers that carries this
 abbrev pub message_with : UserHead → user.Content → user.MessageValue

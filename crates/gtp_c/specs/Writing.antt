@@ -1,6 +1,8 @@
 -- What is written to a caller's buffer.
 use Rattle.std.specs.Prelude.{◌≡◌, ◌≢◌, ◌⊎◌, ◌↔◌, ℕ, ◌+◌, ◌<◌, ◌≤◌, ◌==◌, List, [], ◌∷◌, ◌++◌, if◌then◌else◌, length, take, drop, Option, Some, None}
+use Rattle.gtp_user.specs.Flags.{version_1, protocol_type}
 use Rattle.gtp_v2.specs.Encoding.{headed_encoding}
+use Rattle.gtp_v2.specs.Flags.{version_2}
 use Rattle.gtp_values.specs.Numbers.{two, three, four}
 use Rattle.gtp_c.specs.Common.{IsOneOf}
 use Rattle.gtp_c.specs.declared.control.Head.{Head}
@@ -26,7 +28,7 @@ version = 48 ∷ 46 ∷ 49 ∷ 46 ∷ 48 ∷ []
 
 -- a G-PDU with this TEID and packet, without options (TS 29.281 5.1): version 1, protocol type GTP, type 255, the length of what follows the first eight octets
 abbrev pub packet_encoding : ℕ → List ℕ → List ℕ
-packet_encoding teid packet = 48 ∷ 255 ∷ two (length packet) (four teid packet)
+packet_encoding teid packet = (version_1 + protocol_type) ∷ 255 ∷ two (length packet) (four teid packet)
 
 -- a value where C says that there is one
 abbrev pub some_where : ℕ → ℕ → Option ℕ
@@ -38,11 +40,11 @@ message_encoding head list = headed_encoding head.kind (some_where head.has_teid
 
 -- the header of a message without a TEID, with so many octets after it
 abbrev pub headed_plain : ℕ → ℕ → ℕ → List ℕ
-headed_plain kind seq len = 64 ∷ kind ∷ two (4 + len) (three seq (0 ∷ []))
+headed_plain kind seq len = version_2 ∷ kind ∷ two (4 + len) (three seq (0 ∷ []))
 
--- the header of a message with these flags, a TEID and a last octet, with so many octets after it
+-- the header of a message with this first octet, a TEID and a last octet, with so many octets after it
 abbrev pub headed_by_teid : ℕ → ℕ → ℕ → ℕ → ℕ → ℕ → List ℕ
-headed_by_teid flags kind teid seq last len = flags ∷ kind ∷ two (8 + len) (four teid (three seq (last ∷ [])))
+headed_by_teid first kind teid seq last len = first ∷ kind ∷ two (8 + len) (four teid (three seq (last ∷ [])))
 
 -- a sequence number, a priority or a length that is out of its range, or a priority without a TEID
 abbrev pub IsBadMessage : Head → List ℕ → Type 0

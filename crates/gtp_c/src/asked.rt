@@ -7,6 +7,20 @@ ghost use Rattle.gtp_c.specs.Bodies.{digits_at, labels_at, cause_at, offending_a
 use crate::values::{Allocation, CauseSaid, Identity, Name, TotalRates, Tunnel};
 use gtp_ie::{Ambr, Apn, Below, Cause, FTeid, Imsi, Offending, OtherPdnType, Paa, Teid};
 
+/// The TEID of a number.
+pub(crate) fn teid_of(number: u32) -> Teid
+    ensures { result ≡ number }
+{
+    Teid(number)
+}
+
+/// The number of a TEID.
+pub(crate) fn number_of_teid(teid: Teid) -> u32
+    ensures { result ≡ teid }
+{
+    teid.0
+}
+
 /// The number as an octet.
 pub(crate) fn octet_of(number: u32) -> Option<u8>
     ensures some { IsSome result ↔ (number < 256) }
@@ -153,7 +167,7 @@ impl Tunnel {
     {
         let v4 = v4_where(self.has_v4, self.v4);
         let v6 = v6_where(self.has_v6, self.v6);
-        match FTeid::try_new(self.interface, Teid(self.teid), v4, v6) {
+        match FTeid::try_new(self.interface, teid_of(self.teid), v4, v6) {
             Ok(end) => Some(end),
             Err(_) => None,
         }

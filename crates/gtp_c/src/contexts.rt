@@ -53,7 +53,7 @@ pub extern "C" fn gtp_gateway_session_at(
     ensures { IsLookedUp (SessionAt place) (SessionsEnd place) row.old row.new
         handle.old.hidden.value handle.new.hidden.value result }
 {
-    look_up!(handle, row, gateway => gateway.session_at(place as usize), (teid, session) => SessionRow::of(teid, &session))
+    look_up!(handle, row, gateway => gateway.session_at(place as usize), found => SessionRow::of(found.0, &found.1))
 }
 
 /// The bearer at a place, from 0, in the order of the gateway's own TEIDs: 0 with `row` filled, 4 behind the last.
@@ -62,5 +62,5 @@ pub extern "C" fn gtp_gateway_bearer_at(handle: &mut Handle, place: u64, row: &m
     ensures { IsLookedUp (BearerAt place) (BearersEnd place) row.old row.new
         handle.old.hidden.value handle.new.hidden.value result }
 {
-    look_up!(handle, row, gateway => gateway.bearer_at(place as usize), (teid, bearer) => BearerRow::of(teid, &bearer))
+    look_up!(handle, row, gateway => gateway.bearer_at(place as usize), found => BearerRow::of(found.0, &found.1))
 }

@@ -3,6 +3,7 @@
 ghost use Rattle.std.specs.Prelude.{◌≡◌, None, Some};
 ghost use Rattle.gtp_c.specs.Contexts.{IsSession, IsBearer, state_number};
 
+use crate::asked::number_of_teid;
 use crate::values::{Identity, Name};
 use gtp_gateway::{Bearer, Kind, Session, State, Teid};
 
@@ -62,10 +63,10 @@ fn number_of(state: State) -> u8
 
 impl SessionRow {
     pub(crate) fn of(teid: Teid, session: &Session) -> SessionRow
-        ensures { IsSession teid.0 session.now result }
+        ensures { IsSession teid session.now result }
     {
         let (has_remote, remote) = match session.remote {
-            Some(remote) => (1, remote),
+            Some(remote) => (1, number_of_teid(remote)),
             None => (0, 0),
         };
         let (v4, v6) = match session.address {
@@ -81,7 +82,7 @@ impl SessionRow {
             None => (0, [0; 16]),
         };
         SessionRow {
-            teid: teid.0,
+            teid: number_of_teid(teid),
             remote,
             has_remote,
             state: number_of(session.state),
@@ -98,10 +99,10 @@ impl SessionRow {
 
 impl BearerRow {
     pub(crate) fn of(teid: Teid, bearer: &Bearer) -> BearerRow
-        ensures { IsBearer teid.0 bearer.now result }
+        ensures { IsBearer teid bearer.now result }
     {
         let (has_remote, remote) = match bearer.remote {
-            Some(remote) => (1, remote),
+            Some(remote) => (1, number_of_teid(remote)),
             None => (0, 0),
         };
         let identity = match bearer.identity {
@@ -113,9 +114,9 @@ impl BearerRow {
             Kind::Dedicated => 1,
         };
         BearerRow {
-            teid: teid.0,
+            teid: number_of_teid(teid),
             remote,
-            session: bearer.session,
+            session: number_of_teid(bearer.session),
             has_remote,
             state: number_of(bearer.state),
             identity,

@@ -2,7 +2,7 @@
 
 ghost use Rattle.std.specs.Prelude.{◌≡◌, ◌≢◌, ◌<◌, ◌^◌, ℕ, List, drop};
 ghost use Rattle.gtp_user.specs.Datagram.{IsUserMessage};
-ghost use Rattle.gtp_user.specs.Message.{MessageValue, content_of};
+ghost use Rattle.gtp_user.specs.Message.{MessageValue, Packet, content_of};
 ghost use Rattle.gtp_c.specs.Reading.{IsUserRead, IsUserFaulty, IsUserTold, IsCarried, user_teid};
 ghost use Rattle.gtp_c.specs.Reading.{user_length, IsPeer, LiesAt, AreTypesAt, EndsFrom};
 ghost use Rattle.gtp_c.specs.Common.{AreLast};
@@ -11,7 +11,8 @@ ghost use Rattle.gtp_c.specs.Sizes.{HasTypes, element_size, header_size};
 use crate::ends::Address;
 use crate::fault::Fault;
 use crate::status::{DONE, FAULTY};
-use gtp_user::{UserBody, UserView, view};
+use gtp_user::flags::field_flags;
+use gtp_user::{Teid, UserBody, UserView, view};
 
 /// Recovery (TS 29.281 8.2).
 const RECOVERY: u8 = 14;
@@ -120,7 +121,7 @@ fn header_len(octets: &[u8]) -> usize
     ensures { result ≡ header_size octets.now }
 {
     match octets {
-        [first, ..] if first & 7 == 0 => 8,
+        [first, ..] if field_flags(*first) == 0 => 8,
         _ => 12,
     }
 }
@@ -176,6 +177,18 @@ fn carried_by(body: &UserBody<'_>) -> Carried
     }
 }
 
+/// What a G-PDU carries.
+#[inline(always)]
+fn carried_in(teid: Teid, payload: &[u8]) -> Carried
+    ensures { IsCarried (Packet teid payload.now) result }
+{
+    Carried {
+        teid: teid.0,
+        payload_len: payload.len() as u64,
+        peer: Address::none(),
+    }
+}
+
 impl UserHead {
     /// Of a message that carries this.
     #[inline(always)]
@@ -223,19 +236,15 @@ impl UserHead {
 
     /// Of a message that a datagram spells.
     #[inline(always)]
-    #[tactic(auto, using(crate::proofs::Carrying::packet_carried))]
     fn put(&mut self, octets: &[u8], view: &UserView<'_>)
         requires { IsUserMessage octets.now view.now }
         ensures told { IsUserTold view.now self.new }
         ensures place { LiesAt view.now.content octets.now self.new.payload_at }
     {
         match view.packet() {
-            Some((teid, payload)) => {
-                let carried = Carried {
-                    teid: teid.0,
-                    payload_len: payload.len() as u64,
-                    peer: Address::none(),
-                };
+            Some((_, payload)) => {
+                let teid = view.teid().unwrap_or(Teid(0));
+                let carried = carried_in(teid, payload);
                 *self = UserHead::of(view, carried, last_at(octets, payload));
             }
             None => self.put_other(octets, view),

@@ -4,10 +4,15 @@ ghost use Rattle.std.specs.Prelude.{◌≡◌, option_map};
 ghost use Rattle.gtp_user.specs.Message.{content_of, message_value};
 ghost use Rattle.gtp_c.specs.UserWriting.{IsUserWritten, content_asked, where_told};
 
+use crate::asked::teid_of;
 use crate::status::{BAD_VALUE, NO_MEMORY};
 use crate::user::UserHead;
 use crate::writing::write_parts;
-use gtp_user::{Extensions, Teid, UserBody, UserFault, UserMessage, encode};
+use gtp_user::kinds::{
+    ECHO_REQUEST, ECHO_RESPONSE, END_MARKER, ERROR_INDICATION, G_PDU,
+    SUPPORTED_EXTENSION_HEADERS_NOTIFICATION,
+};
+use gtp_user::{Extensions, UserBody, UserFault, UserMessage, encode};
 use std::alloc::Global;
 
 /// A value where C says that there is one.
@@ -29,17 +34,20 @@ impl UserHead {
     fn body<'a>(&self, octets: &'a [u8]) -> Option<UserBody<'a>>
         ensures { option_map content_of result ≡ content_asked self.now octets.now }
     {
-        let teid = Teid(self.teid);
+        let teid = teid_of(self.teid);
         match self.kind {
-            1 => Some(UserBody::EchoRequest),
-            2 => Some(UserBody::EchoResponse),
-            26 => match self.peer.ip() {
-                Some(peer) => Some(UserBody::ErrorIndication { peer, teid }),
-                None => None,
-            },
-            31 => Some(UserBody::Notification { types: octets }),
-            254 => Some(UserBody::EndMarker { teid }),
-            255 => Some(UserBody::Packet {
+            ECHO_REQUEST => Some(UserBody::EchoRequest),
+            ECHO_RESPONSE => Some(UserBody::EchoResponse),
+            ERROR_INDICATION => {
+                self.peer
+                    .ip()
+                    .map(|peer| UserBody::ErrorIndication { peer, teid })
+            }
+            SUPPORTED_EXTENSION_HEADERS_NOTIFICATION => Some(UserBody::Notification {
+                types: octets,
+            }),
+            END_MARKER => Some(UserBody::EndMarker { teid }),
+            G_PDU => Some(UserBody::Packet {
                 teid,
                 payload: octets,
             }),

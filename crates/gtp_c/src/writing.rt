@@ -7,6 +7,12 @@ ghost use Rattle.gtp_c.specs.Writing.{headed_plain, headed_by_teid, version};
 
 use crate::control::Head;
 use crate::status::{BAD_VALUE, DONE, TOO_SMALL};
+use gtp_user::flags::GTP;
+use gtp_user::kinds::G_PDU;
+use gtp_v2::flags::{MESSAGE_PRIORITY, TEID, VERSION_2};
+
+/// The first octet of a message with a TEID.
+const WITH_TEID: u8 = VERSION_2 | 1 << TEID;
 
 /// The most octets that two octets can state.
 const LONGEST: usize = 65_535;
@@ -95,7 +101,13 @@ pub extern "C" fn gtp_packet_write(
     }
     let [high, low] = (packet.len() as u16).to_be_bytes();
     let [a, b, c, d] = teid.to_be_bytes();
-    write_parts(buffer, 0, &[48, 255, high, low, a, b, c, d], packet, size)
+    write_parts(
+        buffer,
+        0,
+        &[GTP, G_PDU, high, low, a, b, c, d],
+        packet,
+        size,
+    )
 }
 
 /// The header of a message with so many octets after it, without a TEID.
@@ -105,18 +117,18 @@ fn plain_header(kind: u8, seq: u32, len: usize) -> [u8; 8]
 {
     let [high, low] = ((4 + len) as u16).to_be_bytes();
     let [_, a, b, c] = seq.to_be_bytes();
-    [64, kind, high, low, a, b, c, 0]
+    [VERSION_2, kind, high, low, a, b, c, 0]
 }
 
-/// The same with these flags, a TEID and a last octet.
-fn teid_header(flags: u8, kind: u8, teid: u32, seq: u32, last: u8, len: usize) -> [u8; 12]
+/// The same with this first octet, a TEID and a last octet.
+fn teid_header(first: u8, kind: u8, teid: u32, seq: u32, last: u8, len: usize) -> [u8; 12]
     requires { len ≤ 65527 }
-    ensures { result ≡ headed_by_teid flags kind teid seq last len }
+    ensures { result ≡ headed_by_teid first kind teid seq last len }
 {
     let [high, low] = ((8 + len) as u16).to_be_bytes();
     let [t, u, v, w] = teid.to_be_bytes();
     let [_, a, b, c] = seq.to_be_bytes();
-    [flags, kind, high, low, t, u, v, w, a, b, c, last]
+    [first, kind, high, low, t, u, v, w, a, b, c, last]
 }
 
 /// Writes a message of the control plane that carries these octets, which may be elements (TS 29.274 5.1), with the type, TEID,
@@ -145,11 +157,12 @@ pub extern "C" fn gtp_control_write(
         let header = plain_header(head.kind, head.seq, list.len());
         write_parts(buffer, 0, &header, list, size)
     } else if head.has_priority == 0 {
-        let header = teid_header(72, head.kind, head.teid, head.seq, 0, list.len());
+        let header = teid_header(WITH_TEID, head.kind, head.teid, head.seq, 0, list.len());
         write_parts(buffer, 0, &header, list, size)
     } else {
+        let first = WITH_TEID | 1 << MESSAGE_PRIORITY;
         let last = 16 * head.priority;
-        let header = teid_header(76, head.kind, head.teid, head.seq, last, list.len());
+        let header = teid_header(first, head.kind, head.teid, head.seq, last, list.len());
         write_parts(buffer, 0, &header, list, size)
     }
 }

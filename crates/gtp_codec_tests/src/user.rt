@@ -23,7 +23,10 @@ const VECTORS: [&[u8]; 10] = [
 
 /// What is decoded, encoded again.
 fn encoded_again(alloc: Global, octets: &[u8]) -> Result<Vec<u8>, Fail> {
-    let message = decode(octets)?;
+    let message = match decode(octets) {
+        Ok(message) => message,
+        Err(fault) => return Err(fault.into()),
+    };
     if !message.is_encodable() {
         return Err("not to be encoded".into());
     }

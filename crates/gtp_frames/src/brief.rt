@@ -1,26 +1,27 @@
 //! The one line of a datagram of a capture, after its frame, time and ends.
 
 ghost use Rattle.std.specs.Prelude.{◌≡◌, ◌++◌, OnOk, IfOk, option_map};
-ghost use Rattle.gtp_user.specs.Message.{content_of, message_value};
+ghost use Rattle.gtp_user.specs.Message.{message_value};
 ghost use Rattle.gtp_v2.specs.Pair.{datagram_seen};
 ghost use Rattle.gtp_lines.specs.Text.{Adds};
-ghost use Rattle.gtp_frames.specs.Brief.{brief_name, brief_message, brief_second, brief_datagram, brief_user_name, brief_user, BriefLine};
+ghost use Rattle.gtp_frames.specs.Brief.{brief_named, brief_message, brief_second, brief_datagram, brief_user, BriefLine};
 ghost use Rattle.gtp_values.specs.declared.plane.Plane.TheVariants as planes;
 
 use gtp_lines::text::put;
 use gtp_lines::{
-    put_fault_line, put_field, put_some, put_some_teid, put_target, put_user_fault_line, user_name,
+    body_name, put_fault_line, put_field, put_some, put_some_teid, put_target, put_user_fault_line,
 };
-use gtp_user::{UserBody, UserMessage};
+use gtp_user::UserMessage;
 use gtp_v2::{DatagramView, MessageView, type_name, view};
 use gtp_values::Plane;
 use std::alloc::AllocError;
 
-/// Appends the name of a type of message, or its number.
-fn put_brief_name(out: &mut Vec<u8>, kind: u8) -> Result<(), AllocError>
-    ensures ok { OnOk result (out.new.items ≡ out.old.items ++ brief_name kind) }
+/// Appends the name of a message, or the number of its type, where it has none.
+fn put_brief_name(out: &mut Vec<u8>, kind: u8, name: Option<&str>) -> Result<(), AllocError>
+    ensures ok { OnOk result
+        (out.new.items ≡ out.old.items ++ brief_named kind (option_map (λ n. n.now) name.entry)) }
 {
-    match type_name(kind) {
+    match name {
         Some(name) => put(out, name.as_bytes()),
         None => put_field(out, b"type ", u64::from(kind)),
     }
@@ -31,7 +32,7 @@ fn put_brief_name(out: &mut Vec<u8>, kind: u8) -> Result<(), AllocError>
 fn put_brief_message(out: &mut Vec<u8>, seen: &MessageView) -> Result<(), AllocError>
     ensures ok { OnOk result (out.new.items ≡ out.old.items ++ brief_message seen.now.message) }
 {
-    put_brief_name(out, seen.kind())?;
+    put_brief_name(out, seen.kind(), type_name(seen.kind()))?;
     put_some_teid(out, seen.teid())?;
     put_field(out, b" seq ", u64::from(seen.seq().number()))
 }
@@ -77,29 +78,13 @@ fn put_brief_control(out: &mut Vec<u8>, octets: &[u8]) -> Result<bool, AllocErro
     }
 }
 
-/// Appends the name of a message of the user plane, or the number of its type.
-fn put_brief_user_name(out: &mut Vec<u8>, body: &UserBody) -> Result<(), AllocError>
-    ensures ok { OnOk result
-        (out.new.items ≡ out.old.items ++ brief_user_name (content_of body.now)) }
-{
-    match body {
-        UserBody::EchoRequest => put(out, user_name(1).as_bytes()),
-        UserBody::EchoResponse => put(out, user_name(2).as_bytes()),
-        UserBody::ErrorIndication { .. } => put(out, user_name(26).as_bytes()),
-        UserBody::Notification { .. } => put(out, user_name(31).as_bytes()),
-        UserBody::EndMarker { .. } => put(out, user_name(254).as_bytes()),
-        UserBody::Packet { .. } => put(out, user_name(255).as_bytes()),
-        UserBody::Other { kind, .. } => put_field(out, b"type ", u64::from(*kind)),
-    }
-}
-
 /// Appends a message of the user plane, and ends the line.
 #[tactic(auto, using(crate::proofs::Appends::appending))]
 fn put_brief_user_message(out: &mut Vec<u8>, message: &UserMessage) -> Result<(), AllocError>
     ensures ok { OnOk result
         (out.new.items ≡ out.old.items ++ brief_user (message_value message.now)) }
 {
-    put_brief_user_name(out, &message.body)?;
+    put_brief_name(out, message.body.kind(), body_name(&message.body))?;
     put_target(out, &message.body)?;
     put_some(out, b" seq ", message.seq.map(u64::from))?;
     put(out, b"\n")

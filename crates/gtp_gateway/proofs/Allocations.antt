@@ -27,7 +27,7 @@ use Rattle.gtp_machine.specs.declared.message_type.MessageType.{MessageType}
 use Rattle.gtp_machine.specs.MessageType.{type_row, takes_type, takes_message, answers_type}
 use Rattle.gtp_machine.specs.Step.{TakesBy}
 use Rattle.gtp_gateway.specs.GatewayState.{GatewayState}
-use Rattle.gtp_gateway.proofs.Procedures.{AtTakers, at_taker}
+use Rattle.gtp_gateway.proofs.TakenTypes.{AtTakers, at_taker}
 
 -- what follows where there is an error
 pub on_err : {A E P : Type 0} (r : Result A E) → P → OnErr r P

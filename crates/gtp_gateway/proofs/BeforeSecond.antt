@@ -96,9 +96,9 @@ module _ (n : Node) (number : ℕ) where
   settled_session (Drops why) of can t s is = (s, is)
   settled_session (Finishes purpose outcome) of can t s is = (s, (finished_session (session_of purpose) (bearer_of purpose) of t s is).0)
   settled_session (OpensSession session opened at bearer) of can t s is = ⊎_elim
-      (λ here. let stood = is_one (get n.sessions session.0) can.0 in (stood.0, ap (get n.sessions) here.0 ∙ stood.1))
+      (λ here. let stood = is_one (get n.sessions session) can.0 in (stood.0, ap (get n.sessions) here.0 ∙ stood.1))
       (λ other. (s, other.1))
-      (found-insert n.sessions session.0 opened t s is)
+      (found-insert n.sessions session opened t s is)
   settled_session (OpensBearer at bearer) of can t s is = absurd of
 
 -- ---- a bearer that is put in before
@@ -139,8 +139,8 @@ module _ (n : Node) (t : ℕ) (b : Bearer) where
   by_more : (v : ResponseVerdict) (number : ℕ) → IsBeside v t b → node_by v number more ≡ record (node_by v number n) { bearers = insert (node_by v number n).bearers t b }
   by_more (Drops why) number beside = refl
   by_more (Finishes purpose outcome) number beside = finished_more number (session_of purpose) (bearer_of purpose) beside.0 beside.1
-  by_more (OpensSession session opened at bearer) number beside = λ i. record (node_by (OpensSession session opened at bearer) number n) { bearers = swapped at.0 bearer beside i }
-  by_more (OpensBearer at bearer) number beside = λ i. record (node_by (OpensBearer at bearer) number n) { bearers = swapped at.0 bearer beside i }
+  by_more (OpensSession session opened at bearer) number beside = λ i. record (node_by (OpensSession session opened at bearer) number n) { bearers = swapped at bearer beside i }
+  by_more (OpensBearer at bearer) number beside = λ i. record (node_by (OpensBearer at bearer) number n) { bearers = swapped at bearer beside i }
 
   opened_more : (at : ℕ) (opened : Bearer) → t ≢ at → IsOpenedAt n.bearers at opened → IsOpenedAt (insert n.bearers t b) at opened
   opened_more at opened other is = record { bearer = is.bearer; stands = get-insert_other n.bearers t b at (λ same. other (sym same)) ∙ is.stands; blank = is.blank; of = is.of }
@@ -149,8 +149,8 @@ module _ (n : Node) (t : ℕ) (b : Bearer) where
   can_more : (v : ResponseVerdict) → IsBeside v t b → CanApply v n → CanApply v more
   can_more (Drops why) beside can = tt
   can_more (Finishes purpose outcome) beside can = tt
-  can_more (OpensSession session opened at bearer) beside can = (can.0, opened_more at.0 bearer beside can.1)
-  can_more (OpensBearer at bearer) beside can = opened_more at.0 bearer beside can
+  can_more (OpensSession session opened at bearer) beside can = (can.0, opened_more at bearer beside can.1)
+  can_more (OpensBearer at bearer) beside can = opened_more at bearer beside can
 
 -- so both may be done in either order
 pub settled_more : (heard : Heard) (v : ResponseVerdict) (number : ℕ) (n : Node) (t : ℕ) (b : Bearer) → MayStand heard v t b n
@@ -177,7 +177,7 @@ beside : (v : ResponseVerdict) (number : ℕ) (heard : Heard) (n : Node) (t : �
 beside (Drops why) number heard n t b s of can above is = tt
 beside (Finishes purpose outcome) number heard n t b s of can above is = (of, (finished_session (node_heard heard n) number (session_of purpose) (bearer_of purpose) of b.session s is).1)
 beside (OpensSession session opened at bearer) number heard n t b s of can above is = λ same.
-    let low : at.0 < t = above at.0 can.1.bearer (bearer_stood heard n at.0 can.1.bearer can.1.stands) in
+    let low : at < t = above at can.1.bearer (bearer_stood heard n at can.1.bearer can.1.stands) in
     absurd (not_itself t (subst (λ k. k < t) (sym same) low))
 beside (OpensBearer at bearer) number heard n t b s of can above is = absurd of
 
@@ -227,7 +227,7 @@ module _ (n : Node) (number : ℕ) (t : ℕ) where
   by_has : (v : ResponseVerdict) → IsOfSession v n → CanApply v n → (s : Session) → get (node_by v number n).sessions t ≡ Some s → (identity : ℕ) → Has n identity ↔ Has (node_by v number n) identity
   by_has (Drops why) of can s is identity = (λ h. h, λ h. h)
   by_has (Finishes purpose outcome) of can s is identity = finished_has (session_of purpose) (bearer_of purpose) of s is identity
-  by_has (OpensSession session opened at bearer) of can s is identity = opened_has at.0 bearer can.1 of identity
+  by_has (OpensSession session opened at bearer) of can s is identity = opened_has at bearer can.1 of identity
   by_has (OpensBearer at bearer) of can s is identity = absurd of
 
 -- a bearer that stands then stood before
@@ -242,7 +242,7 @@ by_stood n number (Finishes purpose outcome) of can t b is = (b, finished_stood 
 by_stood n number (OpensSession session opened at bearer) of can t b is = ⊎_elim
     (λ here. (can.1.bearer, ap (get n.bearers) here.0 ∙ can.1.stands))
     (λ other. (b, other.1))
-    (found-insert n.bearers at.0 bearer t b is)
+    (found-insert n.bearers at bearer t b is)
 by_stood n number (OpensBearer at bearer) of can t b is = absurd of
 
 -- so the applied node is judged by what is known before it is applied
@@ -265,8 +265,8 @@ settled_stands heard v number n t found bearers of can is same =
 pub drawn_there : (t : ℕ) (found : Option Session) (bearers : FiniteMap Bearer) (old node : Node) (d : OneDrawn) → StandsWith t found bearers old node → IsOneDrawn d old → IsOneDrawn d node
 drawn_there t found bearers old node d with_it drawn = record {
   left = record { left = subst (λ ts. length ts + 1 ≤ 16777215) (sym with_it.drawn) drawn.left.left };
-  are = record { counter = drawn.are.counter ∙ sym with_it.counter; drawn = drawn.are.drawn ∙ (λ i. d.teid.0 ∷ sym with_it.drawn i) };
-  free = record { counted = drawn.free.counted ∙ sym with_it.counter; numbered = drawn.free.numbered; undrawn = subst (λ ts. Among d.teid.0 ts → ⊥) (sym with_it.drawn) drawn.free.undrawn };
+  are = record { counter = drawn.are.counter ∙ sym with_it.counter; drawn = drawn.are.drawn ∙ (λ i. d.teid ∷ sym with_it.drawn i) };
+  free = record { counted = drawn.free.counted ∙ sym with_it.counter; numbered = drawn.free.numbered; undrawn = subst (λ ts. Among d.teid ts → ⊥) (sym with_it.drawn) drawn.free.undrawn };
   above = λ key b stands. let before = with_it.stood key b stands in drawn.above key before.0 before.1;
 }
 
@@ -302,9 +302,9 @@ stands_itself n t found bearers is same = record {
 -- ---- the session under a TEID, once a response is applied
 
 module _ (n : Node) (number : ℕ) (t : ℕ) where
-  opened_left : (session : Teid) (opened : Session) (b : Bool) → (session.0 == t) ≡ b → (if b then Some opened else get n.sessions t) ≡ get (insert n.sessions session.0 opened) t
-  opened_left session opened true is = sym (ap (get (insert n.sessions session.0 opened)) (sym (same_number session.0 t is)) ∙ get-insert_same n.sessions session.0 opened)
-  opened_left session opened false is = sym (get-insert_other n.sessions session.0 opened t (λ same. unequal session.0 t is (sym same)))
+  opened_left : (session : Teid) (opened : Session) (b : Bool) → (session == t) ≡ b → (if b then Some opened else get n.sessions t) ≡ get (insert n.sessions session opened) t
+  opened_left session opened true is = sym (ap (get (insert n.sessions session opened)) (sym (same_number session t is)) ∙ get-insert_same n.sessions session opened)
+  opened_left session opened false is = sym (get-insert_other n.sessions session opened t (λ same. unequal session t is (sym same)))
 
   abbrev goes_by : Option ℕ → Option ℕ → Bool
   goes_by session bearer = on (λ k. k == t) session || on (λ k. false) bearer
@@ -352,7 +352,7 @@ module _ (n : Node) (number : ℕ) (t : ℕ) where
   left_by : (v : ResponseVerdict) → IsOfSession v n → session_left v t (get n.sessions t) ≡ get (node_by v number n).sessions t
   left_by (Drops why) of = refl
   left_by (Finishes purpose outcome) of = finished_left (session_of purpose) (bearer_of purpose) of (goes_with_session t purpose) refl
-  left_by (OpensSession session opened at bearer) of = opened_left session opened (session.0 == t) refl
+  left_by (OpensSession session opened at bearer) of = opened_left session opened (session == t) refl
   left_by (OpensBearer at bearer) of = absurd of
 
 pub left_settled : (heard : Heard) (v : ResponseVerdict) (number : ℕ) (n : Node) (t : ℕ) (before result : Option Session) → IsOfSession v (node_heard heard n) → before ≡ get (node_heard heard n).sessions t → result ≡ session_left v t before → result ≡ get (node_after_first heard v number n).sessions t

@@ -37,30 +37,30 @@ each_lowest : (sessions : FiniteMap Session) (pools : Pools) (asked : Asked) (ad
 each_lowest sessions pools asked address lowest V4 part is = lowest_part sessions pools asked V4 address.v4 part lowest.v4 is
 each_lowest sessions pools asked address lowest V6 part is = lowest_part sessions pools asked V6 address.v6 part lowest.v6 is
 
-pub lowest_session : (identity pdn : ℕ) (r : SessionRequest) (g : SessionGrant) (heard : Heard) (old new : Node) → ChoosesSession identity pdn g heard old → new.sessions ≡ insert (node_heard heard old).sessions g.drawn.control.0 (session_granted r g) → MakesLowestSession old new
+pub lowest_session : (identity pdn : ℕ) (r : SessionRequest) (g : SessionGrant) (heard : Heard) (old new : Node) → ChoosesSession identity pdn g heard old → new.sessions ≡ insert (node_heard heard old).sessions g.drawn.control (session_granted r g) → MakesLowestSession old new
 lowest_session identity pdn r g heard old new chosen is = record {
-  teid = g.drawn.control.0;
+  teid = g.drawn.control;
   session = session_granted r g;
   others = (node_heard heard old).sessions;
   address = g.address;
   sessions = is;
-  beside = none_above (node_heard heard old).sessions g.drawn.control.0 (still_above heard old g.drawn.control.0 chosen.can.control_above);
-  before = none_above old.sessions g.drawn.control.0 chosen.can.control_above;
+  beside = none_above (node_heard heard old).sessions g.drawn.control (still_above heard old g.drawn.control chosen.can.control_above);
+  before = none_above old.sessions g.drawn.control chosen.can.control_above;
   has = refl;
   lowest = each_lowest (node_heard heard old).sessions old.config.pools (asked_by pdn) g.address chosen.lowest;
 }
 
-pub lowest_bearer : (r : BearerRequest) (a : CreateBearerAnswer) (old new : Node) → IsChosen r.header.0 a old → new.bearers ≡ (changed_by (change_for r a) old).bearers → is_granted a ≡ true → MakesLowestBearer old new
+pub lowest_bearer : (r : BearerRequest) (a : CreateBearerAnswer) (old new : Node) → IsChosen r.header a old → new.bearers ≡ (changed_by (change_for r a) old).bearers → is_granted a ≡ true → MakesLowestBearer old new
 lowest_bearer r (Refused cause) old new chosen is granted = absurd cc
 lowest_bearer r NoResources old new chosen is granted = absurd cc
 lowest_bearer r (Granted g) old new chosen is granted = record {
-  teid = g.drawn.teid.0;
+  teid = g.drawn.teid;
   bearer = granted_to r g.identity;
   others = old.bearers;
   identity = g.identity;
   bearers = is;
-  beside = none_above old.bearers g.drawn.teid.0 chosen.drawn.above;
-  before = none_above old.bearers g.drawn.teid.0 chosen.drawn.above;
+  beside = none_above old.bearers g.drawn.teid chosen.drawn.above;
+  before = none_above old.bearers g.drawn.teid chosen.drawn.above;
   has = refl;
   lowest = chosen.identity;
 }

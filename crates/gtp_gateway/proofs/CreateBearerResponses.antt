@@ -1,5 +1,5 @@
 -- Create Bearer Responses: what they say where they lie, and what the packet gateway does with them.
-use Rattle.std.proofs.Common.{◌≡◌, ◌≢◌, inl, inr, ℕ, true, List, [], ◌∷◌, map, Option, Some, None, option_map, refl, sym, ◌∙◌, ap, subst}
+use Rattle.std.proofs.Common.{◌≡◌, ◌≢◌, inl, inr, ℕ, true, List, [], ◌∷◌, map, Option, Some, None, refl, sym, ◌∙◌, ap, subst}
 use Rattle.std.specs.Prelude.{◌==◌, not, option_to_list, IsSome}
 use Rattle.std.specs.Bool.{beq}
 use Rattle.std.specs.FinMap.{get, insert, remove}
@@ -81,11 +81,11 @@ asks_bearer purpose m bearer asked of meant = by m (asked_there purpose CreateBe
         record { request = q; is = refl; user = eqb-true q.context.user.teid bearer (ap (on (λ t. q.context.user.teid == t)) (sym of) ∙ says.left); told = says.right }
     by m is = absurd cc
 
-some_there : (o : Option Teid) (t : ℕ) → option_map (λ (x : Teid). x.0) o ≡ Some t → IsSome o
+some_there : (o : Option Teid) (t : ℕ) → o ≡ Some t → IsSome o
 some_there None t is = absurd cc
 some_there (Some x) t is = refl
 
-bearer_here : (purpose : Purpose) (m : Message) (r : Response) (x : CreateBearerResponse) → is_for purpose m ≡ true → x.header ≡ r.header.0 → x.cause ≡ r.cause → FitsCreateBearer (about purpose m) x → FitsCreateBearerOf purpose r
+bearer_here : (purpose : Purpose) (m : Message) (r : Response) (x : CreateBearerResponse) → is_for purpose m ≡ true → x.header ≡ r.header → x.cause ≡ r.cause → FitsCreateBearer (about purpose m) x → FitsCreateBearerOf purpose r
 bearer_here purpose m r x meant at of fits =
     let is = by purpose.asked (asked_here purpose m (Create_bearer_request fits.request) fits.asked meant) in
     record {
@@ -116,14 +116,14 @@ module _ (n : Node) (r : BearerResponse) (x : CreateBearerResponse) (says : Says
     does_not_fit unfit = inr (at, inl (λ fits. unfit (bearer_here purpose w.message r.response x w.meant says.header says.cause fits), refl))
 
     module _ (k : AskedBearer) (asked : IsAskedBearer purpose r.response k) where
-      request : AsksFor purpose w.message k.bearer.0
-      request = asks_bearer purpose w.message k.bearer.0 asked.asked asked.bearer w.meant
+      request : AsksFor purpose w.message k.bearer
+      request = asks_bearer purpose w.message k.bearer asked.asked asked.bearer w.meant
 
       is_named : Named (about purpose w.message) x.header x.cause
       is_named = names_there purpose w.message r.response x.header x.cause request.told says.header says.cause asked.names
 
       abbrev fits : FitsCreateBearer at.pending x
-      fits = record { request = request.request; asked = request.is; session = k.session.0; about = asked.session; bearer = k.bearer.0; about_bearer = asked.bearer; named = is_named }
+      fits = record { request = request.request; asked = request.is; session = k.session; about = asked.session; bearer = k.bearer; about_bearer = asked.bearer; named = is_named }
 
       pub is_refused : (IsAccepting r.response.cause → ⊥) → BearerRow x n (effect_by (Finishes purpose (Rejected r.response.cause.value)) x.number n)
       is_refused refused = inr (at, inr (fits, inl (λ accepts. refused (subst IsAccepting says.cause accepts), λ i. effect_by (Finishes purpose (Rejected (sym says.cause i).value)) x.number n)))
@@ -151,29 +151,29 @@ module _ (n : Node) (r : BearerResponse) (x : CreateBearerResponse) (says : Says
             both_accept : IsAccepting new.context.cause
             both_accept = subst IsAccepting (sym only.2.cause) accept
 
-            pub not_returned : (c.returned ≡ Some k.bearer.0 → ⊥) → BearerRow x n (effect_by (Drops Mismatch) x.number n)
+            pub not_returned : (c.returned ≡ Some k.bearer → ⊥) → BearerRow x n (effect_by (Drops Mismatch) x.number n)
             not_returned other = inr (at, inr (fits, inr (accepting, inr (new, inr (both_accept, inl (λ returned. other (sym only.2.returned ∙ returned), refl))))))
 
-            module _ (returned : c.returned ≡ Some k.bearer.0) (sessions : FiniteMap Session) (bearers : FiniteMap Bearer) (same : sessions ≡ n.sessions) (same_bearers : bearers ≡ n.bearers) where
-              is_returned : teid_in new.context.packet_user ≡ Some k.bearer.0
+            module _ (returned : c.returned ≡ Some k.bearer) (sessions : FiniteMap Session) (bearers : FiniteMap Bearer) (same : sessions ≡ n.sessions) (same_bearers : bearers ≡ n.bearers) where
+              is_returned : teid_in new.context.packet_user ≡ Some k.bearer
               is_returned = only.2.returned ∙ returned
 
-              openable : CanOpenIn sessions bearers k.session.0 c.identity → CanOpen n k.session.0 new.context.identity
+              openable : CanOpenIn sessions bearers k.session c.identity → CanOpen n k.session new.context.identity
               openable can =
-                  let here = subst (λ (bs : FiniteMap Bearer). CanOpenIn n.sessions bs k.session.0 c.identity) same_bearers (subst (λ (ss : FiniteMap Session). CanOpenIn ss bearers k.session.0 c.identity) same can) in
-                  subst (λ (i : ℕ). CanOpen n k.session.0 i) (sym only.2.identity)
+                  let here = subst (λ (bs : FiniteMap Bearer). CanOpenIn n.sessions bs k.session c.identity) same_bearers (subst (λ (ss : FiniteMap Session). CanOpenIn ss bearers k.session c.identity) same can) in
+                  subst (λ (i : ℕ). CanOpen n k.session i) (sym only.2.identity)
                   (record { range = record { low = here.range.least; high = here.range.most }; unused = here.unused; at = record { session = here.at; stands = here.stands }; not_closing = here.not_closing })
 
-              not_openable : (CanOpenIn sessions bearers k.session.0 c.identity → ⊥) → CanOpen n k.session.0 new.context.identity → ⊥
+              not_openable : (CanOpenIn sessions bearers k.session c.identity → ⊥) → CanOpen n k.session new.context.identity → ⊥
               not_openable cannot can =
-                  let here = subst (λ (i : ℕ). CanOpen n k.session.0 i) only.2.identity can in
-                  cannot (subst (λ (bs : FiniteMap Bearer). CanOpenIn sessions bs k.session.0 c.identity) (sym same_bearers) (subst (λ (ss : FiniteMap Session). CanOpenIn ss n.bearers k.session.0 c.identity) (sym same)
+                  let here = subst (λ (i : ℕ). CanOpen n k.session i) only.2.identity can in
+                  cannot (subst (λ (bs : FiniteMap Bearer). CanOpenIn sessions bs k.session c.identity) (sym same_bearers) (subst (λ (ss : FiniteMap Session). CanOpenIn ss n.bearers k.session c.identity) (sym same)
                   (record { range = record { least = here.range.low; most = here.range.high }; unused = here.unused; at = here.at.session; stands = here.at.stands; not_closing = here.not_closing })))
 
-              pub clashes : (CanOpenIn sessions bearers k.session.0 c.identity → ⊥) → BearerRow x n (effect_by (Finishes purpose Clash) x.number n)
+              pub clashes : (CanOpenIn sessions bearers k.session c.identity → ⊥) → BearerRow x n (effect_by (Finishes purpose Clash) x.number n)
               clashes cannot = inr (at, inr (fits, inr (accepting, inr (new, inr (both_accept, inr (is_returned, inl (not_openable cannot, refl)))))))
 
-              pub opens : CanOpenIn sessions bearers k.session.0 c.identity → (b : Bearer) → get n.bearers k.bearer.0 ≡ Some b → (identity : ℕ) → identity ≡ c.identity → (bearer : Bearer) → bearer ≡ record b { remote = c.user; identity = Some identity; state = Active } → BearerRow x n (effect_by (OpensBearer k.bearer bearer) x.number n)
+              pub opens : CanOpenIn sessions bearers k.session c.identity → (b : Bearer) → get n.bearers k.bearer ≡ Some b → (identity : ℕ) → identity ≡ c.identity → (bearer : Bearer) → bearer ≡ record b { remote = c.user; identity = Some identity; state = Active } → BearerRow x n (effect_by (OpensBearer k.bearer bearer) x.number n)
               opens can b stands identity is_identity bearer bearer_is =
                   let then : bearer ≡ opened_dedicated b x =
                   bearer_is ∙ (λ i. record b { remote = (sym only.2.user ∙ sym (ap first_given only.1)) i; identity = (ap one (is_identity ∙ sym only.2.identity) ∙ sym (ap first_identity only.1)) i; state = Active }) in
@@ -186,7 +186,7 @@ module _ (n : Node) (r : BearerResponse) (x : CreateBearerResponse) (says : Says
                   (meets (openable can)
                   (record {
                     at = record { bearer = b; stands = stands };
-                    gives = λ i. record { out = nothing; outcome = Came_to Opened; node = record n { bearers = insert n.bearers k.bearer.0 (then i); pending = remove n.pending x.number } };
+                    gives = λ i. record { out = nothing; outcome = Came_to Opened; node = record n { bearers = insert n.bearers k.bearer (then i); pending = remove n.pending x.number } };
                   })))))))
 
 -- ---- what stands, at a sound gateway
@@ -197,34 +197,34 @@ record IsBearerAsked (n : Node) (session bearer : ℕ) : Type 0 where
   pub stands : get n.bearers bearer ≡ Some at
   pub blank : (s : Session) → get n.sessions session ≡ Some s → s.state ≢ Closing → at.remote ≡ None
 
-create_bearer_asked : (role : Role) (n : Node) → IsSound role n → (number : ℕ) (purpose : Purpose) (w : IsWaiting n number purpose) (r : Response) (k : AskedBearer) → IsAskedBearer purpose r k → IsBearerAsked n k.session.0 k.bearer.0
+create_bearer_asked : (role : Role) (n : Node) → IsSound role n → (number : ℕ) (purpose : Purpose) (w : IsWaiting n number purpose) (r : Response) (k : AskedBearer) → IsAskedBearer purpose r k → IsBearerAsked n k.session k.bearer
 create_bearer_asked role n sound number purpose w r k asked =
-    let q = asks_bearer purpose w.message k.bearer.0 asked.asked asked.bearer w.meant in
+    let q = asks_bearer purpose w.message k.bearer asked.asked asked.bearer w.meant in
     let is = is_bearer role n sound number (about purpose w.message) q.request w.waits q.is in
-    let user : is.0.request.context.user.teid ≡ k.bearer.0 = ap (λ (y : CreateBearerRequest). y.context.user.teid) is.1 ∙ q.user in
-    let of : one is.0.about ≡ one k.session.0 = sym is.0.session ∙ asked.session in
-    let session : is.0.about ≡ k.session.0 = cc in
+    let user : is.0.request.context.user.teid ≡ k.bearer = ap (λ (y : CreateBearerRequest). y.context.user.teid) is.1 ∙ q.user in
+    let of : one is.0.about ≡ one k.session = sym is.0.session ∙ asked.session in
+    let session : is.0.about ≡ k.session = cc in
     by is.0.about is.0.request.context.user.teid session user is.0.wanted
   where
-    by : (s t : ℕ) → s ≡ k.session.0 → t ≡ k.bearer.0 → IsWanted n.sessions n.bearers s t → IsBearerAsked n k.session.0 k.bearer.0
+    by : (s t : ℕ) → s ≡ k.session → t ≡ k.bearer → IsWanted n.sessions n.bearers s t → IsBearerAsked n k.session k.bearer
     by s t session user (inl (b, there, is)) =
         let stands = ap (λ (i : ℕ). get n.bearers i) (sym user) ∙ there in
-        record { at = b; stands = stands; blank = λ o here opened. (sound.contexts.each_bearer k.bearer.0 b stands).blank is.in_state }
+        record { at = b; stands = stands; blank = λ o here opened. (sound.contexts.each_bearer k.bearer b stands).blank is.in_state }
     by s t session user (inr ((b, there, is), (c, closes, closing))) = record {
       at = b;
       stands = ap (λ (i : ℕ). get n.bearers i) (sym user) ∙ there;
-      blank = λ o here opened. absurd (opened (ap (λ (y : Session). y.state) (one_value (get n.sessions k.session.0) o c here (ap (λ (i : ℕ). get n.sessions i) (sym session) ∙ closes)) ∙ closing));
+      blank = λ o here opened. absurd (opened (ap (λ (y : Session). y.state) (one_value (get n.sessions k.session) o c here (ap (λ (i : ℕ). get n.sessions i) (sym session) ∙ closes)) ∙ closing));
     }
 
 module _ (role : Role) (heard : Heard) (old : Node) (whole : ∥ IsSound role old ∥₁) (number : ℕ) (purpose : Purpose) (w : IsWaiting (node_heard heard old) number purpose) (r : Response) (k : AskedBearer) (asked : IsAskedBearer purpose r k) where
-  pub bearer_stands : get (node_heard heard old).bearers k.bearer.0 ≡ None → ⊥
-  bearer_stands = stands_there whole (node_heard heard old) k.bearer.0 (λ sound. let d = by sound in (d.at, d.stands))
+  pub bearer_stands : get (node_heard heard old).bearers k.bearer ≡ None → ⊥
+  bearer_stands = stands_there whole (node_heard heard old) k.bearer (λ sound. let d = by sound in (d.at, d.stands))
     where
-      by : IsSound role old → IsBearerAsked (node_heard heard old) k.session.0 k.bearer.0
+      by : IsSound role old → IsBearerAsked (node_heard heard old) k.session k.bearer
       by sound = create_bearer_asked role (node_heard heard old) (heard_sound role heard old sound) number purpose w r k asked
 
-  pub bearer_blank : (s : Session) → get (node_heard heard old).sessions k.session.0 ≡ Some s → s.state ≢ Closing → (b : Bearer) → get (node_heard heard old).bearers k.bearer.0 ≡ Some b → b.remote ≡ None
-  bearer_blank s here opened = blank_there whole (node_heard heard old) k.bearer.0 by
+  pub bearer_blank : (s : Session) → get (node_heard heard old).sessions k.session ≡ Some s → s.state ≢ Closing → (b : Bearer) → get (node_heard heard old).bearers k.bearer ≡ Some b → b.remote ≡ None
+  bearer_blank s here opened = blank_there whole (node_heard heard old) k.bearer by
     where
-      by : IsSound role old → IsBlank (node_heard heard old) k.bearer.0
+      by : IsSound role old → IsBlank (node_heard heard old) k.bearer
       by sound = let d = create_bearer_asked role (node_heard heard old) (heard_sound role heard old sound) number purpose w r k asked in record { at = d.at; stands = d.stands; blank = d.blank s here opened }

@@ -42,15 +42,15 @@ module _ (r : SessionRequest) (q : CreateSessionRequest) (says : SaysCreateSessi
   refusal_same cause = λ i. refusing types.CreateSessionRequest (sym says.control i).teid (sym says.number i) cause (sym (counter_stays heard node) i)
 
   module _ (g : SessionGrant) (identity : g.identity ≡ r.default.identity) where
-    pub grant_same : grants r g node ≡ Create_session_response (session_response left q g.drawn.control.0 g.drawn.user.0 g.address)
+    pub grant_same : grants r g node ≡ Create_session_response (session_response left q g.drawn.control g.drawn.user g.address)
     grant_same = λ i. Create_session_response (record {
       header = (sym says.control i).teid;
       number = sym says.number i;
       cause = cause_of (session_cause (sym says.pdn i) g.address);
-      control = Some (tunnel_end 7 g.drawn.control.0 (sym (config_stays heard node) i).own.control);
+      control = Some (tunnel_end 7 g.drawn.control (sym (config_stays heard node) i).own.control);
       address = Some (allocation 64 g.address);
       ambr = sym says.ambr i;
-      contexts = record { identity = (sym says.context i).identity; cause = cause_of 16; user = Some (tunnel_end 5 g.drawn.user.0 (sym (config_stays heard node) i).own.user); qos = Some (sym says.context i).qos; charging = Some g.drawn.user.0 } ∷ [];
+      contexts = record { identity = (sym says.context i).identity; cause = cause_of 16; user = Some (tunnel_end 5 g.drawn.user (sym (config_stays heard node) i).own.user); qos = Some (sym says.context i).qos; charging = Some g.drawn.user } ∷ [];
       recovery = Some (sym (counter_stays heard node) i);
     })
 
@@ -58,27 +58,27 @@ module _ (r : SessionRequest) (q : CreateSessionRequest) (says : SaysCreateSessi
     chosen : g.identity ≡ q.context.identity
     chosen = identity ∙ ap (λ (c : RequestedBearer). c.identity) (sym says.context)
 
-    pub made_same : changed_by (change_of r g) left ≡ session_made left q g.drawn.control.0 g.drawn.user.0 g.address
+    pub made_same : changed_by (change_of r g) left ≡ session_made left q g.drawn.control g.drawn.user g.address
     made_same = λ i. record left {
-      drawn = g.drawn.user.0 ∷ g.drawn.control.0 ∷ left.drawn;
-      sessions = insert left.sessions g.drawn.control.0 (record { remote = Some (sym says.control i).teid; subscriber = record { imsi = sym says.imsi i; access_point = sym says.access_point i; identity = chosen i }; address = Some g.address; state = Active });
-      bearers = insert left.bearers g.drawn.user.0 (record { remote = Some (sym says.context i).user.teid; session = g.drawn.control.0; identity = Some (chosen i); kind = Default; state = Active; ended = false });
+      drawn = g.drawn.user ∷ g.drawn.control ∷ left.drawn;
+      sessions = insert left.sessions g.drawn.control (record { remote = Some (sym says.control i).teid; subscriber = record { imsi = sym says.imsi i; access_point = sym says.access_point i; identity = chosen i }; address = Some g.address; state = Active });
+      bearers = insert left.bearers g.drawn.user (record { remote = Some (sym says.context i).user.teid; session = g.drawn.control; identity = Some (chosen i); kind = Default; state = Active; ended = false });
     }
 
     -- the template's bearer is asked for in the same words
-    pub asked_same : (a : AddedBearer) → asked_with (session_granted r g) a node ≡ asked_with (made_session q g.address) a (session_made left q g.drawn.control.0 g.drawn.user.0 g.address)
+    pub asked_same : (a : AddedBearer) → asked_with (session_granted r g) a node ≡ asked_with (made_session q g.address) a (session_made left q g.drawn.control g.drawn.user g.address)
     asked_same a = λ i. record {
       header = (sym says.control i).teid;
       number = a.seq;
       transaction = None;
       linked = chosen i;
-      context = record { identity = 0; tft = a.template.tft; user = tunnel_end 5 a.drawn.teid.0 (sym (config_stays heard node) i).own.user; qos = a.template.qos; charging = Some a.drawn.teid.0 };
+      context = record { identity = 0; tft = a.template.tft; user = tunnel_end 5 a.drawn.teid (sym (config_stays heard node) i).own.user; qos = a.template.qos; charging = Some a.drawn.teid };
       further = [];
     }
 
-    pub both_same : (a : AddedBearer) → grants_with r g a node ≡ Create_session_response (session_response left q g.drawn.control.0 g.drawn.user.0 g.address) ∷ Create_bearer_request (asked_with (made_session q g.address) a (session_made left q g.drawn.control.0 g.drawn.user.0 g.address)) ∷ []
+    pub both_same : (a : AddedBearer) → grants_with r g a node ≡ Create_session_response (session_response left q g.drawn.control g.drawn.user g.address) ∷ Create_bearer_request (asked_with (made_session q g.address) a (session_made left q g.drawn.control g.drawn.user g.address)) ∷ []
     both_same a = λ i. grant_same i ∷ Create_bearer_request (asked_same a i) ∷ []
 
-    pub begun_same : (a : AddedBearer) → create_bearer_asked (changed_by (change_of r g) left) g.drawn.control.0 (asked_with (session_granted r g) a node) a.drawn.teid.0
-        ≡ create_bearer_asked (session_made left q g.drawn.control.0 g.drawn.user.0 g.address) g.drawn.control.0 (asked_with (made_session q g.address) a (session_made left q g.drawn.control.0 g.drawn.user.0 g.address)) a.drawn.teid.0
-    begun_same a = λ i. create_bearer_asked (made_same i) g.drawn.control.0 (asked_same a i) a.drawn.teid.0
+    pub begun_same : (a : AddedBearer) → create_bearer_asked (changed_by (change_of r g) left) g.drawn.control (asked_with (session_granted r g) a node) a.drawn.teid
+        ≡ create_bearer_asked (session_made left q g.drawn.control g.drawn.user g.address) g.drawn.control (asked_with (made_session q g.address) a (session_made left q g.drawn.control g.drawn.user g.address)) a.drawn.teid
+    begun_same a = λ i. create_bearer_asked (made_same i) g.drawn.control (asked_same a i) a.drawn.teid

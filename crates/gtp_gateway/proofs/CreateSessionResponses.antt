@@ -1,5 +1,5 @@
 -- Create Session Responses: what they say where they lie, and what the serving gateway does with them.
-use Rattle.std.proofs.Common.{◌≡◌, inl, inr, ℕ, true, false, List, [], ◌∷◌, map, Option, Some, None, option_map, refl, sym, ◌∙◌, ap, subst}
+use Rattle.std.proofs.Common.{◌≡◌, inl, inr, ℕ, true, false, List, [], ◌∷◌, map, Option, Some, None, refl, sym, ◌∙◌, ap, subst}
 use Rattle.std.specs.Prelude.{◌==◌, ◌&&◌, not, is_some, option_to_list}
 use Rattle.std.specs.FinMap.{get, insert, remove}
 use Rattle.std.proofs.lemmas.Bool.{eqb-true}
@@ -67,20 +67,20 @@ record AsksFor (purpose : Purpose) (m : Message) (bearer : ℕ) : Type 0 where
   pub unnamed : request.header ≡ 0
   pub whole : bearer_of purpose ≡ None
 
-none_there : (o : Option Teid) → not (is_some o) ≡ true → option_map (λ (t : Teid). t.0) o ≡ None
+none_there : (o : Option Teid) → not (is_some o) ≡ true → o ≡ None
 none_there None is = refl
 none_there (Some t) is = absurd (let no : false ≡ true = is in cc)
 
-asks_session : (purpose : Purpose) (m : Message) (default : Teid) → purpose.asked ≡ CreateSession default → is_for purpose m ≡ true → AsksFor purpose m default.0
+asks_session : (purpose : Purpose) (m : Message) (default : Teid) → purpose.asked ≡ CreateSession default → is_for purpose m ≡ true → AsksFor purpose m default
 asks_session purpose m default asked meant = by m (asked_there purpose (CreateSession default) m asked meant)
   where
-    by : (m : Message) → is_asked (CreateSession default) purpose m ≡ true → AsksFor purpose m default.0
+    by : (m : Message) → is_asked (CreateSession default) purpose m ≡ true → AsksFor purpose m default
     by (Create_session_request q) is =
         let unnamed = (q.header == 0) && not (is_some purpose.bearer) in
-        let control = both (on (λ t. q.control.teid == t) (session_of purpose)) ((q.context.user.teid == default.0) && unnamed) is in
-        let user = both (q.context.user.teid == default.0) unnamed control.right in
+        let control = both (on (λ t. q.control.teid == t) (session_of purpose)) ((q.context.user.teid == default) && unnamed) is in
+        let user = both (q.context.user.teid == default) unnamed control.right in
         let rest = both (q.header == 0) (not (is_some purpose.bearer)) user.right in
-        record { request = q; is = refl; user = eqb-true q.context.user.teid default.0 user.left; unnamed = eqb-true q.header 0 rest.left; whole = none_there purpose.bearer rest.right }
+        record { request = q; is = refl; user = eqb-true q.context.user.teid default user.left; unnamed = eqb-true q.header 0 rest.left; whole = none_there purpose.bearer rest.right }
     by m is = absurd cc
 
 -- a request for a session is about no bearer alone
@@ -90,10 +90,10 @@ of_session n number purpose w r k asked = (asks_session purpose w.message k.bear
 abbrev one : ℕ → Option ℕ
 one n = Some n
 
-session_here : (purpose : Purpose) (m : Message) (r : Response) (a : CreateSessionResponse) → is_for purpose m ≡ true → a.header ≡ r.header.0 → FitsCreateSession (about purpose m) a → FitsCreateSessionOf purpose r
+session_here : (purpose : Purpose) (m : Message) (r : Response) (a : CreateSessionResponse) → is_for purpose m ≡ true → a.header ≡ r.header → FitsCreateSession (about purpose m) a → FitsCreateSessionOf purpose r
 session_here purpose m r a meant at fits = by purpose.asked refl (asked_here purpose m (Create_session_request fits.request) fits.asked meant)
   where
-    named : (default : Teid) → purpose.asked ≡ CreateSession default → Named (about purpose m) a.header a.cause → session_of purpose ≡ Some r.header.0
+    named : (default : Teid) → purpose.asked ≡ CreateSession default → Named (about purpose m) a.header a.cause → session_of purpose ≡ Some r.header
     named default is (inl same) = same ∙ ap one at
     named default is (inr other) = let x = asks_session purpose m default is meant in absurd (other.2 (ap header_of x.is ∙ x.unnamed))
 
@@ -147,11 +147,11 @@ module _ (n : Node) (r : SessionResponse) (a : CreateSessionResponse) (says : Sa
     does_not_fit unfit = inr (at, inl (λ fits. unfit (session_here purpose w.message r.response a w.meant says.header fits), refl))
 
     module _ (k : AskedSession) (asked : IsAskedSession purpose r.response k) where
-      request : AsksFor purpose w.message k.bearer.0
+      request : AsksFor purpose w.message k.bearer
       request = asks_session purpose w.message k.bearer asked.asked w.meant
 
       abbrev fits : FitsCreateSession at.pending a
-      fits = record { request = request.request; asked = request.is; session = k.session.0; about = asked.session; named = inl (asked.session ∙ ap one (asked.named ∙ sym says.header)) }
+      fits = record { request = request.request; asked = request.is; session = k.session; about = asked.session; named = inl (asked.session ∙ ap one (asked.named ∙ sym says.header)) }
 
       pub is_refused : (IsAccepting r.response.cause → ⊥) → SessionRow a n (effect_by (Finishes purpose (Rejected r.response.cause.value)) a.number n)
       is_refused refused = inr (at, inr (fits, inl (λ accepts. refused (subst IsAccepting says.cause accepts), λ i. effect_by (Finishes purpose (Rejected (sym says.cause i).value)) a.number n)))
@@ -160,12 +160,12 @@ module _ (n : Node) (r : SessionResponse) (a : CreateSessionResponse) (says : Sa
         accepting : IsAccepting a.cause
         accepting = subst IsAccepting (sym says.cause) accepts
 
-        pub not_described : ((d : DescribedSession) → IsDescribed sessions k.session.0 r d → ⊥) → SessionRow a n (effect_by (Drops Mismatch) a.number n)
-        not_described none = inr (at, inr (fits, inr (accepting, inl (λ new. describes_none n r a says sessions k.session.0 same none new, refl))))
+        pub not_described : ((d : DescribedSession) → IsDescribed sessions k.session r d → ⊥) → SessionRow a n (effect_by (Drops Mismatch) a.number n)
+        not_described none = inr (at, inr (fits, inr (accepting, inl (λ new. describes_none n r a says sessions k.session same none new, refl))))
 
-        module _ (d : DescribedSession) (is : IsDescribed sessions k.session.0 r d) where
-          abbrev new : DescribesSession n k.session.0 a
-          new = describes_here n r a says sessions k.session.0 d same is
+        module _ (d : DescribedSession) (is : IsDescribed sessions k.session r d) where
+          abbrev new : DescribesSession n k.session a
+          new = describes_here n r a says sessions k.session d same is
 
           only : SaysCreated d.context new.context
           only = (only_here n r a says d.context is.alone).2
@@ -173,9 +173,9 @@ module _ (n : Node) (r : SessionResponse) (a : CreateSessionResponse) (says : Sa
           pub bearer_refused : (IsAccepting d.context.cause → ⊥) → SessionRow a n (effect_by (Finishes purpose (Rejected d.context.cause.value)) a.number n)
           bearer_refused refused = inr (at, inr (fits, inr (accepting, inr (new, inl (λ both. refused (subst IsAccepting only.cause both), λ i. effect_by (Finishes purpose (Rejected (sym only.cause i).value)) a.number n)))))
 
-          pub opens : IsAccepting d.context.cause → (b : Bearer) → get n.bearers k.bearer.0 ≡ Some b → (session : Session) → session ≡ record d.session { remote = r.control; address = Some d.address; state = Active } → (bearer : Bearer) → bearer ≡ record b { remote = d.context.user; state = Active } → SessionRow a n (effect_by (OpensSession k.session session k.bearer bearer) a.number n)
+          pub opens : IsAccepting d.context.cause → (b : Bearer) → get n.bearers k.bearer ≡ Some b → (session : Session) → session ≡ record d.session { remote = r.control; address = Some d.address; state = Active } → (bearer : Bearer) → bearer ≡ record b { remote = d.context.user; state = Active } → SessionRow a n (effect_by (OpensSession k.session session k.bearer bearer) a.number n)
           opens both b stands session session_is bearer bearer_is =
-              let user : k.bearer.0 ≡ request.request.context.user.teid = sym request.user in
+              let user : k.bearer ≡ request.request.context.user.teid = sym request.user in
               let now : session ≡ opened_session d.session a d.address = session_is ∙ (λ i. record d.session { remote = sym says.control i; address = Some d.address; state = Active }) in
               let then : bearer ≡ opened_bearer b a = bearer_is ∙ (λ i. record b { remote = (sym only.user ∙ sym (ap first_created new.alone)) i; state = Active }) in
               meets at
@@ -188,27 +188,27 @@ module _ (n : Node) (r : SessionResponse) (a : CreateSessionResponse) (says : Sa
                 gives = λ i. record {
                   out = nothing;
                   outcome = Came_to Opened;
-                  node = record n { sessions = insert n.sessions k.session.0 (now i); bearers = insert n.bearers (user i) (then i); pending = remove n.pending a.number };
+                  node = record n { sessions = insert n.sessions k.session (now i); bearers = insert n.bearers (user i) (then i); pending = remove n.pending a.number };
                 };
               })))))
 
 -- ---- what stands, at a sound gateway
 
 -- the default bearer of a session that was asked for has no remote yet
-default_asked : (role : Role) (n : Node) → IsSound role n → (number : ℕ) (purpose : Purpose) (w : IsWaiting n number purpose) (r : Response) (k : AskedSession) → IsAskedSession purpose r k → IsBlank n k.bearer.0
+default_asked : (role : Role) (n : Node) → IsSound role n → (number : ℕ) (purpose : Purpose) (w : IsWaiting n number purpose) (r : Response) (k : AskedSession) → IsAskedSession purpose r k → IsBlank n k.bearer
 default_asked role n sound number purpose w r k asked =
     let x = asks_session purpose w.message k.bearer asked.asked w.meant in
     let is = is_session role n sound number (about purpose w.message) x.request w.waits x.is in
-    let user : is.0.request.context.user.teid ≡ k.bearer.0 = ap (λ (q : CreateSessionRequest). q.context.user.teid) is.1 ∙ x.user in
+    let user : is.0.request.context.user.teid ≡ k.bearer = ap (λ (q : CreateSessionRequest). q.context.user.teid) is.1 ∙ x.user in
     let stands = ap (λ (t : ℕ). get n.bearers t) (sym user) ∙ is.0.default.1 in
-    record { at = is.0.default.0; stands = stands; blank = (sound.contexts.each_bearer k.bearer.0 is.0.default.0 stands).blank is.0.default.2.in_state }
+    record { at = is.0.default.0; stands = stands; blank = (sound.contexts.each_bearer k.bearer is.0.default.0 stands).blank is.0.default.2.in_state }
 
 module _ (role : Role) (heard : Heard) (old : Node) (whole : ∥ IsSound role old ∥₁) (number : ℕ) (purpose : Purpose) (w : IsWaiting (node_heard heard old) number purpose) (r : Response) (k : AskedSession) (asked : IsAskedSession purpose r k) where
-  pub default_stands : get (node_heard heard old).bearers k.bearer.0 ≡ None → ⊥
-  default_stands = stands_there whole (node_heard heard old) k.bearer.0 (λ sound. let d = by sound in (d.at, d.stands))
+  pub default_stands : get (node_heard heard old).bearers k.bearer ≡ None → ⊥
+  default_stands = stands_there whole (node_heard heard old) k.bearer (λ sound. let d = by sound in (d.at, d.stands))
     where
-      by : IsSound role old → IsBlank (node_heard heard old) k.bearer.0
+      by : IsSound role old → IsBlank (node_heard heard old) k.bearer
       by sound = default_asked role (node_heard heard old) (heard_sound role heard old sound) number purpose w r k asked
 
-  pub default_blank : (b : Bearer) → get (node_heard heard old).bearers k.bearer.0 ≡ Some b → b.remote ≡ None
-  default_blank = blank_there whole (node_heard heard old) k.bearer.0 (λ sound. default_asked role (node_heard heard old) (heard_sound role heard old sound) number purpose w r k asked)
+  pub default_blank : (b : Bearer) → get (node_heard heard old).bearers k.bearer ≡ Some b → b.remote ≡ None
+  default_blank = blank_there whole (node_heard heard old) k.bearer (λ sound. default_asked role (node_heard heard old) (heard_sound role heard old sound) number purpose w r k asked)

@@ -40,11 +40,11 @@ module _ (s : GatewayState) (whole : IsSoundState s) (session identity : ℕ) wh
       not (ap (λ (x : Bearer). x.kind) one ∙ named.dedicated)
 
   -- the rules after the look-up look at no more than that bearer
-  pub goes_named : (r : Result Begun CommandFault) (Rest : ℕ → Bearer → Type 0) (d : Dedicated) (reason why : Refusal) → IsDedicated s.node session identity d → Told r why ↔ Rest d.teid.0 d.bearer → Told r why ↔ Unless (NamesBearer s.node session identity) (refused s.node why ≡ refused s.node reason) (λ named. Rest named.key named.at.bearer)
+  pub goes_named : (r : Result Begun CommandFault) (Rest : ℕ → Bearer → Type 0) (d : Dedicated) (reason why : Refusal) → IsDedicated s.node session identity d → Told r why ↔ Rest d.teid d.bearer → Told r why ↔ Unless (NamesBearer s.node session identity) (refused s.node why ≡ refused s.node reason) (λ named. Rest named.key named.at.bearer)
   goes_named r Rest d reason why is rest =
       goes s.node r {P = NamesBearer s.node session identity} {Next = λ named. Rest named.key named.at.bearer} reason why
-      (record { key = d.teid.0; at = record { bearer = d.bearer; stands = is.stands }; of = is.of; dedicated = is.dedicated; has = is.has })
+      (record { key = d.teid; at = record { bearer = d.bearer; stands = is.stands }; of = is.of; dedicated = is.dedicated; has = is.has })
       (λ named.
-      let same : d.teid.0 ≡ named.key = one_named d.teid.0 named.key d.bearer named.at.bearer is.stands is.of is.has named.at.stands named.of named.has in
-      let one : d.bearer ≡ named.at.bearer = one_value (get s.node.bearers d.teid.0) d.bearer named.at.bearer is.stands (ap (get s.node.bearers) same ∙ named.at.stands) in
-      subst (λ (k : ℕ). Told r why ↔ Rest k named.at.bearer) same (subst (λ (x : Bearer). Told r why ↔ Rest d.teid.0 x) one rest))
+      let same : d.teid ≡ named.key = one_named d.teid named.key d.bearer named.at.bearer is.stands is.of is.has named.at.stands named.of named.has in
+      let one : d.bearer ≡ named.at.bearer = one_value (get s.node.bearers d.teid) d.bearer named.at.bearer is.stands (ap (get s.node.bearers) same ∙ named.at.stands) in
+      subst (λ (k : ℕ). Told r why ↔ Rest k named.at.bearer) same (subst (λ (x : Bearer). Told r why ↔ Rest d.teid x) one rest))

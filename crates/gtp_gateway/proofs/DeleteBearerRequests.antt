@@ -29,7 +29,7 @@ use Rattle.gtp_machine.specs.Node.{Arrival, Bearer, Node}
 use Rattle.gtp_machine.specs.declared.role.Role.{Role}
 use Rattle.gtp_machine.specs.Reading.{control_message, removed_bearer}
 use Rattle.gtp_machine.proofs.Octets.ByName.{removed_read}
-use Rattle.gtp_machine.specs.Serving.{RemovesEach, DeleteBearerTaken, DeleteBearerJudged, all_removed, any_removed, removal_cause}
+use Rattle.gtp_machine.specs.Serving.{RemovesEach, DeleteBearerTaken, DeleteBearerJudged, all_removed, any_removed, delete_bearer_cause}
 use Rattle.gtp_machine.specs.Spelling.{removed_rows, typed, where_there}
 use Rattle.gtp_machine.proofs.Basics.Types.{type_kind}
 use Rattle.gtp_machine.proofs.Octets.Readings.{reads_as}
@@ -68,7 +68,7 @@ any_is [] = refl
 any_is (n ∷ ns) = λ i. found_is n.teid i || any_is ns i
 
 -- 16 where all are found, 17 where some are, and else 64
-pub cause_is : (ns : List NamedBearer) (all any : Bool) → all ≡ list_all is_found ns → any ≡ list_any is_found ns → cond all 16 (cond any 17 64) ≡ removal_cause (map removed_by ns)
+pub cause_is : (ns : List NamedBearer) (all any : Bool) → all ≡ list_all is_found ns → any ≡ list_any is_found ns → cond all 16 (cond any 17 64) ≡ delete_bearer_cause (map removed_by ns)
 cause_is ns all any at_all at_any = λ i. cond ((at_all ∙ all_is ns) i) 16 (cond ((at_any ∙ any_is ns) i) 17 64)
 
 -- ---- the bearers that are named, one more
@@ -113,15 +113,15 @@ left_more old node before n None is left = record {
   here = λ t b stands none. left.here t b stands (both_false (was_named t before) false (sym (named_more t before n None is) ∙ none)).0;
 }
 left_more old node before n (Some teid) is left =
-    let test : ℕ → Bearer → Bool = λ q x. not ((q == teid.0) || false) in
+    let test : ℕ → Bearer → Bool = λ q x. not ((q == teid) || false) in
     record {
       there = λ t b stands.
-          let found = other t teid.0 (get node.bearers t) b (sym (get_kept test node.bearers t) ∙ stands) in
+          let found = other t teid (get node.bearers t) b (sym (get_kept test node.bearers t) ∙ stands) in
           let was = left.there t b found.0 in
-          (was.0, named_more t before n (Some teid) is ∙ neither (was_named t before) (t == teid.0) was.1 found.1);
+          (was.0, named_more t before n (Some teid) is ∙ neither (was_named t before) (t == teid) was.1 found.1);
       here = λ t b stands none.
-          let apart = both_false (was_named t before) (t == teid.0) (sym (named_more t before n (Some teid) is) ∙ none) in
-          get_kept test node.bearers t ∙ stays t teid.0 (get node.bearers t) b (left.here t b stands apart.0) apart.1;
+          let apart = both_false (was_named t before) (t == teid) (sym (named_more t before n (Some teid) is) ∙ none) in
+          get_kept test node.bearers t ∙ stays t teid (get node.bearers t) b (left.here t b stands apart.0) apart.1;
     }
 
 -- one of them goes as the machine says
@@ -139,9 +139,9 @@ removes_one old node new session identity before None ids others left names rest
 )
 removes_one old node new session identity before (Some teid) ids others left names rest =
     let named : NamesBearer old session identity = names.0 in
-    let stands : get old.bearers teid.0 ≡ Some named.at.bearer = ap (get old.bearers) (sym names.1) ∙ named.at.stands in (
+    let stands : get old.bearers teid ≡ Some named.at.bearer = ap (get old.bearers) (sym names.1) ∙ named.at.stands in (
       others,
-      meets (record { key = teid.0; at = record { bearer = named.at.bearer; stands = left.here teid.0 named.at.bearer stands names.2 }; of = named.of; dedicated = named.dedicated; has = named.has })
+      meets (record { key = teid; at = record { bearer = named.at.bearer; stands = left.here teid named.at.bearer stands names.2 }; of = named.of; dedicated = named.dedicated; has = named.has })
           ((refl, rest)),
     )
 
@@ -187,9 +187,9 @@ linked_read (Some e) = refl
 -- what it says
 pub delete_bearer_said : (header : Teid) (number : ℕ) (cause : Cause) (linked : Option EbiValue) (cs : List RemovalResponseContext) (counter : Counter)
     → control_message (record { teid = Some header; seq = number; priority = None; body = bodies.DeleteBearerResponse (record { cause = cause; linked_ebi = linked; contexts = cs; recovery = Some (record { 0 = counter }) }) })
-    ≡ Delete_bearer_response (record { header = header.0; number = number; cause = cause; linked = option_map (λ (e : EbiValue). e.0) linked; contexts = map removed_bearer cs; recovery = Some counter.0 })
+    ≡ Delete_bearer_response (record { header = header; number = number; cause = cause; linked = option_map (λ (e : EbiValue). e.0) linked; contexts = map removed_bearer cs; recovery = Some counter.0 })
 unfolding row_in contexts_in
-delete_bearer_said header number cause linked cs counter = λ i. Delete_bearer_response (record { header = header.0; number = number; cause = cause; linked = linked_read linked i; contexts = removed_read cs i; recovery = Some counter.0 })
+delete_bearer_said header number cause linked cs counter = λ i. Delete_bearer_response (record { header = header; number = number; cause = cause; linked = linked_read linked i; contexts = removed_read cs i; recovery = Some counter.0 })
 
 -- it is one that a gateway sends
 pub delete_bearer_own : (header : Teid) (number : ℕ) (cause : Cause) (linked : Option EbiValue) (cs : List RemovalResponseContext) (counter : Counter) → length cs ≤ 11
@@ -203,18 +203,18 @@ delete_bearer_own header number cause linked cs counter few =
       few = omega (arith, few, length-map cs removal_response_context_values);
       control = refl;
       own = tt;
-      says = λ i. typed 100 (Some header.0) number (Plain (OfCause cause ∷ []) ∷ Plain (linked_values linked i) ∷ Groups (context_values cs i) ∷ Plain (OfRecovery counter.0 ∷ []) ∷ []);
+      says = λ i. typed 100 (Some header) number (Plain (OfCause cause ∷ []) ∷ Plain (linked_values linked i) ∷ Groups (context_values cs i) ∷ Plain (OfRecovery counter.0 ∷ []) ∷ []);
     }
 
 -- ---- the machine's column
 
 -- bearers that are named go
-pub ends_judged : (request : Arrival) (r : DeleteRequest) (old : Node) (header : ℕ) (ids : List EbiValue) (ns : List NamedBearer) → IsForBearers r header old → length ids ≤ 11 → map identity_named ns ≡ map number_in ids → NamesEach old r.header.0 [] ns
-    → DeleteBearerJudged request (delete_bearer_by r (map number_in ids)) old (answered request (Delete_bearer_response (record { header = header; number = r.seq; cause = cause_of (removal_cause (map removed_by ns)); linked = None; contexts = map removed_by ns; recovery = Some old.counter })) (removal_cause (map removed_by ns)) (without_each ns old))
+pub ends_judged : (request : Arrival) (r : DeleteRequest) (old : Node) (header : ℕ) (ids : List EbiValue) (ns : List NamedBearer) → IsForBearers r header old → length ids ≤ 11 → map identity_named ns ≡ map number_in ids → NamesEach old r.header [] ns
+    → DeleteBearerJudged request (delete_bearer_by r (map number_in ids)) old (answered request (Delete_bearer_response (record { header = header; number = r.seq; cause = cause_of (delete_bearer_cause (map removed_by ns)); linked = None; contexts = map removed_by ns; recovery = Some old.counter })) (delete_bearer_cause (map removed_by ns)) (without_each ns old))
 ends_judged request r old header ids ns asked few same names =
     let contexts = map removed_by ns in
     let left = without_each ns old in
-    let effect : Effect = answered request (Delete_bearer_response (record { header = header; number = r.seq; cause = cause_of (removal_cause contexts); linked = None; contexts = contexts; recovery = Some old.counter })) (removal_cause contexts) left in
+    let effect : Effect = answered request (Delete_bearer_response (record { header = header; number = r.seq; cause = cause_of (delete_bearer_cause contexts); linked = None; contexts = contexts; recovery = Some old.counter })) (delete_bearer_cause contexts) left in
     meets (record { session = asked.session; stands = asked.stands })
     (meets asked.opened
     (subst (λ (o : Option ℕ). DeleteBearerTaken request (delete_bearer_by r (map number_in ids)) o old asked.session effect) (sym asked.unlinked)
@@ -223,13 +223,13 @@ ends_judged request r old header ids ns asked few same names =
       record {
         contexts = contexts;
         left = left;
-        removes = subst (λ (l : List ℕ). RemovesEach r.header.0 l old contexts left) same (removes_each old r.header.0 ns names);
-        gives = λ i. answered request (Delete_bearer_response (record { header = asked.named i; number = r.seq; cause = cause_of (removal_cause contexts); linked = None; contexts = contexts; recovery = Some old.counter })) (removal_cause contexts) left;
+        removes = subst (λ (l : List ℕ). RemovesEach r.header l old contexts left) same (removes_each old r.header ns names);
+        gives = λ i. answered request (Delete_bearer_response (record { header = asked.named i; number = r.seq; cause = cause_of (delete_bearer_cause contexts); linked = None; contexts = contexts; recovery = Some old.counter })) (delete_bearer_cause contexts) left;
       },
     ))))
 
 -- too many are named
-pub many_judged : (request : Arrival) (r : DeleteRequest) (old : Node) (header : Teid) (identities : List ℕ) → IsForBearers r header.0 old → 11 < length identities
+pub many_judged : (request : Arrival) (r : DeleteRequest) (old : Node) (header : Teid) (identities : List ℕ) → IsForBearers r header old → 11 < length identities
     → DeleteBearerJudged request (delete_bearer_by r identities) old (delete_bearer_effect request r.seq (record { header = header; cause = 94; linked = None; change = Stays }) old)
 many_judged request r old header identities asked many =
     meets (record { session = asked.session; stands = asked.stands })

@@ -27,7 +27,7 @@ use Rattle.gtp_machine.proofs.Determined.Steps.{step_done}
 use Rattle.gtp_machine.proofs.Determined.Ticks.{one_tick}
 use Rattle.gtp_gateway.specs.declared.command.purpose.Purpose.{Purpose}
 use Rattle.gtp_gateway.specs.declared.sent.Begun.{Begun}
-use Rattle.gtp_gateway.specs.declared.step.Accepted.{Accepted}
+use Rattle.gtp_gateway.specs.user.Accepted.{Accepted}
 use Rattle.gtp_gateway.specs.declared.step.Step.{Step}
 use Rattle.gtp_gateway.specs.receive.Choosing.{MakesLowestSession, MakesLowestBearer, MakesLowest, ChoosesLowest}
 use Rattle.gtp_machine.specs.Reading.{Both, datagram_reading}
@@ -98,9 +98,6 @@ one_told number all (Some x) (Some y) e = let same : number x ≡ number y = cc 
 same_heard : (a b : Option Counter) → option_map (λ (c : Counter). c.0) a ≡ option_map (λ (c : Counter). c.0) b → a ≡ b
 same_heard = one_told (λ (c : Counter). c.0) (λ c d same. ap (λ (k : ℕ). let n : Counter = record { 0 = k } in n) same)
 
-same_teid : (a b : Option Teid) → option_map (λ (t : Teid). t.0) a ≡ option_map (λ (t : Teid). t.0) b → a ≡ b
-same_teid = one_told (λ (t : Teid). t.0) (λ t u same. ap (λ (k : ℕ). let n : Teid = record { 0 = k } in n) same)
-
 same_made : (request : Arrival) (a b : Bool) → made_for request a ≡ made_for request b → a ≡ b
 same_made request true true e = refl
 same_made request true false e = cc
@@ -117,8 +114,8 @@ same_packet node None (Some b) entries r (n, of, is) = cc
 same_packet node (Some a) None entries (m, of, is) s = cc
 same_packet node (Some a) (Some b) entries (m, of_a, is_a) (n, of_b, is_b) =
     let same : m ≡ n = cc in
-    let target : a.bearer.0 ≡ b.bearer.0 = sym (ap (λ (k : Entry). k.target) of_a.is) ∙ (ap (λ (k : Entry). k.target) same ∙ ap (λ (k : Entry). k.target) of_b.is) in
-    let payload : a.payload.now ≡ b.payload.now = sym (ap (λ (k : Entry). k.payload) of_a.is) ∙ (ap (λ (k : Entry). k.payload) same ∙ ap (λ (k : Entry). k.payload) of_b.is) in
+    let target : a.bearer ≡ b.bearer = sym (ap (λ (k : Entry). k.target) of_a.is) ∙ (ap (λ (k : Entry). k.target) same ∙ ap (λ (k : Entry). k.target) of_b.is) in
+    let payload : a.payload ≡ b.payload = sym (ap (λ (k : Entry). k.payload) of_a.is) ∙ (ap (λ (k : Entry). k.payload) same ∙ ap (λ (k : Entry). k.payload) of_b.is) in
     cc
 
 -- ---- a datagram
@@ -379,10 +376,10 @@ waits_too old one other m n p q is_one is_other same number free waits = ⊎_eli
     never : (x : PendingRequest) → get old.pending number ≡ Some x → ⊥
     never x e = cc
 
-same_begun : (a b : Option Teid) → ◌≡◌ {A = Outcome} (outcomes.Begun (option_map (λ (t : Teid). t.0) a)) (outcomes.Begun (option_map (λ (t : Teid). t.0) b)) → a ≡ b
-same_begun a b e = let same : option_map (λ (t : Teid). t.0) a ≡ option_map (λ (t : Teid). t.0) b = cc in same_teid a b same
+same_begun : (a b : Option Teid) → ◌≡◌ {A = Outcome} (outcomes.Begun a) (outcomes.Begun b) → a ≡ b
+same_begun a b e = cc
 
-one_teid : (command : Command) (old : GatewayState) (begun other : Begun) (new left : GatewayState) → WaitsNext command old begun new → WaitsNext command old other left → outcome_by command (option_map (λ t. t.0) begun.teid) ≡ outcome_by command (option_map (λ t. t.0) other.teid) → begun.teid ≡ other.teid
+one_teid : (command : Command) (old : GatewayState) (begun other : Begun) (new left : GatewayState) → WaitsNext command old begun new → WaitsNext command old other left → outcome_by command begun.teid ≡ outcome_by command other.teid → begun.teid ≡ other.teid
 one_teid (Mark_end bearer) old begun other new left m n e = m.0 ∙ sym n.0
 one_teid (Send_user bearer payload) old begun other new left m n e = m.0 ∙ sym n.0
 one_teid command old begun other new left m n e = same_begun begun.teid other.teid e

@@ -13,7 +13,7 @@ use Rattle.gtp_machine.specs.declared.message_type.MessageType.{MessageType}
 use Rattle.gtp_machine.specs.declared.message_type.MessageType.TheVariants as types
 use Rattle.gtp_machine.specs.MessageType.{type_at, type_row}
 use Rattle.gtp_machine.proofs.Basics.Types.{type_kind}
-use Rattle.gtp_machine.proofs.Octets.Readings.{reads_as, session_request_read}
+use Rattle.gtp_machine.proofs.Octets.Readings.{reads_as, create_session_request_read}
 
 -- what was read of a row that may be absent is what it says
 pub row_said : {A : Type 0} (of : A → Value) (is : Value → Option A) → ((a : A) → is (of a) ≡ Some a) → (vs : List Value) (o : Option A) → option_map of o ≡ front_value vs → first_in is vs ≡ o
@@ -53,7 +53,7 @@ counter_read octets m p r is at tells reads = by p at tells (reads (ap (λ k. ha
     by : (p : MessageType) → type_at m.kind ≡ Some p → (type_row p).has_counter ≡ true → option_map (λ (x : Recovery). OfRecovery x.0.0) r ≡ front_value (row_of 3 0 m) → option_map (λ (x : Recovery). x.0.0) r ≡ recovery_of (message_of m)
     by types.EchoRequest at tells read = echo types.EchoRequest at refl read ∙ sym (ap recovery_of (reads_as types.EchoRequest octets m is at))
     by types.EchoResponse at tells read = echo types.EchoResponse at refl read ∙ sym (ap recovery_of (reads_as types.EchoResponse octets m is at))
-    by types.CreateSessionRequest at tells read = if_there (row_of 3 0 m) r read ∙ sym (ap recovery_of (session_request_read octets m is at).2)
+    by types.CreateSessionRequest at tells read = if_there (row_of 3 0 m) r read ∙ sym (ap recovery_of (create_session_request_read octets m is at).2)
     by types.CreateBearerRequest at tells read = absurd (let never : false ≡ true = tells in cc)
     by p at tells read =
         let said : recovery_of (message_by (Some p) m) ≡ first_in number_of (row_of 3 0 m) = cc in

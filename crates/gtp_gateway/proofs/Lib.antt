@@ -24,12 +24,13 @@ pub mod Readings
 pub mod Taking
 pub mod Finished
 pub mod Removed
-pub mod Procedures
+pub mod TakenTypes
 pub mod InPlace
 pub mod Pendings
+pub mod Ending
 pub mod Rows
 pub mod InvalidRequests
-pub mod ByProcedure
+pub mod ByType
 pub mod Opened
 pub mod Unopened
 pub mod CreateSessionResponses

@@ -93,13 +93,13 @@ kept_insert {X} test m k x passes = same_map nat_cmp_total nat_cmp-IsAntisymmetr
     at q false is = refl
 
 -- a bearer that stands once the counter was heard may be opened before or after
-pub heard_opened : (heard : Heard) (n : Node) (teid : Teid) (b : Bearer) → IsOpenedAt (node_heard heard n).bearers teid.0 b → node_heard heard (with_bearer teid b n) ≡ with_bearer teid b (node_heard heard n)
+pub heard_opened : (heard : Heard) (n : Node) (teid : Teid) (b : Bearer) → IsOpenedAt (node_heard heard n).bearers teid b → node_heard heard (with_bearer teid b n) ≡ with_bearer teid b (node_heard heard n)
 heard_opened Nothing n teid b at = refl
 heard_opened (First counter) n teid b at = refl
 heard_opened (Same counter) n teid b at = refl
 heard_opened (Later counter) n teid b at =
-    let stays : bearer_stays n teid.0 b ≡ true = ap (λ (s : ℕ). not (is_opened (get n.sessions s))) at.of ∙ (found-kept (bearer_stays n) n.bearers teid.0 at.bearer at.stands).0 in
-    let same : kept (bearer_stays n) (insert n.bearers teid.0 b) ≡ insert (kept (bearer_stays n) n.bearers) teid.0 b = kept_insert (bearer_stays n) n.bearers teid.0 b stays in
+    let stays : bearer_stays n teid b ≡ true = ap (λ (s : ℕ). not (is_opened (get n.sessions s))) at.of ∙ (found-kept (bearer_stays n) n.bearers teid at.bearer at.stands).0 in
+    let same : kept (bearer_stays n) (insert n.bearers teid b) ≡ insert (kept (bearer_stays n) n.bearers) teid b = kept_insert (bearer_stays n) n.bearers teid b stays in
     λ i. record (node_heard (Later counter) n) { bearers = same i }
 heard_opened (Earlier counter) n teid b at = refl
 
@@ -126,6 +126,11 @@ succeeded (Err e) is holds = absurd (cc is)
 pub failed : {T E P : Type 0} (r : Result T E) → is_ok r ≡ false → OnErr r P → P
 failed (Ok x) is holds = absurd (cc is)
 failed (Err e) is holds = holds
+
+-- what follows of the value
+pub then_ok : {T E : Type 0} (P Q : T → Type 0) → ((x : T) → P x → Q x) → (r : Result T E) → IfOk r P → IfOk r Q
+then_ok P Q each (Ok x) is = each x is
+then_ok P Q each (Err e) is = tt
 
 pub if_ok : {Is : ControlStep → Type 0} {Becomes : Type 0} {Taken : ControlStep → Type 0} → ((step : ControlStep) → Is step → Becomes → Taken step) → (o : Result ControlStep Memory) → IfOk o Is → OnOk o Becomes → IfOk o Taken
 if_ok each (Ok step) is becomes = each step is becomes

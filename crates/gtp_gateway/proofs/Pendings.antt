@@ -24,10 +24,7 @@ use Rattle.gtp_gateway.specs.declared.command.purpose.Asked.TheVariants.{Echo, D
 use Rattle.gtp_gateway.specs.declared.receive.response.Response.{Response}
 use Rattle.gtp_gateway.specs.command.SendRequest.{about}
 use Rattle.gtp_gateway.specs.Parts.{pending_of, pending_in}
-use Rattle.gtp_gateway.specs.receive.Echo.{FitsEcho}
-use Rattle.gtp_gateway.specs.receive.Response.{Names}
-use Rattle.gtp_gateway.specs.receive.DeleteSessionResponse.{FitsDeleteSessionOf}
-use Rattle.gtp_gateway.specs.receive.DeleteBearerResponse.{FitsDeleteBearerOf}
+use Rattle.gtp_gateway.specs.receive.Response.{Names, FitsAsked}
 use Rattle.gtp_gateway.specs.messages.Spelled.{message_in, is_asked, is_for, IsAsked, AreAsked}
 
 -- a request for the purpose waits under the number
@@ -91,14 +88,14 @@ asked_there purpose a m is meant = ap (λ (x : Asked). is_asked x purpose m) (sy
 pub asked_here : (purpose : Purpose) (m k : Message) → m ≡ k → is_for purpose m ≡ true → is_asked purpose.asked purpose k ≡ true
 asked_here purpose m k is meant = ap (is_for purpose) (sym is) ∙ meant
 
-pub echo_there : (purpose : Purpose) (m : Message) → is_for purpose m ≡ true → FitsEcho purpose → IsEcho (about purpose m)
+pub echo_there : (purpose : Purpose) (m : Message) → is_for purpose m ≡ true → FitsAsked Echo None purpose → IsEcho (about purpose m)
 echo_there purpose m meant fits = by m (asked_there purpose Echo m fits meant)
   where
     by : (m : Message) → is_asked Echo purpose m ≡ true → IsEcho (about purpose m)
     by (Echo_request q) is = record { request = q; asked = refl }
     by m is = absurd cc
 
-pub echo_here : (purpose : Purpose) (m : Message) → is_for purpose m ≡ true → IsEcho (about purpose m) → FitsEcho purpose
+pub echo_here : (purpose : Purpose) (m : Message) → is_for purpose m ≡ true → IsEcho (about purpose m) → FitsAsked Echo None purpose
 echo_here purpose m meant fits = by purpose.asked (asked_here purpose m (Echo_request fits.request) fits.asked meant)
   where
     by : (a : Asked) → is_asked a purpose (Echo_request fits.request) ≡ true → a ≡ Echo
@@ -131,7 +128,7 @@ pub told_of : (purpose : Purpose) (m k : Message) → m ≡ k → IsTold purpose
 told_of purpose m k is told = ap (λ (x : Message). beq purpose.is_named (not (header_of x == 0))) is ∙ told
 
 -- a response that names the session by the machine's rule does so by what is kept of the request, and the other way round
-module _ (purpose : Purpose) (m : Message) (r : Response) (header : ℕ) (cause : Cause) (told : IsTold purpose m) (at : header ≡ r.header.0) (of : cause ≡ r.cause) where
+module _ (purpose : Purpose) (m : Message) (r : Response) (header : ℕ) (cause : Cause) (told : IsTold purpose m) (at : header ≡ r.header) (of : cause ≡ r.cause) where
   pub names_here : Named (about purpose m) header cause → Names r purpose
   names_here (inl same) = inl (same ∙ ap one at)
   names_here (inr (zero, unknown, some)) = inr (sym at ∙ zero, ap (λ (c : Cause). c.value) (sym of) ∙ unknown, named_true purpose.is_named (header_of m) told some)
@@ -140,14 +137,14 @@ module _ (purpose : Purpose) (m : Message) (r : Response) (header : ℕ) (cause 
   names_there (inl same) = inl (same ∙ ap one (sym at))
   names_there (inr (zero, unknown, is)) = inr (at ∙ zero, ap (λ (c : Cause). c.value) of ∙ unknown, named_some purpose.is_named (header_of m) told is)
 
-pub delete_session_there : (purpose : Purpose) (m : Message) (r : Response) (d : DeleteSessionResponse) → is_for purpose m ≡ true → d.header ≡ r.header.0 → d.cause ≡ r.cause → FitsDeleteSessionOf purpose r → FitsDeleteSession (about purpose m) d
+pub delete_session_there : (purpose : Purpose) (m : Message) (r : Response) (d : DeleteSessionResponse) → is_for purpose m ≡ true → d.header ≡ r.header → d.cause ≡ r.cause → FitsAsked DeleteSession (Some r) purpose → FitsDeleteSession (about purpose m) d
 delete_session_there purpose m r d meant at of (is, names) = by m (asked_there purpose DeleteSession m is meant)
   where
     by : (m : Message) → is_asked DeleteSession purpose m ≡ true → FitsDeleteSession (about purpose m) d
     by (Delete_session_request q) told = record { request = q; asked = refl; named = names_there purpose (Delete_session_request q) r d.header d.cause told at of names }
     by m told = absurd cc
 
-pub delete_session_here : (purpose : Purpose) (m : Message) (r : Response) (d : DeleteSessionResponse) → is_for purpose m ≡ true → d.header ≡ r.header.0 → d.cause ≡ r.cause → FitsDeleteSession (about purpose m) d → FitsDeleteSessionOf purpose r
+pub delete_session_here : (purpose : Purpose) (m : Message) (r : Response) (d : DeleteSessionResponse) → is_for purpose m ≡ true → d.header ≡ r.header → d.cause ≡ r.cause → FitsDeleteSession (about purpose m) d → FitsAsked DeleteSession (Some r) purpose
 delete_session_here purpose m r d meant at of fits =
     let is = by purpose.asked (asked_here purpose m (Delete_session_request fits.request) fits.asked meant) in
     (is.0, names_here purpose m r d.header d.cause (told_of purpose m (Delete_session_request fits.request) fits.asked is.1) at of fits.named)
@@ -156,14 +153,14 @@ delete_session_here purpose m r d meant at of fits =
     by DeleteSession told = (refl, told)
     by a told = absurd cc
 
-pub delete_bearer_there : (purpose : Purpose) (m : Message) (r : Response) (d : DeleteBearerResponse) → is_for purpose m ≡ true → d.header ≡ r.header.0 → d.cause ≡ r.cause → FitsDeleteBearerOf purpose r → FitsDeleteBearer (about purpose m) d
+pub delete_bearer_there : (purpose : Purpose) (m : Message) (r : Response) (d : DeleteBearerResponse) → is_for purpose m ≡ true → d.header ≡ r.header → d.cause ≡ r.cause → FitsAsked DeleteBearer (Some r) purpose → FitsDeleteBearer (about purpose m) d
 delete_bearer_there purpose m r d meant at of (is, names) = by m (asked_there purpose DeleteBearer m is meant)
   where
     by : (m : Message) → is_asked DeleteBearer purpose m ≡ true → FitsDeleteBearer (about purpose m) d
     by (Delete_bearer_request q) told = record { request = q; asked = refl; named = names_there purpose (Delete_bearer_request q) r d.header d.cause told at of names }
     by m told = absurd cc
 
-pub delete_bearer_here : (purpose : Purpose) (m : Message) (r : Response) (d : DeleteBearerResponse) → is_for purpose m ≡ true → d.header ≡ r.header.0 → d.cause ≡ r.cause → FitsDeleteBearer (about purpose m) d → FitsDeleteBearerOf purpose r
+pub delete_bearer_here : (purpose : Purpose) (m : Message) (r : Response) (d : DeleteBearerResponse) → is_for purpose m ≡ true → d.header ≡ r.header → d.cause ≡ r.cause → FitsDeleteBearer (about purpose m) d → FitsAsked DeleteBearer (Some r) purpose
 delete_bearer_here purpose m r d meant at of fits =
     let is = by purpose.asked (asked_here purpose m (Delete_bearer_request fits.request) fits.asked meant) in
     (is.0, names_here purpose m r d.header d.cause (told_of purpose m (Delete_bearer_request fits.request) fits.asked is.1) at of fits.named)
@@ -172,11 +169,7 @@ delete_bearer_here purpose m r d meant at of fits =
     by DeleteBearer told = (refl, told)
     by a told = absurd cc
 
--- under another name of the number, too
-pub waits_at : (ws : List (Waiting Purpose)) (n k : ℕ) (purpose : Purpose) (w : Waits ws n purpose) → k ≡ n → get (pending_in ws) k ≡ Some (about purpose w.message)
-waits_at ws n k purpose w same = ap (λ (i : ℕ). get (pending_in ws) i) same ∙ w.stands
-
-pub none_waits_at : (ws : List (Waiting Purpose)) (n k : ℕ) (p : PendingRequest) → k ≡ n → purpose_of n ws ≡ None → get (pending_in ws) k ≡ Some p → ⊥
-none_waits_at ws n k p same none is =
-    let no : request_or_none None ≡ Some p = sym (ap (λ (i : ℕ). get (pending_in ws) i) same ∙ none_waits ws n none) ∙ is in
+pub none_waits_at : (ws : List (Waiting Purpose)) (n : ℕ) (p : PendingRequest) → purpose_of n ws ≡ None → get (pending_in ws) n ≡ Some p → ⊥
+none_waits_at ws n p none is =
+    let no : request_or_none None ≡ Some p = sym (none_waits ws n none) ∙ is in
     cc

@@ -12,7 +12,7 @@ use Rattle.gtp_machine.specs.Reading.{control_fault, control_reading_of, Alone, 
 use Rattle.gtp_machine.specs.Spelling.{datagram_plane}
 use Rattle.gtp_machine.proofs.Octets.Faults.{IsFault, fault_is}
 use Rattle.gtp_gateway.specs.messages.Spelled as kept
-use Rattle.gtp_gateway.proofs.Procedures.{on_control}
+use Rattle.gtp_gateway.proofs.TakenTypes.{on_control}
 
 abbrev IsControl : Message → Type 0
 IsControl m = plane_of m ≡ Control

@@ -33,7 +33,7 @@ use Rattle.gtp_gateway.specs.receive.Row.{IsRow}
 use Rattle.gtp_gateway.specs.messages.Sent.{datagram_by, AreSent}
 use Rattle.gtp_gateway.specs.GatewayState.{GatewayState}
 use Rattle.gtp_gateway.specs.receive.Taken.{plain_report, IsTakenAs, IsSentAgain}
-use Rattle.gtp_gateway.proofs.Procedures.{at_taker}
+use Rattle.gtp_gateway.proofs.TakenTypes.{at_taker}
 use Rattle.gtp_machine.specs.Step.{TakesBy}
 use Rattle.gtp_gateway.proofs.Allocations.{needs_by, message_needs, repeated_needs, create_bearer_asked}
 use Rattle.gtp_gateway.proofs.Rows.{ends, message_taken}
@@ -133,17 +133,17 @@ change_config r NoResources n = refl
 change_config r (Granted g) n = refl
 
 -- the bearer that is granted has the lowest identity
-pub lowest_second : (r : BearerRequest) (a : CreateBearerAnswer) (found : Option Session) (old settled new : Node) → CanGive found a old → IsChosen r.header.0 a settled → new.bearers ≡ (changed_by (change_for r a) settled).bearers → is_granted a ≡ true → MakesLowestBearer old new
+pub lowest_second : (r : BearerRequest) (a : CreateBearerAnswer) (found : Option Session) (old settled new : Node) → CanGive found a old → IsChosen r.header a settled → new.bearers ≡ (changed_by (change_for r a) settled).bearers → is_granted a ≡ true → MakesLowestBearer old new
 lowest_second r (Refused cause) found old settled new can chosen is granted = absurd cc
 lowest_second r NoResources found old settled new can chosen is granted = absurd cc
 lowest_second r (Granted g) found old settled new can chosen is granted = record {
-  teid = g.drawn.teid.0;
+  teid = g.drawn.teid;
   bearer = granted_to r g.identity;
   others = settled.bearers;
   identity = g.identity;
   bearers = is;
-  beside = none_above settled.bearers g.drawn.teid.0 chosen.drawn.above;
-  before = none_above old.bearers g.drawn.teid.0 can.3.above;
+  beside = none_above settled.bearers g.drawn.teid chosen.drawn.above;
+  before = none_above old.bearers g.drawn.teid can.3.above;
   has = refl;
   lowest = chosen.identity;
 }

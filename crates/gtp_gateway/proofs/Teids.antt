@@ -72,35 +72,35 @@ has_left node count n drawn few = record { left = subst (λ (m : ℕ). m + n ≤
 pub has_none : (node : Node) (count n : ℕ) → node.drawn ≡ drawn_up_to node.counter count → (count + n ≤ 16777215 → ⊥) → HasDraws node n → ⊥
 has_none node count n drawn many has = many (subst (λ (m : ℕ). m + n ≤ 16777215) (ap length drawn ∙ length_drawn node.counter count) has.left)
 
-pub one_drawn : (s : GatewayState) (whole : IsSoundState s) (count : ℕ) (drawn : s.node.drawn ≡ drawn_up_to s.node.counter count) (draws : Drawn) (teid : Teid) → IsDraw s.node.counter count draws teid.0 → IsOneDrawn (record { draws = draws; teid = teid }) s.node
+pub one_drawn : (s : GatewayState) (whole : IsSoundState s) (count : ℕ) (drawn : s.node.drawn ≡ drawn_up_to s.node.counter count) (draws : Drawn) (teid : Teid) → IsDraw s.node.counter count draws teid → IsOneDrawn (record { draws = draws; teid = teid }) s.node
 one_drawn s whole count drawn draws teid d =
     record {
       left = has_left s.node count 1 drawn (let few = d.small in omega (arith, few));
-      are = record { counter = ap (λ (x : Drawn). x.counter) d.drawn; drawn = are_draws s.node.counter count draws teid.0 d ∙ (λ i. teid.0 ∷ sym drawn i) };
-      free = record { counted = d.counted; numbered = d.numbered; undrawn = subst (λ (ts : List ℕ). Among teid.0 ts → ⊥) (sym drawn) d.undrawn };
-      above = bearers_below s whole count drawn teid.0 (above_last s.node.counter count teid.0 d.value);
+      are = record { counter = ap (λ (x : Drawn). x.counter) d.drawn; drawn = are_draws s.node.counter count draws teid d ∙ (λ i. teid ∷ sym drawn i) };
+      free = record { counted = d.counted; numbered = d.numbered; undrawn = subst (λ (ts : List ℕ). Among teid ts → ⊥) (sym drawn) d.undrawn };
+      above = bearers_below s whole count drawn teid (above_last s.node.counter count teid d.value);
     }
 
-pub two_drawn : (s : GatewayState) (whole : IsSoundState s) (count : ℕ) (drawn : s.node.drawn ≡ drawn_up_to s.node.counter count) (between draws : Drawn) (control user : Teid) → IsDraw s.node.counter count between control.0 → IsDraw between.counter between.count draws user.0 → AreTwoDrawn (record { draws = draws; control = control; user = user }) s.node
+pub two_drawn : (s : GatewayState) (whole : IsSoundState s) (count : ℕ) (drawn : s.node.drawn ≡ drawn_up_to s.node.counter count) (between draws : Drawn) (control user : Teid) → IsDraw s.node.counter count between control → IsDraw between.counter between.count draws user → AreTwoDrawn (record { draws = draws; control = control; user = user }) s.node
 two_drawn s whole count drawn between draws control user a b =
     let counter = s.node.counter in
     let same : between.counter ≡ counter = ap (λ (x : Drawn). x.counter) a.drawn in
     let more : between.count ≡ count + 1 = ap (λ (x : Drawn). x.count) a.drawn in
-    let first : drawn_up_to between.counter between.count ≡ control.0 ∷ drawn_up_to counter count = are_draws counter count between control.0 a in
-    let low = above_last counter count control.0 a.value in
+    let first : drawn_up_to between.counter between.count ≡ control ∷ drawn_up_to counter count = are_draws counter count between control a in
+    let low = above_last counter count control a.value in
     let next = b.value in
-    let undrawn = subst (λ (ts : List ℕ). Among user.0 ts → ⊥) first b.undrawn in
+    let undrawn = subst (λ (ts : List ℕ). Among user ts → ⊥) first b.undrawn in
     record {
       left = has_left s.node count 2 drawn (let few = b.small in omega (arith, few, more));
       are = record {
         counter = ap (λ (x : Drawn). x.counter) b.drawn ∙ same;
-        drawn = are_draws between.counter between.count draws user.0 b ∙ (λ i. user.0 ∷ (first ∙ (λ j. control.0 ∷ sym drawn j)) i);
+        drawn = are_draws between.counter between.count draws user b ∙ (λ i. user ∷ (first ∙ (λ j. control ∷ sym drawn j)) i);
       };
-      control_free = record { counted = a.counted; numbered = a.numbered; undrawn = subst (λ (ts : List ℕ). Among control.0 ts → ⊥) (sym drawn) a.undrawn };
-      user_free = record { counted = b.counted ∙ same; numbered = b.numbered; undrawn = subst (λ (ts : List ℕ). Among user.0 ts → ⊥) (sym drawn) (λ among. undrawn (inr among)) };
+      control_free = record { counted = a.counted; numbered = a.numbered; undrawn = subst (λ (ts : List ℕ). Among control ts → ⊥) (sym drawn) a.undrawn };
+      user_free = record { counted = b.counted ∙ same; numbered = b.numbered; undrawn = subst (λ (ts : List ℕ). Among user ts → ⊥) (sym drawn) (λ among. undrawn (inr among)) };
       apart = λ is. undrawn (inl (sym is));
-      control_above = sessions_below s whole count drawn control.0 low;
-      user_above = bearers_below s whole count drawn user.0 (let later = above_last between.counter between.count user.0 next in omega (arith, later, same, more));
+      control_above = sessions_below s whole count drawn control low;
+      user_above = bearers_below s whole count drawn user (let later = above_last between.counter between.count user next in omega (arith, later, same, more));
     }
 
 -- the last that was drawn
@@ -112,18 +112,18 @@ last_drawn counter (suc n) t ts is = let same : teid_at counter (suc n) ≡ t = 
 two_more : (node : Node) (two : TwoDrawn) → AreTwoDrawn two node → two.draws.count ≡ length node.drawn + 2
 two_more node two are = let all = sym (length_drawn two.draws.counter two.draws.count) ∙ ap length are.are.drawn in omega (arith, all)
 
-pub third_drawn : (node : Node) (two : TwoDrawn) (are : AreTwoDrawn two node) (draws : Drawn) (teid : Teid) → IsDraw two.draws.counter two.draws.count draws teid.0 → IsThirdDrawn two (record { draws = draws; teid = teid }) node
+pub third_drawn : (node : Node) (two : TwoDrawn) (are : AreTwoDrawn two node) (draws : Drawn) (teid : Teid) → IsDraw two.draws.counter two.draws.count draws teid → IsThirdDrawn two (record { draws = draws; teid = teid }) node
 third_drawn node two are draws teid d =
-    let drawn : drawn_up_to two.draws.counter two.draws.count ≡ two.user.0 ∷ two.control.0 ∷ node.drawn = are.are.drawn in
-    let undrawn = subst (λ (ts : List ℕ). Among teid.0 ts → ⊥) drawn d.undrawn in
-    let last = last_drawn two.draws.counter two.draws.count two.user.0 (two.control.0 ∷ node.drawn) drawn in
-    let above_all = above_last two.draws.counter two.draws.count teid.0 d.value in
-    let later : two.user.0 < teid.0 = omega (arith, last, above_all) in
+    let drawn : drawn_up_to two.draws.counter two.draws.count ≡ two.user ∷ two.control ∷ node.drawn = are.are.drawn in
+    let undrawn = subst (λ (ts : List ℕ). Among teid ts → ⊥) drawn d.undrawn in
+    let last = last_drawn two.draws.counter two.draws.count two.user (two.control ∷ node.drawn) drawn in
+    let above_all = above_last two.draws.counter two.draws.count teid d.value in
+    let later : two.user < teid = omega (arith, last, above_all) in
     record {
       left = record { left = let few = d.small in let more = two_more node two are in omega (arith, few, more) };
       are = record {
         counter = ap (λ (x : Drawn). x.counter) d.drawn ∙ are.are.counter;
-        drawn = are_draws two.draws.counter two.draws.count draws teid.0 d ∙ (λ i. teid.0 ∷ drawn i);
+        drawn = are_draws two.draws.counter two.draws.count draws teid d ∙ (λ i. teid ∷ drawn i);
       };
       free = record { counted = d.counted ∙ are.are.counter; numbered = d.numbered; undrawn = λ among. undrawn (inr (inr among)) };
       control_apart = λ is. undrawn (inr (inl is));

@@ -63,11 +63,11 @@ module _ (name : List ℕ) (g : SessionGrant) (heard : Heard) (s : GatewayState)
   left = node_heard heard s.node
 
   abbrev made : CreateSessionRequest → Node
-  made q = session_made (node_heard heard s.node) q g.drawn.control.0 g.drawn.user.0 g.address
+  made q = session_made (node_heard heard s.node) q g.drawn.control g.drawn.user g.address
 
   -- the rule by the template of the access point
   abbrev Answers : Arrival → CreateSessionRequest → Option machine.Template → Effect → Type 0
-  Answers request q template e = AnswersWith template request (session_response (node_heard heard s.node) q g.drawn.control.0 g.drawn.user.0 g.address) (session_cause q.pdn g.address) g.drawn.control.0 (made_session q g.address) (made q) e
+  Answers request q template e = AnswersWith template request (session_response (node_heard heard s.node) q g.drawn.control g.drawn.user g.address) (session_cause q.pdn g.address) g.drawn.control (made_session q g.address) (made q) e
 
   by_name : (request : Arrival) (q : CreateSessionRequest) (e : Effect) (template : Option machine.Template) → template ≡ template_for name s.node.config.templates → q.access_point ≡ name → Answers request q template e → Answers request q (template_for q.access_point (node_heard heard s.node).config.templates) e
   by_name request q e template is of answers = subst (λ (t : Option machine.Template). Answers request q t e) (is ∙ (λ i. template_for (sym of i) (sym (config_stays heard s.node) i).templates)) answers
@@ -114,17 +114,17 @@ module _ (name : List ℕ) (g : SessionGrant) (heard : Heard) (s : GatewayState)
         room : (q : CreateSessionRequest) → HasPendingRoom (made q)
         room q = record { few = let less = few in let same = few_wait q in omega (arith, less, same) }
 
-        free_user : (q : CreateSessionRequest) → IsFree (made q) a.drawn.teid.0
+        free_user : (q : CreateSessionRequest) → IsFree (made q) a.drawn.teid
         free_user q = record {
           counted = can.third.free.counted ∙ sym (counter_stays heard s.node);
           numbered = can.third.free.numbered;
           undrawn = λ among. undrawn among;
         }
           where
-            undrawn : Among a.drawn.teid.0 (g.drawn.user.0 ∷ g.drawn.control.0 ∷ (node_heard heard s.node).drawn) → ⊥
+            undrawn : Among a.drawn.teid (g.drawn.user ∷ g.drawn.control ∷ (node_heard heard s.node).drawn) → ⊥
             undrawn (inl same) = can.third.user_apart same
             undrawn (inr (inl same)) = can.third.control_apart same
-            undrawn (inr (inr there)) = can.third.free.undrawn (subst (λ (ts : List ℕ). Among a.drawn.teid.0 ts) (drawn_stays heard s.node) there)
+            undrawn (inr (inr there)) = can.third.free.undrawn (subst (λ (ts : List ℕ). Among a.drawn.teid ts) (drawn_stays heard s.node) there)
 
         number_free : (q : CreateSessionRequest) → IsFreeNumber (made q) a.seq
         number_free q = record {
@@ -138,7 +138,7 @@ module _ (name : List ℕ) (g : SessionGrant) (heard : Heard) (s : GatewayState)
           judged = λ request q of. by_name request q (create_session_effect request q (GrantedWith g a) (node_heard heard s.node)) (Some (template_of name a.template)) (ap (λ (t : Template). Some (template_of name t)) of_template ∙ is) of (inr (
             (few_left can.third.left q, room q),
             record {
-              user = a.drawn.teid.0;
+              user = a.drawn.teid;
               number = a.seq;
               user_free = free_user q;
               number_free = number_free q;
@@ -151,6 +151,6 @@ module _ (name : List ℕ) (g : SessionGrant) (heard : Heard) (s : GatewayState)
 -- ---- a new request
 
 -- the request of the template's bearer is none of those that wait
-pub new_request : (old : GatewayState) (two : TwoDrawn) (a : AddedBearer) (heard : Heard) → IsSoundState old → CanAdd two a heard old → old.node.pending ≡ pending_in old.queues.waiting → (octets : List ℕ) (r : CreateBearerRequest) → r.context.user.teid ≡ a.drawn.teid.0 → message_in octets ≡ Create_bearer_request r → All (λ (w : Waiting Purpose). message_in w.octets ≢ message_in octets) old.queues.waiting
+pub new_request : (old : GatewayState) (two : TwoDrawn) (a : AddedBearer) (heard : Heard) → IsSoundState old → CanAdd two a heard old → old.node.pending ≡ pending_in old.queues.waiting → (octets : List ℕ) (r : CreateBearerRequest) → r.context.user.teid ≡ a.drawn.teid → message_in octets ≡ Create_bearer_request r → All (λ (w : Waiting Purpose). message_in w.octets ≢ message_in octets) old.queues.waiting
 new_request old two a heard whole can pending octets r named reads = each_found {P = λ w. message_in w.octets ≢ message_in octets} old.queues.waiting can.distinct (λ w found same. ∥∥₁_elim whole (hlevel) (λ sound.
     can.third.free.undrawn (subst (λ (t : ℕ). Among t old.node.drawn) named (drawn_before old.role old.node sound w.seq (pending_of w).1 r (ap (λ (k : FiniteMap PendingRequest). get k w.seq) pending ∙ found) (same ∙ reads)))))

@@ -14,7 +14,7 @@ use Rattle.gtp_machine.specs.declared.outcome.DropReason.{DropReason}
 use Rattle.gtp_machine.specs.declared.outcome.Outcome.{Outcome}
 use Rattle.gtp_machine.specs.declared.outcome.Outcome.TheVariants.{Accepted, Broken, Dropped}
 use Rattle.gtp_gateway.specs.declared.command.purpose.Purpose.{Purpose}
-use Rattle.gtp_gateway.specs.declared.step.Accepted as packets
+use Rattle.gtp_gateway.specs.user.Accepted as packets
 use Rattle.gtp_gateway.specs.declared.step.Report.{Report}
 use Rattle.gtp_gateway.specs.declared.step.Step.{Step}
 use Rattle.gtp_gateway.specs.declared.user.reply.Reply.{Reply}

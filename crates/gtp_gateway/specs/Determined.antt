@@ -7,7 +7,7 @@ use Rattle.gtp_machine.specs.Input.{Command, Mark_end, Send_user}
 use Rattle.gtp_machine.specs.Message.{Plane}
 use Rattle.gtp_gateway.specs.declared.command.purpose.Purpose.{Purpose}
 use Rattle.gtp_gateway.specs.declared.sent.Begun.{Begun}
-use Rattle.gtp_gateway.specs.declared.step.Accepted.{Accepted}
+use Rattle.gtp_gateway.specs.user.Accepted.{Accepted}
 use Rattle.gtp_gateway.specs.declared.step.Step.{Step}
 use Rattle.gtp_gateway.specs.declared.tick.Ticked.{Ticked}
 use Rattle.gtp_gateway.specs.command.Command.{IsCarriedOut, SendsRequestNext}
@@ -20,7 +20,7 @@ use Rattle.gtp_gateway.specs.Tick.{IsTicked, QueuesAfterTick, arrivals_of}
 
 -- a packet that was accepted: the TEID of its bearer, and its payload
 abbrev pub packet_of : Option Accepted → Option (ℕ × List ℕ)
-packet_of accepted = option_map (λ a. (a.bearer.0, a.payload.now)) accepted
+packet_of accepted = option_map (λ a. (a.bearer, a.payload)) accepted
 
 -- a request that waits, but for what the program keeps of what it is about: the node says that
 abbrev pub waits_as : Waiting Purpose → Waiting (Unit {0})
@@ -54,7 +54,9 @@ pub record AreOneStep (step other : Step) (new left : GatewayState) : Type 0 whe
 
 -- Whatever comes, the clauses of `receive` leave one answer.
 abbrev pub ReceivesOne : GatewayState → Type 0
-ReceivesOne old = (plane : Plane) (source : Endpoint) (octets : List ℕ) (step other : Step) (new left : GatewayState) → MeetsReceive plane source octets old step new → MeetsReceive plane source octets old other left → AreOneStep step other new left
+ReceivesOne old =
+    (plane : Plane) (source : Endpoint) (octets : List ℕ) (step other : Step) (new left : GatewayState)
+    → MeetsReceive plane source octets old step new → MeetsReceive plane source octets old other left → AreOneStep step other new left
 
 -- with a packet and an End Marker no context is told and no request waits, and with any other command a request waits under the next free number
 abbrev pub WaitsNext : Command → GatewayState → Begun → GatewayState → Type 0

@@ -1,4 +1,5 @@
 -- The user plane.
+pub mod Accepted
 pub mod ErrorIndication
 pub mod Receive
 pub mod Reply

@@ -11,7 +11,7 @@ use thiserror::Error;
 #[derive(Clone, Copy, Debug, PartialEq, Eq, Error)]
 pub enum CommandFault {
     /// A rule of the gateway forbids it.
-    #[error("the command is refused")]
+    #[error("{0}")]
     Refused(Refusal),
     /// G6: an allocation was refused.
     #[error("no memory")]

@@ -1,32 +1,27 @@
 //! One gateway: datagrams, commands and ticks go in; datagrams, packets and a report come out.
 
-ghost use Rattle.std.specs.Prelude.{◌≡◌, ◌≤◌, None, length, option_map, slice_get, IsOk, IsSome, IfOk, IfErr, OnOk, OnErr};
+ghost use Rattle.std.specs.Prelude.{◌≡◌, ◌≤◌, length, option_map, slice_get, IsOk, IsSome, IfOk, IfErr, OnOk, OnErr};
 ghost use Rattle.std.specs.FinMap as map;
-ghost use Rattle.gtp_machine.specs.Input.{Create_session, Delete_session, Create_bearer, Delete_bearer, Release_session};
-ghost use Rattle.gtp_machine.specs.Input.{Mark_end, Send_echo, Send_user};
-ghost use Rattle.gtp_gateway.specs.command.Command.{IsCarriedOut, IsRefusedWhere, SendsRequestNext};
 ghost use Rattle.gtp_gateway.specs.receive.Choosing.{ChoosesLowest};
-ghost use Rattle.gtp_gateway.specs.command.CreateSession.{specification};
 ghost use Rattle.gtp_reliable.specs.Pending.{AreDistinct};
 ghost use Rattle.gtp_machine.specs.Determined.{OneAnswerPerRequest};
 ghost use Rattle.gtp_gateway.specs.GatewayState.{GatewayState, starting, NodeMatchesQueues, IsSoundState};
 ghost use Rattle.gtp_gateway.specs.Tick.{IsIdle, ForgetsNone, IsTicked, QueuesAfterTick, arrivals_of, due_in};
 ghost use Rattle.gtp_gateway.specs.receive.Received.{IsReceived, QueuesAfterReceive, MayRunOut};
 
-use crate::command::create_session::SessionSpec;
 use crate::config::Config;
-use crate::fault::CommandFault;
 use crate::listing::{BearerList, SessionList};
 use crate::parts::Parts;
-use crate::sent::Begun;
 use crate::step::Step;
 use crate::tick::Ticked;
 use gtp_machine::{Plane, Role};
 use gtp_reliable::Request;
 use gtp_tables::{Bearer, Session};
-use gtp_values::{Counter, Ebi, Endpoint, Memory, Qos, Teid, Tft};
+use gtp_values::{Counter, Endpoint, Memory, Teid};
 use std::alloc::Global;
 use std::marker::Model;
+
+mod commands;
 
 /// A serving gateway or a packet gateway (TS 23.401 4.4.3), without sockets and clocks. Contracts see its role, its
 /// state as a node of the machine, its settings and its timers. A command returns the datagram to be sent, or the first
@@ -72,14 +67,14 @@ impl Gateway {
 
     /// The session with this control plane TEID of the gateway's own. Allocates nothing.
     pub fn session(&self, session: Teid) -> Option<Session>
-        ensures { result ≡ map.get self.now.node.sessions session.0 }
+        ensures { result ≡ map.get self.now.node.sessions session }
     {
         self.parts.sessions.get(session)
     }
 
     /// The bearer with this user plane TEID of the gateway's own. Allocates nothing.
     pub fn bearer(&self, bearer: Teid) -> Option<Bearer>
-        ensures { result ≡ map.get self.now.node.bearers bearer.0 }
+        ensures { result ≡ map.get self.now.node.bearers bearer }
     {
         self.parts.bearers.get(bearer)
     }
@@ -114,7 +109,7 @@ impl Gateway {
     /// The session at a place in order of the gateway's own TEIDs, from 0; none behind the last. Takes the same time at
     /// each place. Allocates nothing.
     pub fn session_at(&self, place: usize) -> Option<(Teid, Session)>
-        ensures { option_map (λ e. (e.0.0, e.1)) result
+        ensures { result
             ≡ slice_get (map.entries self.now.node.sessions) place }
     {
         self.parts.sessions.at(place)
@@ -123,123 +118,10 @@ impl Gateway {
     /// The bearer at a place in order of the gateway's own TEIDs, from 0; none behind the last. Takes the same time at
     /// each place. Allocates nothing.
     pub fn bearer_at(&self, place: usize) -> Option<(Teid, Bearer)>
-        ensures { option_map (λ e. (e.0.0, e.1)) result
+        ensures { result
             ≡ slice_get (map.entries self.now.node.bearers) place }
     {
         self.parts.bearers.at(place)
-    }
-
-    /// Sends an Echo Request (TS 29.274 7.1.1).
-    pub fn echo(&mut self, alloc: Global) -> Result<Begun, CommandFault>
-        // It is a step of the machine, which sends exactly this.
-        ensures done { IfOk result (λ begun. IsCarriedOut Send_echo self.old begun self.new) }
-        ensures next { IfOk result (λ begun. SendsRequestNext self.old begun self.new) }
-        ensures refused { IsRefusedWhere Send_echo self.old result }
-        ensures err { OnErr result (self.new ≡ self.old) }
-    {
-        self.parts.echo(alloc)
-    }
-
-    /// Sends a Create Session Request for a new session (TS 29.274 7.2.1). A command of the serving gateway.
-    pub fn create_session(
-        &mut self,
-        alloc: Global,
-        spec: &SessionSpec,
-    ) -> Result<Begun, CommandFault>
-        ensures done { IfOk result (λ begun.
-            IsCarriedOut (Create_session (specification spec.now)) self.old begun self.new) }
-        ensures next { IfOk result (λ begun. SendsRequestNext self.old begun self.new) }
-        ensures refused { IsRefusedWhere (Create_session (specification spec.now)) self.old result }
-        ensures err { OnErr result (self.new ≡ self.old) }
-    {
-        self.parts.create_session(alloc, spec)
-    }
-
-    /// Sends a Delete Session Request for an active session (TS 29.274 7.2.9.1). A command of the serving gateway.
-    pub fn delete_session(&mut self, alloc: Global, session: Teid) -> Result<Begun, CommandFault>
-        ensures done { IfOk result (λ begun.
-            IsCarriedOut (Delete_session session.0) self.old begun self.new) }
-        ensures next { IfOk result (λ begun. SendsRequestNext self.old begun self.new) }
-        ensures refused { IsRefusedWhere (Delete_session session.0) self.old result }
-        ensures err { OnErr result (self.new ≡ self.old) }
-    {
-        self.parts.delete_session(alloc, session)
-    }
-
-    /// Sends a Create Bearer Request for a new dedicated bearer of an active session (TS 29.274 7.2.3). A command of
-    /// the packet gateway.
-    pub fn create_bearer(
-        &mut self,
-        alloc: Global,
-        session: Teid,
-        tft: &Tft,
-        qos: &Qos,
-    ) -> Result<Begun, CommandFault>
-        ensures done { IfOk result (λ begun.
-            IsCarriedOut (Create_bearer session.0 tft.now qos.now) self.old begun self.new) }
-        ensures next { IfOk result (λ begun. SendsRequestNext self.old begun self.new) }
-        ensures refused { IsRefusedWhere (Create_bearer session.0 tft.now qos.now) self.old result }
-        ensures err { OnErr result (self.new ≡ self.old) }
-    {
-        self.parts.create_bearer(alloc, session, tft, qos)
-    }
-
-    /// Sends a Delete Bearer Request for an active dedicated bearer of an active session (TS 29.274 7.2.9.2). A
-    /// command of the packet gateway.
-    pub fn delete_bearer(
-        &mut self,
-        alloc: Global,
-        session: Teid,
-        identity: Ebi,
-    ) -> Result<Begun, CommandFault>
-        ensures done { IfOk result (λ begun.
-            IsCarriedOut (Delete_bearer session.0 identity) self.old begun self.new) }
-        ensures next { IfOk result (λ begun. SendsRequestNext self.old begun self.new) }
-        ensures refused { IsRefusedWhere (Delete_bearer session.0 identity) self.old result }
-        ensures err { OnErr result (self.new ≡ self.old) }
-    {
-        self.parts.delete_bearer(alloc, session, identity)
-    }
-
-    /// Sends a Delete Bearer Request for the default bearer of an active session, which ends the session
-    /// (TS 29.274 7.2.9.2). A command of the packet gateway.
-    pub fn release_session(&mut self, alloc: Global, session: Teid) -> Result<Begun, CommandFault>
-        ensures done { IfOk result (λ begun.
-            IsCarriedOut (Release_session session.0) self.old begun self.new) }
-        ensures next { IfOk result (λ begun. SendsRequestNext self.old begun self.new) }
-        ensures refused { IsRefusedWhere (Release_session session.0) self.old result }
-        ensures err { OnErr result (self.new ≡ self.old) }
-    {
-        self.parts.release_session(alloc, session)
-    }
-
-    /// Sends an End Marker on a bearer (TS 29.281 7.3.2), once for each bearer. A command of the packet gateway.
-    pub fn end_marker(&mut self, alloc: Global, bearer: Teid) -> Result<Begun, CommandFault>
-        ensures done { IfOk result (λ begun.
-            IsCarriedOut (Mark_end bearer.0) self.old begun self.new) }
-        // No request was sent, so there is no TEID of a context.
-        ensures untold { IfOk result (λ begun. begun.teid ≡ None) }
-        ensures queues { self.new.queues ≡ self.old.queues }
-        ensures refused { IsRefusedWhere (Mark_end bearer.0) self.old result }
-        ensures err { OnErr result (self.new ≡ self.old) }
-    {
-        self.parts.end_marker(alloc, bearer)
-    }
-
-    /// Sends a packet of at most 65,000 octets on a bearer, as a G-PDU (TS 29.281 5.1). The gateway does not change.
-    pub fn send_user(
-        &self,
-        alloc: Global,
-        bearer: Teid,
-        payload: &[u8],
-    ) -> Result<Begun, CommandFault>
-        ensures done { IfOk result (λ begun.
-            IsCarriedOut (Send_user bearer.0 payload.now) self.now begun self.now) }
-        // No request was sent, so there is no TEID of a context.
-        ensures untold { IfOk result (λ begun. begun.teid ≡ None) }
-        ensures refused { IsRefusedWhere (Send_user bearer.0 payload.now) self.now result }
-    {
-        self.parts.send_user(alloc, bearer, payload)
     }
 
     /// Takes a datagram, whatever its octets and wherever it comes from (TS 29.274 7, TS 29.281 7). `Memory` if an

@@ -38,7 +38,7 @@ impl<'a> SessionList<'a> {
 impl<'a> Iterator for SessionList<'a> {
     type Item = (Teid, Session);
 
-    ghost next_gives = { YieldsFirstBy (λ e. (e.0.0, e.1)) (λ es. es) };
+    ghost next_gives = { YieldsFirstBy (λ e. e) (λ es. es) };
 
     ghost remaining = { item_count (λ es. es) };
 
@@ -86,7 +86,7 @@ impl<'a> BearerList<'a> {
 impl<'a> Iterator for BearerList<'a> {
     type Item = (Teid, Bearer);
 
-    ghost next_gives = { YieldsFirstBy (λ e. (e.0.0, e.1)) (λ es. es) };
+    ghost next_gives = { YieldsFirstBy (λ e. e) (λ es. es) };
 
     ghost remaining = { item_count (λ es. es) };
 

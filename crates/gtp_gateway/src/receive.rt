@@ -203,7 +203,7 @@ impl Parts {
                 Judged::Replies(reply) => reply,
             },
         };
-        self.reply_user(alloc, reply)
+        self.reply_user(alloc, &reply)
     }
 
     /// The type with this number, if the gateway takes messages of it.

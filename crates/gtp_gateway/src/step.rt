@@ -7,14 +7,26 @@ use crate::receive::restart_counter::Heard;
 use crate::sent::Sent;
 use gtp_machine::{DropReason, Outcome};
 use gtp_values::{Counter, Teid};
+use std::marker::Model;
 
-/// A packet that was accepted.
-#[derive(Clone, Copy, Debug, PartialEq, Eq)]
+/// A packet that was accepted. Contracts see the number of the TEID and the octets.
+#[derive(Debug, Drop)]
 pub struct Accepted<'a> {
     /// The bearer on which it was received, by the gateway's own TEID.
     pub bearer: Teid,
     /// The packet, borrowed from the datagram.
     pub payload: &'a [u8],
+}
+
+impl<'a> Model for Accepted<'a> {
+    ghost use Rattle.std.specs.Prelude.{◌<◌, ◌^◌};
+    ghost use Rattle.gtp_gateway.specs.user.Accepted.{Accepted as Packet};
+
+    ghost Value = { Packet };
+
+    ghost view = { λ a. record { bearer = a.bearer; payload = a.payload.now } };
+
+    ghost invariant = { λ a. a.bearer < 2 ^ 32 };
 }
 
 /// The report on a datagram that was received.

@@ -25,17 +25,18 @@ use Rattle.gtp_user.specs.declared.fault.UserFault.TheVariants as user_faults
 use Rattle.gtp_user.specs.Chain.{Extension}
 use Rattle.gtp_user.specs.Message.{EchoRequest, EchoResponse, ErrorIndication, Notification, EndMarker, Packet, Other}
 use Rattle.gtp_user.specs.Message.{Content as UserContent, MessageValue as UserMessage}
-use Rattle.gtp_json.specs.Tree.{members_of, items_of, member, object_of, array_of, number_of}
+use Rattle.gtp_user.specs.Encoding.{kind_of}
+use Rattle.gtp_json.specs.Tree.{members_of, items_of, member, object_of, array_of}
 use Rattle.gtp_json.specs.Values.{offending_members, cause_members, paa_members, v4_members, v6_members, end_members, value_json, octets_members, named_members, form_members, body_members}
 use Rattle.gtp_json.specs.Control.{element_head, inner_json, group_members, element_members, element_json, named_by, title_members, teid_members, priority_members, header_members, head_members, elements_members, CarriedMembers, MessageMembers, second_member, element_fault_members, fault_members, fault_member}
-use Rattle.gtp_lines.specs.User.{user_name}
+use Rattle.gtp_lines.specs.User.{user_name, body_name}
 use Rattle.gtp_json.specs.User.{named, user_title, target_members, some_member, user_head, extension_json, extensions_members, user_carried, user_members, user_fault_members}
 use Rattle.gtp_json.specs.declared.datagram.Members.{Members}
 use Rattle.gtp_json.specs.declared.datagram.Members.TheVariants.{Plain, All}
 use Rattle.gtp_json.specs.Datagram.{plane_member, ControlMembers, BeforeFault, WithFault, MembersBy}
 use Rattle.gtp_v2.specs.Headed.{Headed}
 use Rattle.gtp_lines.specs.All.{UserHead, head_at, pair_at, user_head_at}
-use Rattle.gtp_json.specs.All.{rest_members, MessageShown, AloneShown, SecondShown, ShownBy, is_named, kind_members, user_shown}
+use Rattle.gtp_json.specs.All.{rest_members, MessageShown, AloneShown, SecondShown, ShownBy, kind_members, user_shown}
 use Rattle.gtp_json.specs.Frames.{path_members, frame_members, held_members, part_members, RestMembers}
 use Rattle.gtp_capture.specs.Packet.{Packet as Captured}
 use Rattle.gtp_capture.specs.Seen.{Seen}
@@ -219,15 +220,10 @@ unfolding member
 some_within name None = tt
 some_within name (Some n) = (omega arith, tt)
 
-user_title_within : (c : UserContent) → Within 7 (user_title c)
+kind_within : (kind : ℕ) (name : Option (List ℕ)) → Within 7 (named kind name)
 unfolding member
-user_title_within EchoRequest = (omega arith, (omega arith, tt))
-user_title_within EchoResponse = (omega arith, (omega arith, tt))
-user_title_within (ErrorIndication teid peer) = (omega arith, (omega arith, tt))
-user_title_within (Notification types) = (omega arith, (omega arith, tt))
-user_title_within (EndMarker teid) = (omega arith, (omega arith, tt))
-user_title_within (Packet teid payload) = (omega arith, (omega arith, tt))
-user_title_within (Other kind teid octets) = (omega arith, tt)
+kind_within kind None = (omega arith, tt)
+kind_within kind (Some name) = (omega arith, (omega arith, tt))
 
 target_within : (c : UserContent) → Within 7 (target_members c)
 unfolding member
@@ -256,7 +252,7 @@ extension_depth e = omega arith
 user_message_within : (m : UserMessage) → Within 7 (user_members m)
 user_message_within m =
     let seq = join 7 (some_member (codes "seq") m.seq) (some_member (codes "npdu") m.npdu) (some_within (codes "seq") m.seq) (some_within (codes "npdu") m.npdu) in
-    let head = join 7 (user_title m.content) _ (user_title_within m.content) (join 7 (target_members m.content) _ (target_within m.content) seq) in
+    let head = join 7 (user_title m.content) _ (kind_within (kind_of m.content) (body_name m.content)) (join 7 (target_members m.content) _ (target_within m.content) seq) in
     let extensions = more 2 7 (extensions_members m.ext) (omega arith) (one 2 (codes "extensions") (array_of (map extension_json m.ext)) (array_depth 1 extension_json m.ext extension_depth)) in
     join 7 (user_head m) _ head (join 7 (extensions_members m.ext) (user_carried m.content) extensions (user_carried_within m.content))
 
@@ -300,14 +296,10 @@ by_within None whole ms shown = more 6 7 ms (omega arith) (alone_within whole ms
 by_within (Some pair) whole ms (a, b, first, second, is) =
     subst (Within 7) (sym is) (join 7 a (second_member b) (more 6 7 a (omega arith) (shown_within pair.0 a first)) (one 7 (codes "second") (object_of b) (object_depth 6 b (second_within pair.1 (head_at pair.1) b second))))
 
-kind_within : (kind : ℕ) → Within 7 (kind_members kind)
-unfolding member
-kind_within kind = chosen_within (is_named kind) 7 (named kind (user_name kind)) (member (codes "type") (number_of kind)) (omega arith, (omega arith, tt)) (omega arith, tt)
-
 user_shown_within : (h : Option UserHead) → Within 7 (user_shown h)
 unfolding member
 user_shown_within None = tt
-user_shown_within (Some h) = join 7 (kind_members h.kind) _ (kind_within h.kind) (omega arith, join 7 (some_member (codes "seq") h.seq) (rest_members h.rest) (some_within (codes "seq") h.seq) (more 6 7 (rest_members h.rest) (omega arith) (left_within h.rest)))
+user_shown_within (Some h) = join 7 (kind_members h.kind) _ (kind_within h.kind (user_name h.kind)) (omega arith, join 7 (some_member (codes "seq") h.seq) (rest_members h.rest) (some_within (codes "seq") h.seq) (more 6 7 (rest_members h.rest) (omega arith) (left_within h.rest)))
 
 -- ---- datagrams
 

@@ -1,11 +1,11 @@
 -- All that can be shown of a datagram as JSON: what `gtp_lines` shows as lines, by members of objects.
-use Rattle.std.specs.Prelude.{◌≡◌, ℕ, ◌==◌, ◌||◌, if◌then◌else◌, Bool, List, [], ◌∷◌, ◌++◌, Option, Some, None, codes}
+use Rattle.std.specs.Prelude.{◌≡◌, ℕ, List, [], ◌∷◌, ◌++◌, Option, Some, None, codes}
 use Rattle.json.specs.Json.{Json}
 use Rattle.gtp_ie.specs.Element.{Element}
 use Rattle.gtp_v2.specs.Headed.{Headed}
 use Rattle.gtp_lines.specs.All.{IsFront, UserHead, head_at, pair_at}
 use Rattle.gtp_lines.specs.User.{user_name}
-use Rattle.gtp_json.specs.Tree.{member, number_of}
+use Rattle.gtp_json.specs.Tree.{member}
 use Rattle.gtp_json.specs.Values.{hexadecimal, teid_value}
 use Rattle.gtp_json.specs.Control.{header_members, elements_members, second_member}
 use Rattle.gtp_json.specs.User.{named, some_member}
@@ -46,13 +46,9 @@ ControlShown octets ms = ShownBy (pair_at octets) (head_at octets) ms
 
 -- ---- the user plane
 
--- whether messages of this type have a name
-abbrev pub is_named : ℕ → Bool
-is_named kind = kind == 1 || (kind == 2 || (kind == 26 || (kind == 31 || (kind == 254 || kind == 255))))
-
 -- the type of a message, and its name where it has one
 abbrev pub kind_members : ℕ → List (List ℕ × Json)
-kind_members kind = if is_named kind then named kind (user_name kind) else member (codes "type") (number_of kind)
+kind_members kind = named kind (user_name kind)
 
 -- what can be shown of a datagram at fault
 abbrev pub user_shown : Option UserHead → List (List ℕ × Json)

@@ -4,25 +4,22 @@ use Rattle.json.specs.Json.{Json, string}
 use Rattle.gtp_user.specs.declared.fault.UserFault.{UserFault}
 use Rattle.gtp_user.specs.declared.fault.UserFault.TheVariants as faults
 use Rattle.gtp_user.specs.Chain.{Extension}
-use Rattle.gtp_user.specs.Message.{Content, EchoRequest, EchoResponse, ErrorIndication, Notification, EndMarker, Packet, Other, MessageValue}
+use Rattle.gtp_user.specs.Message.{Content, ErrorIndication, Notification, EndMarker, Packet, Other, MessageValue}
 use Rattle.gtp_user.specs.Datagram.{IsUserMessage}
+use Rattle.gtp_user.specs.Encoding.{kind_of}
 use Rattle.gtp_values.specs.declared.address.Ip.{Ip}
 use Rattle.gtp_values.specs.Address.{ip_text}
+use Rattle.gtp_lines.specs.User.{body_name}
 use Rattle.gtp_json.specs.Tree.{member, object_of, array_of, number_of}
 use Rattle.gtp_json.specs.Values.{hexadecimal, teid_value, octets_members}
 
--- the type of a message, by its number and its name
-abbrev pub named : ℕ → List ℕ → List (List ℕ × Json)
-named kind name = member (codes "type") (number_of kind) ++ member (codes "name") (string name)
+-- the type of a message, by its number and, where it has one, its name
+abbrev pub named : ℕ → Option (List ℕ) → List (List ℕ × Json)
+named kind None = member (codes "type") (number_of kind)
+named kind (Some name) = member (codes "type") (number_of kind) ++ member (codes "name") (string name)
 
 abbrev pub user_title : Content → List (List ℕ × Json)
-user_title EchoRequest = named 1 (codes "echo-request")
-user_title EchoResponse = named 2 (codes "echo-response")
-user_title (ErrorIndication teid peer) = named 26 (codes "error-indication")
-user_title (Notification types) = named 31 (codes "supported-extensions")
-user_title (EndMarker teid) = named 254 (codes "end-marker")
-user_title (Packet teid payload) = named 255 (codes "g-pdu")
-user_title (Other kind teid octets) = member (codes "type") (number_of kind)
+user_title content = named (kind_of content) (body_name content)
 
 -- the TEID of the header, of the messages of a tunnel and of other types
 abbrev pub target_members : Content → List (List ℕ × Json)

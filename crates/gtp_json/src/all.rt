@@ -6,7 +6,7 @@ ghost use Rattle.gtp_lines.specs.reading.Header.{headed_of};
 ghost use Rattle.gtp_json.specs.reading.Tokens.{written};
 ghost use Rattle.gtp_json.specs.Adds.{Adds};
 ghost use Rattle.gtp_json.specs.Control.{elements_members};
-ghost use Rattle.gtp_json.specs.All.{rest_members, MessageShown, AloneShown, SecondShown, PairShown, ControlShown, is_named, kind_members, user_shown};
+ghost use Rattle.gtp_json.specs.All.{rest_members, MessageShown, AloneShown, SecondShown, PairShown, ControlShown, kind_members, user_shown};
 
 use crate::control::{put_elements, put_head_members};
 use crate::object::Output;
@@ -89,21 +89,11 @@ pub fn put_shown(out: &mut Output, octets: &[u8]) -> Result<(), AllocError>
     }
 }
 
-/// Whether messages of this type of the user plane have a name.
-fn is_named(kind: u8) -> bool
-    ensures { result ≡ is_named kind }
-{
-    kind == 1 || kind == 2 || kind == 26 || kind == 31 || kind == 254 || kind == 255
-}
-
 /// Writes the type of a message of the user plane, and its name where it has one.
 fn put_kind(out: &mut Output, kind: u8) -> Result<(), AllocError>
     ensures ok { OnOk result (out.new ≡ out.old ++ written (kind_members kind)) }
 {
-    if is_named(kind) {
-        return user::put_named(out, kind, user_name(kind));
-    }
-    out.number_member("type", u64::from(kind))
+    user::put_named(out, kind, user_name(kind))
 }
 
 /// Writes what can be shown of a datagram of the user plane that is at fault.

@@ -1,6 +1,6 @@
 //! Control datagrams as JSON.
 
-ghost use Rattle.std.specs.Prelude.{◌≡◌, ◌+◌, ◌++◌, OnOk, option_map, map, codes};
+ghost use Rattle.std.specs.Prelude.{◌≡◌, ◌+◌, ◌++◌, OnOk, map, codes};
 ghost use Rattle.std.specs.List.{flat_map};
 ghost use Rattle.json.specs.Tree.{json_tokens};
 ghost use Rattle.gtp_ie.specs.Element.{elements_of};
@@ -146,7 +146,7 @@ fn put_title(out: &mut Output, kind: u8) -> Result<(), AllocError>
 #[tactic(auto, using(crate::proofs::Tokens::appending))]
 fn put_some_teid(out: &mut Output, teid: Option<Teid>) -> Result<(), AllocError>
     ensures ok { OnOk result
-        (out.new ≡ out.old ++ written (teid_members (option_map (λ t. t.0) teid))) }
+        (out.new ≡ out.old ++ written (teid_members teid)) }
 {
     match teid {
         Some(teid) => out.display_member("teid", &teid),
@@ -175,7 +175,7 @@ pub fn put_head_members(
     priority: Option<Below<16>>,
 ) -> Result<(), AllocError>
     ensures ok { OnOk result (out.new ≡ out.old
-        ++ written (header_members kind (option_map (λ t. t.0) teid) seq priority)) }
+        ++ written (header_members kind teid seq priority)) }
 {
     put_title(out, kind)?;
     put_some_teid(out, teid)?;

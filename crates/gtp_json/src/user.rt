@@ -1,6 +1,6 @@
 //! Datagrams of the user plane as JSON.
 
-ghost use Rattle.std.specs.Prelude.{◌≡◌, ◌++◌, OnOk};
+ghost use Rattle.std.specs.Prelude.{◌≡◌, ◌++◌, OnOk, option_map};
 ghost use Rattle.std.specs.List.{flat_map};
 ghost use Rattle.json.specs.Tree.{json_tokens};
 ghost use Rattle.gtp_user.specs.Chain.{extension_of};
@@ -11,32 +11,29 @@ ghost use Rattle.gtp_json.specs.User.{named, user_title, target_members, some_me
 
 use crate::object::Output;
 use crate::values::put_octets;
+use gtp_lines::body_name;
 use gtp_user::{ExtensionHeader, Extensions, UserBody, UserFault, UserMessage};
 use gtp_values::{Ip, Teid};
 use std::alloc::AllocError;
 
-/// Writes the type of a message, by its number and its name.
+/// Writes the type of a message, by its number and, where it has one, its name.
 #[tactic(auto, using(crate::proofs::Tokens::appending))]
-pub fn put_named(out: &mut Output, kind: u8, name: &str) -> Result<(), AllocError>
-    ensures ok { OnOk result (out.new ≡ out.old ++ written (named kind name.now)) }
+pub fn put_named(out: &mut Output, kind: u8, name: Option<&str>) -> Result<(), AllocError>
+    ensures ok { OnOk result
+        (out.new ≡ out.old ++ written (named kind (option_map (λ n. n.now) name.entry))) }
 {
     out.number_member("type", u64::from(kind))?;
-    out.string_member("name", name)
+    match name {
+        Some(name) => out.string_member("name", name),
+        None => Ok(()),
+    }
 }
 
 /// Writes the type of a message.
 fn put_title(out: &mut Output, body: &UserBody) -> Result<(), AllocError>
     ensures ok { OnOk result (out.new ≡ out.old ++ written (user_title (content_of body.now))) }
 {
-    match body {
-        UserBody::EchoRequest => put_named(out, 1, "echo-request"),
-        UserBody::EchoResponse => put_named(out, 2, "echo-response"),
-        UserBody::ErrorIndication { .. } => put_named(out, 26, "error-indication"),
-        UserBody::Notification { .. } => put_named(out, 31, "supported-extensions"),
-        UserBody::EndMarker { .. } => put_named(out, 254, "end-marker"),
-        UserBody::Packet { .. } => put_named(out, 255, "g-pdu"),
-        UserBody::Other { kind, .. } => out.number_member("type", u64::from(*kind)),
-    }
+    put_named(out, body.kind(), body_name(body))
 }
 
 /// Writes the TEID of the header, of the messages of a tunnel and of other types.
@@ -112,7 +109,7 @@ fn put_extensions(out: &mut Output, extensions: &Extensions) -> Result<(), Alloc
 /// Writes the TEID and the address of a packet that found no context.
 #[tactic(auto, using(crate::proofs::Tokens::appending))]
 fn put_indication(out: &mut Output, teid: Teid, peer: &Ip) -> Result<(), AllocError>
-    ensures ok { OnOk result (out.new ≡ out.old ++ written (indication_members teid.0 peer.now)) }
+    ensures ok { OnOk result (out.new ≡ out.old ++ written (indication_members teid peer.now)) }
 {
     out.display_member("teid_data", &teid)?;
     out.display_member("peer", peer)

@@ -1,44 +1,45 @@
 -- The lines of a datagram of the user plane.
-use Rattle.std.specs.Prelude.{◌≡◌, ℕ, ◌==◌, if◌then◌else◌, Bool, true, false, List, [], ◌∷◌, ◌++◌, Option, Some, None, codes, decimal}
+use Rattle.std.specs.Prelude.{◌≡◌, ℕ, ◌==◌, if◌then◌else◌, Bool, true, false, List, [], ◌∷◌, ◌++◌, Option, Some, None, unwrap_or, codes, decimal}
 use Rattle.std.specs.List.{flat_map}
 use Rattle.hex.specs.Hex.{encode_lower}
 use Rattle.gtp_user.specs.declared.fault.UserFault.{UserFault}
 use Rattle.gtp_user.specs.declared.fault.UserFault.TheVariants as faults
+use Rattle.gtp_user.specs.declared.kinds.TheConstants.{ECHO_REQUEST, ECHO_RESPONSE, ERROR_INDICATION, SUPPORTED_EXTENSION_HEADERS_NOTIFICATION, END_MARKER, G_PDU}
 use Rattle.gtp_user.specs.Codes.{number_of}
 use Rattle.gtp_user.specs.Chain.{Extension}
-use Rattle.gtp_user.specs.Message.{Content, EchoRequest, EchoResponse, ErrorIndication, Notification, EndMarker, Packet, Other, MessageValue}
+use Rattle.gtp_user.specs.Message.{Content, ErrorIndication, Notification, EndMarker, Packet, Other, MessageValue}
 use Rattle.gtp_user.specs.Datagram.{IsUserMessage, IsUserFault}
+use Rattle.gtp_user.specs.Encoding.{kind_of}
 use Rattle.gtp_values.specs.Address.{ip_text}
 use Rattle.gtp_values.specs.Teid.{teid_text}
 use Rattle.gtp_lines.specs.Text.{octets_text}
 use Rattle.gtp_lines.specs.Values.{field_shown}
 
--- the type of a message, by its number and its name
-abbrev pub named : ℕ → List ℕ → List ℕ
-named kind name = field_shown (codes "gtpu type ") kind ++ (codes " " ++ name)
-
--- the name of a type of message
-abbrev pub user_name : ℕ → List ℕ
+-- the name of a type of message that has a form of its own
+abbrev pub user_name : ℕ → Option (List ℕ)
 user_name kind =
-    if kind == 1 then codes "echo-request"
-    else (if kind == 2 then codes "echo-response"
-    else (if kind == 26 then codes "error-indication"
-    else (if kind == 31 then codes "supported-extensions"
-    else (if kind == 254 then codes "end-marker"
-    else (if kind == 255 then codes "g-pdu" else codes "other")))))
+    if kind == ECHO_REQUEST then Some (codes "echo-request")
+    else (if kind == ECHO_RESPONSE then Some (codes "echo-response")
+    else (if kind == ERROR_INDICATION then Some (codes "error-indication")
+    else (if kind == SUPPORTED_EXTENSION_HEADERS_NOTIFICATION then Some (codes "supported-extensions")
+    else (if kind == END_MARKER then Some (codes "end-marker")
+    else (if kind == G_PDU then Some (codes "g-pdu") else None)))))
+
+-- the name of a message, that of its type; a message of another type has none, whatever its number
+abbrev pub body_name : Content → Option (List ℕ)
+body_name (Other kind teid octets) = None
+body_name content = user_name (kind_of content)
+
+-- the type of a message, by its number and its name
+abbrev pub named : ℕ → Option (List ℕ) → List ℕ
+named kind name = field_shown (codes "gtpu type ") kind ++ (codes " " ++ unwrap_or name (codes "other"))
 
 -- the same by its number alone
 abbrev pub kind_title : ℕ → List ℕ
 kind_title kind = named kind (user_name kind)
 
 abbrev pub user_title : Content → List ℕ
-user_title EchoRequest = kind_title 1
-user_title EchoResponse = kind_title 2
-user_title (ErrorIndication teid peer) = kind_title 26
-user_title (Notification types) = kind_title 31
-user_title (EndMarker teid) = kind_title 254
-user_title (Packet teid payload) = kind_title 255
-user_title (Other kind teid octets) = named kind (codes "other")
+user_title content = named (kind_of content) (body_name content)
 
 -- the TEID of the header, of the messages of a tunnel and of other types
 abbrev pub target_shown : Content → List ℕ

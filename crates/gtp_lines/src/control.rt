@@ -101,7 +101,7 @@ pub fn message_name(kind: u8) -> &'static str
 #[tactic(auto, using(crate::proofs::Appends::appending))]
 pub fn put_some_teid(out: &mut Vec<u8>, teid: Option<Teid>) -> Result<(), AllocError>
     ensures ok { OnOk result
-        (out.new.items ≡ out.old.items ++ teid_shown (option_map (λ t. t.0) teid)) }
+        (out.new.items ≡ out.old.items ++ teid_shown teid) }
 {
     let Some(teid) = teid else {
         return Ok(());
@@ -140,7 +140,7 @@ pub fn put_first_line(
     priority: Option<Below<16>>,
 ) -> Result<(), AllocError>
     ensures ok { OnOk result (out.new.items
-        ≡ out.old.items ++ first_line kind (option_map (λ t. t.0) teid) seq priority) }
+        ≡ out.old.items ++ first_line kind teid seq priority) }
 {
     put_title(out, kind)?;
     put_some_teid(out, teid)?;

@@ -6,7 +6,8 @@ ghost use Rattle.gtp_lines.specs.All.{after_no_teid, after_teid, head_of as spec
 ghost use Rattle.gtp_lines.specs.reading.Header.{headed_of, pair_of};
 
 use byteorder::{BigEndian, ByteOrder};
-use gtp_values::{Below, Seq, Teid};
+use gtp_v2::flags::{MESSAGE_PRIORITY, PIGGYBACKING, TEID, VERSION_2};
+use gtp_values::{Below, Seq, Teid, has_bit};
 
 /// What the octets before the elements say, and the octets after them.
 #[derive(Clone, Copy)]
@@ -21,7 +22,7 @@ pub struct Header<'a> {
 impl Header<'_> {
     /// The place of the rest in the message.
     pub fn place(&self) -> usize
-        ensures place { result ≡ place_of (option_map (λ t. t.0) self.now.teid) }
+        ensures place { result ≡ place_of self.now.teid }
         ensures few { result ≤ 12 }
     {
         match self.teid {
@@ -77,11 +78,11 @@ fn priority_in(ranked: bool, last: u8) -> Option<Below<16>>
 fn head_of(first: u8, kind: u8, following: &[u8]) -> Option<Header<'_>>
     ensures { option_map headed_of result ≡ spec_head_of first kind following.now }
 {
-    if first >> 5 != 2 {
+    if first >> 5 != VERSION_2 >> 5 {
         return None;
     }
-    if first >> 3 & 1 == 1 {
-        with_teid(first >> 2 & 1 == 1, kind, following)
+    if has_bit(first, TEID) {
+        with_teid(has_bit(first, MESSAGE_PRIORITY), kind, following)
     } else {
         without_teid(kind, following)
     }
@@ -101,7 +102,7 @@ pub fn head_at(octets: &[u8]) -> Option<Header<'_>>
 fn first_of(first: u8, kind: u8, size: usize, held: &[u8]) -> Option<(Header<'_>, &[u8])>
     ensures { option_map pair_of result ≡ spec_first_of first kind size held.now }
 {
-    if first >> 4 & 1 == 0 {
+    if !has_bit(first, PIGGYBACKING) {
         return None;
     }
     if held.len() < size {

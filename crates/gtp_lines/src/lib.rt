@@ -24,7 +24,7 @@ pub use user_header::{UserHeader, user_head_at};
 
 /// The pieces of these lines, for other lines.
 pub use control::{put_fault_line, put_some_teid};
-pub use user::{put_some, put_target, put_user_fault_line, user_name};
+pub use user::{body_name, put_some, put_target, put_user_fault_line, user_name};
 pub use values::put_field;
 
 /// What the signatures here name of the crate below.

@@ -56,7 +56,7 @@ pub fn put_octets(out: &mut Vec<u8>, octets: &[u8]) -> Result<(), AllocError>
 
 /// Appends a tunnel endpoint identifier.
 pub fn put_teid(out: &mut Vec<u8>, teid: Teid) -> Result<(), AllocError>
-    ensures ok { OnOk result (out.new.items ≡ out.old.items ++ teid_text teid.0) }
+    ensures ok { OnOk result (out.new.items ≡ out.old.items ++ teid_text teid) }
 {
     put_hex(out, &teid.0.to_be_bytes())
 }

@@ -1,61 +1,68 @@
 //! The lines of datagrams of the user plane.
 
-ghost use Rattle.std.specs.Prelude.{◌≡◌, ◌++◌, OnOk};
+ghost use Rattle.std.specs.Prelude.{◌≡◌, ◌++◌, OnOk, option_map};
 ghost use Rattle.std.specs.List.{flat_map};
 ghost use Rattle.gtp_user.specs.Chain.{extension_of};
 ghost use Rattle.gtp_user.specs.Message.{content_of, message_value};
-ghost use Rattle.gtp_lines.specs.User.{named, user_name as spec_user_name, kind_title, user_title, target_shown, some_shown, user_head_line, extension_line, octets_line, carried_shown, user_fault_detail, user_fault_shown, user_fault_line, user_lines};
+ghost use Rattle.gtp_lines.specs.User.{named, user_name as spec_user_name, body_name as spec_body_name, kind_title, user_title, target_shown, some_shown, user_head_line, extension_line, octets_line, carried_shown, user_fault_detail, user_fault_shown, user_fault_line, user_lines};
 
 use crate::text::{put, put_display, put_hex, put_octets, put_teid};
 use crate::values::put_field;
+use gtp_user::kinds::{
+    ECHO_REQUEST, ECHO_RESPONSE, END_MARKER, ERROR_INDICATION, G_PDU,
+    SUPPORTED_EXTENSION_HEADERS_NOTIFICATION,
+};
 use gtp_user::{ExtensionHeader, Extensions, UserBody, UserFault, UserMessage};
 use std::alloc::AllocError;
 
+/// The name of a type of message that has a form of its own.
+pub fn user_name(kind: u8) -> Option<&'static str>
+    ensures { option_map (λ name. name.now) result ≡ spec_user_name kind }
+{
+    match kind {
+        ECHO_REQUEST => Some("echo-request"),
+        ECHO_RESPONSE => Some("echo-response"),
+        ERROR_INDICATION => Some("error-indication"),
+        SUPPORTED_EXTENSION_HEADERS_NOTIFICATION => Some("supported-extensions"),
+        END_MARKER => Some("end-marker"),
+        G_PDU => Some("g-pdu"),
+        _ => None,
+    }
+}
+
+/// The name of a message, that of its type; a message of another type has none, whatever its number.
+pub fn body_name(body: &UserBody) -> Option<&'static str>
+    ensures { option_map (λ name. name.now) result ≡ spec_body_name (content_of body.now) }
+{
+    match body {
+        UserBody::Other { .. } => None,
+        _ => user_name(body.kind()),
+    }
+}
+
 /// Appends the type of a message, by its number and its name.
 #[tactic(auto, using(crate::proofs::Appends::appending))]
-fn put_named(out: &mut Vec<u8>, kind: u8, name: &[u8]) -> Result<(), AllocError>
-    ensures ok { OnOk result (out.new.items ≡ out.old.items ++ named kind name.now) }
+fn put_named(out: &mut Vec<u8>, kind: u8, name: Option<&str>) -> Result<(), AllocError>
+    ensures ok { OnOk result
+        (out.new.items ≡ out.old.items ++ named kind (option_map (λ n. n.now) name.entry)) }
 {
     put_field(out, b"gtpu type ", u64::from(kind))?;
     put(out, b" ")?;
-    put(out, name)
-}
-
-/// The name of a type of message.
-pub fn user_name(kind: u8) -> &'static str
-    ensures { result.now ≡ spec_user_name kind }
-{
-    match kind {
-        1 => "echo-request",
-        2 => "echo-response",
-        26 => "error-indication",
-        31 => "supported-extensions",
-        254 => "end-marker",
-        255 => "g-pdu",
-        _ => "other",
-    }
+    put(out, name.unwrap_or("other").as_bytes())
 }
 
 /// Appends the type of a message by its number alone.
 pub fn put_kind_title(out: &mut Vec<u8>, kind: u8) -> Result<(), AllocError>
     ensures ok { OnOk result (out.new.items ≡ out.old.items ++ kind_title kind) }
 {
-    put_named(out, kind, user_name(kind).as_bytes())
+    put_named(out, kind, user_name(kind))
 }
 
 /// Appends the type of a message.
 fn put_title(out: &mut Vec<u8>, body: &UserBody) -> Result<(), AllocError>
     ensures ok { OnOk result (out.new.items ≡ out.old.items ++ user_title (content_of body.now)) }
 {
-    match body {
-        UserBody::EchoRequest => put_kind_title(out, 1),
-        UserBody::EchoResponse => put_kind_title(out, 2),
-        UserBody::ErrorIndication { .. } => put_kind_title(out, 26),
-        UserBody::Notification { .. } => put_kind_title(out, 31),
-        UserBody::EndMarker { .. } => put_kind_title(out, 254),
-        UserBody::Packet { .. } => put_kind_title(out, 255),
-        UserBody::Other { kind, .. } => put_named(out, *kind, b"other"),
-    }
+    put_named(out, body.kind(), body_name(body))
 }
 
 /// Appends the TEID of the header, of the messages of a tunnel and of other types.

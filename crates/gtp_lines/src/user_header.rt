@@ -4,7 +4,8 @@ ghost use Rattle.std.specs.Prelude.{◌≡◌, option_map};
 ghost use Rattle.gtp_lines.specs.All.{numbered_head, user_head_at as spec_user_head_at};
 ghost use Rattle.gtp_lines.specs.reading.Header.{user_head_of};
 
-use gtp_values::Teid;
+use gtp_user::flags::{GTP, PROTOCOL_TYPE, SEQUENCE_NUMBER};
+use gtp_values::{Teid, has_bit};
 
 /// What the first octets of a datagram of the user plane say, and those after them.
 #[derive(Clone, Copy)]
@@ -17,7 +18,7 @@ pub struct UserHeader<'a> {
 
 /// The header after its first eight octets, with a sequence number where it is flagged and there.
 fn numbered(flagged: bool, kind: u8, teid: Teid, octets: &[u8]) -> UserHeader<'_>
-    ensures { user_head_of result ≡ numbered_head flagged kind teid.0 octets.now }
+    ensures { user_head_of result ≡ numbered_head flagged kind teid octets.now }
 {
     match octets {
         [high, low, _, _, rest @ ..] if flagged => UserHeader {
@@ -42,9 +43,9 @@ pub fn user_head_at(octets: &[u8]) -> Option<UserHeader<'_>>
     let [first, kind, _, _, a, b, c, d, rest @ ..] = octets else {
         return None;
     };
-    if first >> 4 != 3 {
+    if first >> PROTOCOL_TYPE != GTP >> PROTOCOL_TYPE {
         return None;
     }
     let teid = Teid(u32::from_be_bytes([*a, *b, *c, *d]));
-    Some(numbered(*first >> 1 & 1 == 1, *kind, teid, rest))
+    Some(numbered(has_bit(*first, SEQUENCE_NUMBER), *kind, teid, rest))
 }

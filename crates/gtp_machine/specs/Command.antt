@@ -89,18 +89,18 @@ pub record BeginsSession (old : Node) (spec : Specification) (e : Effect) : Type
       (Some control) (session_begun old control user (session_request old spec control user number))
 
 -- the requests to delete a session: of the serving gateway, and of the packet gateway
-abbrev pub deletion_request : Session → ℕ → DeleteSessionRequest
-deletion_request s number = record { header = written s.remote; number = number; linked = Some s.subscriber.identity }
+abbrev pub delete_session_request_of : Session → ℕ → DeleteSessionRequest
+delete_session_request_of s number = record { header = written s.remote; number = number; linked = Some s.subscriber.identity }
 
-abbrev pub release_request : Session → ℕ → DeleteBearerRequest
-release_request s number = record { header = written s.remote; number = number; linked = Some s.subscriber.identity; identities = [] }
+abbrev pub delete_bearer_request_of_session : Session → ℕ → DeleteBearerRequest
+delete_bearer_request_of_session s number = record { header = written s.remote; number = number; linked = Some s.subscriber.identity; identities = [] }
 
 -- A session and its bearers are closing, and the serving gateway asks to delete it (7.2.9.1).
 pub record ClosesSession (old : Node) (session : ℕ) (at : Session) (e : Effect) : Type 0 where
   pub number : ℕ
   pub number_free : IsFreeNumber old number
   pub gives : e ≡ asks old number
-      (record { session = Some session; bearer = None; request = Delete_session_request (deletion_request at number) })
+      (record { session = Some session; bearer = None; request = Delete_session_request (delete_session_request_of at number) })
       (Some session) (session_closing old session at)
 
 -- A session and its bearers are closing, and the packet gateway asks to delete its default bearer (7.2.9.2).
@@ -108,7 +108,7 @@ pub record ReleasesSession (old : Node) (session : ℕ) (at : Session) (e : Effe
   pub number : ℕ
   pub number_free : IsFreeNumber old number
   pub gives : e ≡ asks old number
-      (record { session = Some session; bearer = None; request = Delete_bearer_request (release_request at number) })
+      (record { session = Some session; bearer = None; request = Delete_bearer_request (delete_bearer_request_of_session at number) })
       (Some session) (session_closing old session at)
 
 -- the Create Bearer Request for a session, with this TEID and this number
@@ -157,15 +157,15 @@ pub record NamesBearer (node : Node) (session identity : ℕ) : Type 0 where
   pub has : at.bearer.identity ≡ Some identity
 
 -- the request to delete the dedicated bearer with this identity
-abbrev pub removal_request : Session → ℕ → ℕ → DeleteBearerRequest
-removal_request s number identity = record { header = written s.remote; number = number; linked = None; identities = identity ∷ [] }
+abbrev pub delete_bearer_request_of_bearer : Session → ℕ → ℕ → DeleteBearerRequest
+delete_bearer_request_of_bearer s number identity = record { header = written s.remote; number = number; linked = None; identities = identity ∷ [] }
 
 -- A dedicated bearer is closing, and the packet gateway asks to delete it (7.2.9.2).
 pub record ClosesBearer (old : Node) (session : ℕ) (at : Session) (identity bearer : ℕ) (b : Bearer) (e : Effect) : Type 0 where
   pub number : ℕ
   pub number_free : IsFreeNumber old number
   pub gives : e ≡ asks old number
-      (record { session = Some session; bearer = Some bearer; request = Delete_bearer_request (removal_request at number identity) })
+      (record { session = Some session; bearer = Some bearer; request = Delete_bearer_request (delete_bearer_request_of_bearer at number identity) })
       (Some bearer) (record old { bearers = insert old.bearers bearer (record b { state = Closing }) })
 
 -- An Echo Request is sent (7.1.1).

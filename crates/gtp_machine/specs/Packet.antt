@@ -24,7 +24,7 @@ use Rattle.gtp_machine.specs.Input.{Came_to, Effect, Opened, Closed, Clash, Reje
 use Rattle.gtp_machine.specs.Choice.{IsFree, HasDraws, IsFreeNumber, IsGiven, CanGive, IsServed, IsIdentity, IsUnused, HasSessionRoom}
 use Rattle.gtp_machine.specs.Choice.{HasPendingRoom, HasSession, HasBearer, HasPending}
 use Rattle.gtp_machine.specs.Removal.{without_session}
-use Rattle.gtp_machine.specs.Response.{Named, finishing, EchoAnswered}
+use Rattle.gtp_machine.specs.Response.{Named, finishing, EndsRequest, EchoAnswered}
 use Rattle.gtp_machine.specs.Command.{bearer_request, create_bearer_asked}
 use Rattle.gtp_machine.specs.Answer.{UnlessFull, answered, making, echoed, request_refused}
 
@@ -141,8 +141,8 @@ IsLinkedTo None s = Unit {0}
 IsLinkedTo (Some identity) s = identity ≡ s.subscriber.identity
 
 -- the response that the session is removed
-abbrev pub deletion_response : Node → DeleteSessionRequest → Session → DeleteSessionResponse
-deletion_response node d s =
+abbrev pub delete_session_response_of : Node → DeleteSessionRequest → Session → DeleteSessionResponse
+delete_session_response_of node d s =
     record { header = written s.remote; number = d.number; cause = cause_of REQUEST_ACCEPTED; recovery = Some node.counter }
 
 module _ (request : Arrival) (d : DeleteSessionRequest) where
@@ -155,7 +155,7 @@ module _ (request : Arrival) (d : DeleteSessionRequest) where
   DeleteSessionJudged old e =
       Unless (HasSession old d.header) (e ≡ delete_session_refused 0 CONTEXT_NOT_FOUND old) (λ at.
       Unless (IsLinkedTo d.linked at.session) (e ≡ delete_session_refused (written at.session.remote) CONTEXT_NOT_FOUND old) (λ linked.
-      e ≡ answered request (Delete_session_response (deletion_response old d at.session)) REQUEST_ACCEPTED (without_session old d.header)))
+      e ≡ answered request (Delete_session_response (delete_session_response_of old d at.session)) REQUEST_ACCEPTED (without_session old d.header)))
 
   -- A Delete Session Request.
   abbrev pub DeleteSessionAsked : Node → Effect → Type 0
@@ -216,10 +216,7 @@ pub record FitsDeleteBearer (p : PendingRequest) (d : DeleteBearerResponse) : Ty
 
 -- A Delete Bearer Response (7.2.10.2): with any cause the closing session or bearer goes.
 abbrev pub DeleteBearerAnswered : DeleteBearerResponse → Node → Effect → Type 0
-DeleteBearerAnswered d old e =
-    Unless (HasPending old d.number) (e ≡ dropped old NoPending) (λ at.
-    Unless (FitsDeleteBearer at.pending d) (e ≡ dropped old Mismatch) (λ fits.
-    e ≡ finishing old d.number at.pending Closed))
+DeleteBearerAnswered d old e = EndsRequest old d.number (λ at. FitsDeleteBearer at.pending d) Closed e
 
 -- what the packet gateway does with a message of a kind that it takes, once the peer's counter was heard
 abbrev pub PacketTakes : Arrival → Message → Node → Effect → Type 0

@@ -1,13 +1,13 @@
 -- How datagrams read: what the decoders of the two planes tell, as the machine sees it.
 use Rattle.std.specs.Prelude.{◌≡◌, ◌⊎◌, ◌↔◌, ℕ, ◌-◌, ◌<◌, ◌/◌, ◌==◌, nat_lt, Bool, true, false, List, [], ◌∷◌, length, take, Option, Some}
-use Rattle.std.specs.Prelude.{None, option_map, unwrap_or, Result, Ok, Err, if◌then◌else◌}
+use Rattle.std.specs.Prelude.{None, unwrap_or, Result, Ok, Err, if◌then◌else◌}
 use Rattle.gtp_values.specs.declared.identifiers.Teid.{Teid}
 use Rattle.gtp_ie.specs.declared.fault.IeFault.{IeFault}
 use Rattle.gtp_ie.specs.declared.fault.IeFault.TheVariants as elements
 use Rattle.gtp_v2.specs.declared.message.Message as decoded
 use Rattle.gtp_v2.specs.declared.body.Body.TheVariants as bodies
-use Rattle.gtp_v2.specs.declared.body.create_session_request.CreateSessionRequest as session_requests
-use Rattle.gtp_v2.specs.declared.body.create_bearer_request.CreateBearerRequest as bearer_requests
+use Rattle.gtp_v2.specs.declared.body.create_session_request.CreateSessionRequest as create_session_requests
+use Rattle.gtp_v2.specs.declared.body.create_bearer_request.CreateBearerRequest as create_bearer_requests
 use Rattle.gtp_v2.specs.declared.body.delete_bearer_response.RemovalResponseContext.{RemovalResponseContext}
 use Rattle.gtp_v2.specs.Codes.{number_of, short_number, length_number, element_number}
 use Rattle.gtp_v2.specs.declared.fault.Head.{Head}
@@ -40,7 +40,7 @@ use Rattle.gtp_machine.specs.Answer.{fault_number}
 
 -- the TEID of a header (5.1), 0 where it has none
 abbrev pub header_in : Option Teid → ℕ
-header_in teid = written (option_map (λ t. t.0) teid)
+header_in teid = written teid
 
 -- a bearer context of a Delete Bearer Response (7.2.10.2, table 7.2.10.2-2)
 abbrev pub removed_bearer : RemovalResponseContext → RemovedBearer
@@ -160,10 +160,10 @@ pair_cut_fault count front =
 abbrev pub user_body_message : Option ℕ → UserBody → Message
 user_body_message number user_bodies.EchoRequest = User_echo_request (unwrap_or number 0)
 user_body_message number user_bodies.EchoResponse = User_echo_response (unwrap_or number 0)
-user_body_message number (user_bodies.ErrorIndication peer teid) = Error_indication teid.0 peer
+user_body_message number (user_bodies.ErrorIndication peer teid) = Error_indication teid peer
 user_body_message number (user_bodies.Notification types) = Supported_extensions types.now
-user_body_message number (user_bodies.EndMarker teid) = End_marker teid.0
-user_body_message number (user_bodies.Packet teid payload) = Packet_data teid.0 payload.now
+user_body_message number (user_bodies.EndMarker teid) = End_marker teid
+user_body_message number (user_bodies.Packet teid payload) = Packet_data teid payload.now
 user_body_message number (user_bodies.Other kind teid octets) = Other_user kind
 
 -- a user plane message (5.1); its N-PDU number and its extension headers are not looked at
@@ -208,15 +208,15 @@ abbrev pub user_cut_fault : ℕ → ℕ
 user_cut_fault count = if nat_lt count 8 then user_codes.short_number else user_codes.length_number
 
 -- Each Create Session Request that is decoded has a bearer context, and reads as one, with what its fields say.
-abbrev pub SessionRequestReads : Type 0
-SessionRequestReads =
-    (octets : List ℕ) (m : decoded.Message) (q : session_requests.CreateSessionRequest) → IsMessage octets (message_value m) →
+abbrev pub CreateSessionRequestReads : Type 0
+CreateSessionRequestReads =
+    (octets : List ℕ) (m : decoded.Message) (q : create_session_requests.CreateSessionRequest) → IsMessage octets (message_value m) →
     m.body ≡ bodies.CreateSessionRequest q → (said : CreateSessionRequest) × (control_message m ≡ Create_session_request said)
 
 -- Each Create Bearer Request that is decoded has a bearer context, and reads as one, with what its fields say.
-abbrev pub BearerRequestReads : Type 0
-BearerRequestReads =
-    (octets : List ℕ) (m : decoded.Message) (q : bearer_requests.CreateBearerRequest) → IsMessage octets (message_value m) →
+abbrev pub CreateBearerRequestReads : Type 0
+CreateBearerRequestReads =
+    (octets : List ℕ) (m : decoded.Message) (q : create_bearer_requests.CreateBearerRequest) → IsMessage octets (message_value m) →
     m.body ≡ bodies.CreateBearerRequest q → (said : CreateBearerRequest) × (control_message m ≡ Create_bearer_request said)
 
 -- What a decoded message of the user plane reads as is what it carries.

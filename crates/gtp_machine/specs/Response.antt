@@ -17,6 +17,13 @@ Named p header cause = (p.session ≡ Some header) ⊎ ((header ≡ 0) × (cause
 abbrev pub finishing : Node → ℕ → PendingRequest → Outcome → Effect
 finishing old number p outcome = record { out = nothing; outcome = Came_to outcome; node = finished old number p }
 
+-- A response that only ends its request, which is the pending one with its number: it is dropped where there is none, or where it does not fit that.
+abbrev pub EndsRequest : (old : Node) (number : ℕ) → (HasPending old number → Type 0) → Outcome → Effect → Type 0
+EndsRequest old number Fits outcome e =
+    Unless (HasPending old number) (e ≡ dropped old NoPending) (λ at.
+    Unless (Fits at) (e ≡ dropped old Mismatch) (λ fits.
+    e ≡ finishing old number at.pending outcome))
+
 -- the request is an Echo Request
 pub record IsEcho (p : PendingRequest) : Type 0 where
   pub request : Echo
@@ -24,7 +31,4 @@ pub record IsEcho (p : PendingRequest) : Type 0 where
 
 -- An Echo Response: its number and kind are enough.
 abbrev pub EchoAnswered : Echo → Node → Effect → Type 0
-EchoAnswered a old e =
-    Unless (HasPending old a.number) (e ≡ dropped old NoPending) (λ at.
-    Unless (IsEcho at.pending) (e ≡ dropped old Mismatch) (λ fits.
-    e ≡ finishing old a.number at.pending Alive))
+EchoAnswered a old e = EndsRequest old a.number (λ at. IsEcho at.pending) Alive e

@@ -16,7 +16,7 @@ use Rattle.gtp_machine.specs.Node.{Pending, Active, Session, Bearer, Dedicated, 
 use Rattle.gtp_machine.specs.Input.{Came_to, Effect, Opened, Closed, Rejected, nothing, dropped, NoPending, Mismatch, ContextNotActive, Unexpected}
 use Rattle.gtp_machine.specs.Choice.{IsFree, HasDraws, IsFreeIdentity, HasFreeIdentity, HasSession, HasBearer, HasPending}
 use Rattle.gtp_machine.specs.Removal.{without_session, without_bearer}
-use Rattle.gtp_machine.specs.Response.{Named, finishing, EchoAnswered}
+use Rattle.gtp_machine.specs.Response.{Named, finishing, EndsRequest, EchoAnswered}
 use Rattle.gtp_machine.specs.Command.{NamesBearer}
 use Rattle.gtp_machine.specs.Answer.{UnlessFull, answered, making, echoed, request_refused}
 
@@ -78,10 +78,7 @@ pub record FitsDeleteSession (p : PendingRequest) (d : DeleteSessionResponse) : 
 
 -- A Delete Session Response (7.2.10.1): with any cause the closing session goes.
 abbrev pub DeleteSessionAnswered : DeleteSessionResponse → Node → Effect → Type 0
-DeleteSessionAnswered d old e =
-    Unless (HasPending old d.number) (e ≡ dropped old NoPending) (λ at.
-    Unless (FitsDeleteSession at.pending d) (e ≡ dropped old Mismatch) (λ fits.
-    e ≡ finishing old d.number at.pending Closed))
+DeleteSessionAnswered d old e = EndsRequest old d.number (λ at. FitsDeleteSession at.pending d) Closed e
 
 -- the answer that makes a bearer: any free TEID and any free identity, and the request's F-TEID as it came
 abbrev pub bearer_response : Node → CreateBearerRequest → Session → ℕ → ℕ → CreateBearerResponse
@@ -174,8 +171,8 @@ any_removed [] = false
 any_removed (context ∷ rest) = (context.cause.value == REQUEST_ACCEPTED) || any_removed rest
 
 -- the cause of the response: all were removed, some were, or none was
-abbrev pub removal_cause : List RemovedBearer → ℕ
-removal_cause contexts =
+abbrev pub delete_bearer_cause : List RemovedBearer → ℕ
+delete_bearer_cause contexts =
     if all_removed contexts then REQUEST_ACCEPTED
     else if any_removed contexts then REQUEST_ACCEPTED_PARTIALLY
     else CONTEXT_NOT_FOUND
@@ -195,7 +192,7 @@ abbrev pub bearers_removed : Node → DeleteBearerRequest → Session → List R
 bearers_removed node d s contexts = record {
   header = written s.remote;
   number = d.number;
-  cause = cause_of (removal_cause contexts);
+  cause = cause_of (delete_bearer_cause contexts);
   linked = None;
   contexts = contexts;
   recovery = Some node.counter;
@@ -206,7 +203,7 @@ pub record RemovesBearers (request : Arrival) (d : DeleteBearerRequest) (old : N
   pub contexts : List RemovedBearer
   pub left : Node
   pub removes : RemovesEach d.header d.identities old contexts left
-  pub gives : e ≡ answered request (Delete_bearer_response (bearers_removed old d s contexts)) (removal_cause contexts) left
+  pub gives : e ≡ answered request (Delete_bearer_response (bearers_removed old d s contexts)) (delete_bearer_cause contexts) left
 
 module _ (request : Arrival) (d : DeleteBearerRequest) where
   -- refused with this cause: the response goes to this TEID, and nothing changes

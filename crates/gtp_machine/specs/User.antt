@@ -91,11 +91,15 @@ UserTaken role source (User_echo_request number) old e =
     e ≡ record { out = says source (User_echo_response number); outcome = Came_to Echoed; node = old }
 UserTaken role source _ old e = e ≡ dropped old Unexpected
 
--- what was read; a needed extension header that is not known is told of, with one type that may stand, 64 (5.2.1, 7.2.3)
+-- the type of the extension header UDP Port (5.2.1)
+abbrev pub udp_port : ℕ
+udp_port = 64
+
+-- what was read; a needed extension header that is not known is told of, with the one type that is understood (7.2.3)
 abbrev pub UserRead : Role → Endpoint → UserReading → Node → Effect → Type 0
 UserRead role source (User_message message) old e = UserTaken role source message old e
 UserRead role source Extension_needed old e = e ≡ record {
-  out = says (user_end old.config.peer.user) (Supported_extensions (64 ∷ []));
+  out = says (user_end old.config.peer.user) (Supported_extensions (udp_port ∷ []));
   outcome = Came_to (Dropped UnknownExtension);
   node = old;
 }

@@ -24,7 +24,7 @@ ghost use Rattle.gtp_machine.specs.Node.{Role};
 ghost use Rattle.gtp_machine.specs.Safety.{BearersAgree, EachOwed, NoneOutlivesRestart, SessionsAgree};
 ghost use Rattle.gtp_machine.specs.World.{side_of};
 ghost use Rattle.gtp_machine.specs.Reading.{
-  BearerRequestReads,
+  CreateBearerRequestReads,
   ControlByGrammar,
   CutsRead,
   DatagramByGrammar,
@@ -32,7 +32,7 @@ ghost use Rattle.gtp_machine.specs.Reading.{
   DecodedReads,
   MessageReadsAlone,
   PairCutsRead,
-  SessionRequestReads,
+  CreateSessionRequestReads,
   UserByGrammar,
   UserByName,
   UserCutsRead,
@@ -264,10 +264,10 @@ pub fn readings()
     ensures apart { SpelledApart }
 
     // A Create Session Request that is decoded has a bearer context, and reads as one.
-    ensures session_request { SessionRequestReads }
+    ensures create_session_request { CreateSessionRequestReads }
 
     // A Create Bearer Request that is decoded has a bearer context, and reads as one.
-    ensures bearer_request { BearerRequestReads }
+    ensures create_bearer_request { CreateBearerRequestReads }
 {}
 
 /// An exchange on a path that brings each datagram at once.

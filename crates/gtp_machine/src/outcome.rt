@@ -1,26 +1,36 @@
 //! The outcomes of commands and datagrams.
 
 use gtp_values::Plane;
+use std::fmt;
+use thiserror::Error;
 
 /// Why a command is refused. Each begins with its printed code. G6, out of memory, is no rule of a gateway:
 /// `CommandFault` has it.
-#[derive(Clone, Copy, Debug, PartialEq, Eq)]
+#[derive(Clone, Copy, Debug, PartialEq, Eq, Error)]
 pub enum Refusal {
     /// G1: no session or bearer has this TEID, or no dedicated bearer of the session has this identity.
+    #[error("G1: no such session or bearer")]
     NoSuchContext,
     /// G2: the session or bearer is pending or closing.
+    #[error("G2: the session or bearer is not active")]
     NotActive,
     /// G3: this is a command of the other gateway.
+    #[error("G3: this is a command of the other gateway")]
     WrongRole,
     /// G4 S1: the gateway has 1,000 sessions.
+    #[error("G4 S1: there are 1000 sessions")]
     SessionsFull,
     /// G4 S4: fewer TEIDs are left than the command needs.
+    #[error("G4 S4: too few TEIDs are left")]
     TeidsUsed,
     /// G4 B1: 256 requests are pending.
+    #[error("G4 B1: 256 requests are pending")]
     PendingFull,
     /// G5: an End Marker was sent on this bearer before (TS 29.281 7.3.2).
+    #[error("G5: an End Marker was sent on this bearer before")]
     BearerEnded,
     /// G7: the payload has more than 65,000 octets.
+    #[error("G7: the payload has more than 65000 octets")]
     PacketTooLong,
 }
 
@@ -32,31 +42,52 @@ pub struct FaultName {
     pub number: u8,
 }
 
+impl fmt::Display for FaultName {
+    fn fmt<W: fmt::Write>(&self, f: &mut fmt::Formatter<W>) -> fmt::Result {
+        let letter = match self.plane {
+            Plane::Control => 'H',
+            Plane::User => 'U',
+        };
+        write!(f, "{letter}{}", self.number)
+    }
+}
+
 /// Why a datagram is dropped (TS 29.274 7.7, TS 29.281 7.3). Each begins with its printed code.
-#[derive(Clone, Copy, Debug, PartialEq, Eq)]
+#[derive(Clone, Copy, Debug, PartialEq, Eq, Error)]
 pub enum DropReason {
     /// X1: its octets are no message, and it is not answered.
+    #[error("X1: the octets are no message, by fault {0}")]
     Undecodable(FaultName),
     /// X2: its restart counter is earlier than the latest one received (TS 23.007 18).
+    #[error("X2: the restart counter is an earlier one")]
     OldCounter,
     /// X3: no request with its sequence number is pending.
+    #[error("X3: no request with this sequence number is pending")]
     NoPending,
     /// X4: it is no answer to the request with its sequence number, or describes another context than
     /// the one requested.
+    #[error("X4: it is no answer to the request with this sequence number")]
     Mismatch,
     /// X5: the session or bearer is not in a state to take it.
+    #[error("X5: the session or bearer is not in a state to take it")]
     ContextNotActive,
     /// X6: no bearer has its TEID.
+    #[error("X6: no bearer has this TEID")]
     UnknownContext,
     /// X7: an End Marker was received on its bearer before.
+    #[error("X7: an End Marker was received on this bearer before")]
     AfterEnd,
     /// X8: 4,096 answers are held.
+    #[error("X8: 4096 answers are held")]
     HeldFull,
     /// X9: this gateway does not take messages of its type, or it concerns nothing here.
+    #[error("X9: this gateway does not take it")]
     Unexpected,
     /// X10: it has an extension header that must be understood and is not.
+    #[error("X10: an extension header that must be understood is not known")]
     UnknownExtension,
     /// X11: its source address is not the peer's.
+    #[error("X11: the source address is not the peer's")]
     NotPeer,
 }
 

@@ -1,7 +1,7 @@
 //! The words and codes of outcomes, and those of planes.
 
 ghost use Rattle.std.specs.Prelude.{◌≡◌, ◌++◌, OnOk, option_map};
-ghost use Rattle.gtp_world.specs.Kept.{outcome_of};
+ghost use Rattle.gtp_world.specs.Record.{outcome_of};
 ghost use Rattle.gtp_outcomes.specs.Outcomes as words;
 ghost use Rattle.gtp_outcomes.specs.Outcomes.{refusal_word, limit_word, spaced, drop_word, drop_detail, plane_word, plane_letter, outcome_word, outcome_detail, detail};
 

@@ -7,13 +7,13 @@ use Rattle.gtp_capture.specs.Writing.{Sent, sent_of, most_octets}
 use Rattle.gtp_capture.specs.declared.writing.WrittenDatagram.{WrittenDatagram}
 use Rattle.gtp_machine.specs.Spelling.{Datagram}
 use Rattle.gtp_machine.specs.World.{By}
-use Rattle.gtp_world.specs.Kept.{Told}
+use Rattle.gtp_world.specs.Record.{EventRecord}
 use Rattle.gtp_replay.specs.Captures.{frame_in, frames_from, HavePackets}
 use Rattle.gtp_outcomes.proofs.Numbered.{front_is, rest_is}
 use Rattle.gtp_replay.proofs.Framed.{AllShow, all_framed}
 
 -- an event more
-pub one_note : {D : Type 0} (f : D → By Datagram) (event next count : ℕ) (rest front back : List D) (told : Told) (notes_left notes : List Told) (before mid new : List Sent)
+pub one_note : {D : Type 0} (f : D → By Datagram) (event next count : ℕ) (rest front back : List D) (told : EventRecord) (notes_left notes : List EventRecord) (before mid new : List Sent)
     → count ≡ min (length rest) told.sent → front ≡ take count rest → back ≡ drop count rest
     → new ≡ mid ++ flat_map (frame_in event) (enumerate_from next (map f front))
     → notes_left ≡ told ∷ notes
@@ -45,6 +45,6 @@ fitting : (frames : List WrittenDatagram) → All Fits (map sent_of frames) → 
 fitting [] h = All-nil IsFitting
 fitting (s ∷ frames) h = All-cons IsFitting s frames (All-head Fits (sent_of s) (map sent_of frames) h) (fitting frames (All-tail Fits (sent_of s) (map sent_of frames) h))
 
-pub all_fitting : (frames held : List WrittenDatagram) (datagrams : List (By Datagram)) (notes : List Told) → HavePackets datagrams → held ≡ frames → map sent_of frames ≡ frames_from 0 (enumerate_from 0 datagrams) notes → All IsFitting held
+pub all_fitting : (frames held : List WrittenDatagram) (datagrams : List (By Datagram)) (notes : List EventRecord) → HavePackets datagrams → held ≡ frames → map sent_of frames ≡ frames_from 0 (enumerate_from 0 datagrams) notes → All IsFitting held
 all_fitting frames held datagrams notes has same are =
     subst (λ l. All IsFitting l) (sym same) (fitting frames (subst (λ l. All Fits l) (sym are) (all_fit (enumerate_from 0 datagrams) (frames_from 0 (enumerate_from 0 datagrams) notes) (all_framed datagrams notes has))))

@@ -3,7 +3,7 @@ use Rattle.std.proofs.Common.{◌≡◌, ℕ, Bool, true, false, List, [], ◌�
 use Rattle.std.specs.Prelude.{IsTrue, MatchResult, if◌then◌else◌}
 use Rattle.std.specs.FinMap.{entries}
 use Rattle.gtp_machine.specs.declared.role.Role.TheVariants.{Serving, Packet}
-use Rattle.gtp_world.specs.Kept.{Log}
+use Rattle.gtp_world.specs.Record.{Log}
 use Rattle.gtp_world.specs.Naming.{Pair, session_pairs, bearer_pairs, mutual_pairs, AgreeAt, DoAgree}
 use Rattle.gtp_world.proofs.Determined.Runs.{follow_one}
 use Rattle.gtp_scenario.specs.declared.fault.Refusal.{Refusal}
@@ -11,7 +11,7 @@ use Rattle.gtp_scenario.specs.Scenarios.{Scenario, scenario_of}
 use Rattle.gtp_replay.specs.Contexts.{node_text}
 use Rattle.gtp_replay.specs.Determined.{WorldsHaveOneReport, OctetsHaveOneText, OfOneRun, FormsAreOfOneRun}
 use Rattle.gtp_replay.specs.Events.{events_text}
-use Rattle.gtp_outcomes.specs.Owed.{IsOwed}
+use Rattle.gtp_outcomes.specs.Owed.{WasOwed}
 use Rattle.gtp_replay.specs.Report.{late_line}
 use Rattle.gtp_replay.specs.Told.{TellsScenario, TellsRefusal, Tells, events_of}
 use Rattle.gtp_outcomes.specs.Each.{TellsEach}
@@ -37,19 +37,19 @@ each_one P Q line (x ∷ xs) a b there back (v, others, holds, rest, is) (w, oth
 
 pub report_one : WorldsHaveOneReport
 report_one events one other text other_text alike r s =
-    let serving : one.serving.station.node ≡ other.serving.station.node = alike.serving.station.node in
-    let packet : one.packet.station.node ≡ other.packet.station.node = alike.packet.station.node in
+    let serving : one.serving.state.node ≡ other.serving.state.node = alike.serving.state.node in
+    let packet : one.packet.state.node ≡ other.packet.state.node = alike.packet.state.node in
     let pairs : mutual_pairs one ≡ mutual_pairs other = λ i. session_pairs (packet i).sessions (entries (serving i).sessions) ++ bearer_pairs (packet i).bearers (entries (serving i).bearers) in
     let agreeing : r.pairs ≡ s.pairs =
     each_one (DoAgree one) (DoAgree other) mutual_line (mutual_pairs one) r.pairs s.pairs
-    (λ p a. subst (λ n. AgreeAt n other.packet.station.node p) serving (subst (λ n. AgreeAt one.serving.station.node n p) packet a))
-    (λ p a. subst (λ n. AgreeAt n one.packet.station.node p) (sym serving) (subst (λ n. AgreeAt other.serving.station.node n p) (sym packet) a))
+    (λ p a. subst (λ n. AgreeAt n other.packet.state.node p) serving (subst (λ n. AgreeAt one.serving.state.node n p) packet a))
+    (λ p a. subst (λ n. AgreeAt n one.packet.state.node p) (sym serving) (subst (λ n. AgreeAt other.serving.state.node n p) (sym packet) a))
     r.agreeing (subst (λ (l : List Pair). TellsEach (DoAgree other) mutual_line l s.pairs) (sym pairs) s.agreeing) in
     let owed : r.taken ≡ s.taken =
-    each_one (IsOwed one.log) (IsOwed other.log) taken_line one.log.accepted r.taken s.taken
-    (λ e o. subst (λ (l : Log). IsOwed l e) alike.log o)
-    (λ e o. subst (λ (l : Log). IsOwed l e) (sym alike.log) o)
-    r.owed (subst (λ (l : Log). TellsEach (IsOwed other.log) taken_line l.accepted s.taken) (sym alike.log) s.owed) in
+    each_one (WasOwed one.log) (WasOwed other.log) taken_line one.log.accepted r.taken s.taken
+    (λ e o. subst (λ (l : Log). WasOwed l e) alike.log o)
+    (λ e o. subst (λ (l : Log). WasOwed l e) (sym alike.log) o)
+    r.owed (subst (λ (l : Log). TellsEach (WasOwed other.log) taken_line l.accepted s.taken) (sym alike.log) s.owed) in
     r.whole ∙ ((λ i. events_text events (alike.log i).datagrams (alike.log i).notes ++ node_text Serving (serving i) ++ node_text Packet (packet i) ++ agreeing i ++ owed i ++ late_line (alike.log i).late) ∙ sym s.whole)
 
 scenario_one : (scenario : Scenario) (text other_text : List ℕ) (verdict other_verdict : Verdict) → TellsScenario Report scenario text verdict → TellsScenario Report scenario other_text other_verdict → (text ≡ other_text) × (verdict ≡ other_verdict)

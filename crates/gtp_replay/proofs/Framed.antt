@@ -1,5 +1,5 @@
 -- The frames of a run show its datagrams, where each has a packet.
-use Rattle.std.proofs.Common.{◌≡◌, ℕ, ◌+◌, List, [], ◌∷◌, ◌++◌, Option, Some, map, take, drop, sym, ap, ap₂, subst, arith}
+use Rattle.std.proofs.Common.{◌≡◌, ℕ, ◌+◌, List, [], ◌∷◌, ◌++◌, Option, Some, take, drop, sym, ap, ap₂, subst, arith}
 use Rattle.std.specs.Prelude.{All, option_map, option_to_list, ⊤}
 use Rattle.std.specs.List.{flat_map, enumerate_from, AllByRecursion}
 use Rattle.std.proofs.lemmas.List.{take-append-drop}
@@ -12,7 +12,7 @@ use Rattle.gtp_capture.specs.declared.writing.Ends.{Ends}
 use Rattle.gtp_capture.specs.declared.writing.Ends.TheVariants.{V4, V6}
 use Rattle.gtp_machine.specs.Spelling.{Datagram}
 use Rattle.gtp_machine.specs.World.{By}
-use Rattle.gtp_world.specs.Kept.{Told}
+use Rattle.gtp_world.specs.Record.{EventRecord}
 use Rattle.gtp_replay.specs.Captures.{ends_between, sent_between, captured_in, frame_in, frames_from, standard_ports, HasPacket, HavePackets}
 use Rattle.gtp_replay.specs.Recaptured.{datagram_seen}
 
@@ -76,7 +76,7 @@ both (d ∷ ds) es [] ts h k = absurd h
 both (d ∷ ds) es (s ∷ ss) ts h k = (h.0, both ds es ss ts h.1 k)
 
 -- of all events from one on
-framed : (notes : List Told) (event : ℕ) (ds : List (ℕ × By Datagram)) → All HasPacketIn ds → AllShow ds (frames_from event ds notes)
+framed : (notes : List EventRecord) (event : ℕ) (ds : List (ℕ × By Datagram)) → All HasPacketIn ds → AllShow ds (frames_from event ds notes)
 framed [] event ds h = filtered event ds (recursion_from_All HasPacketIn ds h)
 framed (told ∷ notes) event ds h =
     let front = take told.sent ds in
@@ -91,7 +91,7 @@ all_numbered n [] h = tt
 all_numbered n (d ∷ ds) h = (h.0, all_numbered (n + 1) ds h.1)
 
 -- all frames of a run
-pub all_framed : (datagrams : List (By Datagram)) (notes : List Told) → HavePackets datagrams → AllShow (enumerate_from 0 datagrams) (frames_from 0 (enumerate_from 0 datagrams) notes)
+pub all_framed : (datagrams : List (By Datagram)) (notes : List EventRecord) → HavePackets datagrams → AllShow (enumerate_from 0 datagrams) (frames_from 0 (enumerate_from 0 datagrams) notes)
 all_framed datagrams notes has =
     let ds = enumerate_from 0 datagrams in
     framed notes 0 ds (All-from_recursion HasPacketIn ds (all_numbered 0 datagrams (recursion_from_All (λ (d : By Datagram). HasPacket d.what) datagrams has)))

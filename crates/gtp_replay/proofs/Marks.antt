@@ -5,7 +5,7 @@ use Rattle.std.specs.List.{flat_map, list_any}
 use Rattle.std.proofs.lemmas.Option.{slice_get_within, slice_get-map, slice_get-get_or}
 use Rattle.std.proofs.lemmas.List.{take-map, length-set, drop_more}
 use Rattle.std.proofs.Math.Bool.{or-false}
-use Rattle.gtp_world.specs.Kept.{sent_by}
+use Rattle.gtp_world.specs.Record.{sent_by}
 use Rattle.gtp_world.specs.declared.log.Datagram.{Datagram}
 use Rattle.gtp_machine.specs.declared.role.Role.{Role}
 use Rattle.gtp_replay.specs.Rows.{Numbered, Happened, Row, idle_node, rows_at, rows_from, can_happen, number_in, brings, brought_by, comes_by}

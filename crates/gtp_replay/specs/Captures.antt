@@ -10,7 +10,7 @@ use Rattle.gtp_capture.specs.declared.writing.Ends.{Ends}
 use Rattle.gtp_capture.specs.declared.writing.Ends.TheVariants.{V4, V6}
 use Rattle.gtp_machine.specs.Spelling.{Datagram}
 use Rattle.gtp_machine.specs.World.{By}
-use Rattle.gtp_world.specs.Kept.{Kept, Told, Log}
+use Rattle.gtp_world.specs.Record.{WorldRecord, EventRecord, Log}
 
 -- both addresses, where they are of one version
 abbrev pub ends_between : Ip → Ip → Option Ends
@@ -30,7 +30,7 @@ abbrev pub frame_in : ℕ → ℕ × By Datagram → List Sent
 frame_in event d = option_to_list (captured_in event d)
 
 -- those that events sent, from this one on, one event after the other; none is left after the last
-abbrev pub frames_from : ℕ → List (ℕ × By Datagram) → List Told → List Sent
+abbrev pub frames_from : ℕ → List (ℕ × By Datagram) → List EventRecord → List Sent
 frames_from event sent [] = flat_map (frame_in event) sent
 frames_from event sent (told ∷ notes) = flat_map (frame_in event) (take told.sent sent) ++ frames_from (event + 1) (drop told.sent sent) notes
 
@@ -56,7 +56,7 @@ abbrev pub HavePackets : List (By Datagram) → Type 0
 HavePackets datagrams = All (λ (d : By Datagram). HasPacket d.what) datagrams
 
 -- Each datagram has a packet, and the capture is its head and the records of all of them.
-pub record IsCaptureOf (world : Kept) (text : List ℕ) : Type 0 where
+pub record IsCaptureOf (world : WorldRecord) (text : List ℕ) : Type 0 where
   pub packets : HavePackets world.log.datagrams
   pub body : List ℕ
   pub head : text ≡ head_octets ++ body

@@ -2,7 +2,7 @@
 use Rattle.std.specs.Prelude.{◌≡◌, ℕ, List, MatchResult}
 use Rattle.gtp_machine.specs.World.{Event}
 use Rattle.gtp_world.specs.Determined.{WorldsAlike}
-use Rattle.gtp_world.specs.Kept.{Kept}
+use Rattle.gtp_world.specs.Record.{WorldRecord}
 use Rattle.gtp_replay.specs.Report.{IsReport}
 use Rattle.gtp_scenario.specs.Scenarios.{Scenario, scenario_of}
 use Rattle.gtp_replay.specs.Told.{Tells, IsText, events_of}
@@ -13,7 +13,7 @@ use Rattle.gtp_replay.specs.declared.verdict.Verdict.{Verdict}
 -- Worlds that are alike have one report.
 abbrev pub WorldsHaveOneReport : Type 0
 WorldsHaveOneReport =
-    (events : List Event) (one other : Kept) (text other_text : List ℕ)
+    (events : List Event) (one other : WorldRecord) (text other_text : List ℕ)
     → WorldsAlike one other
     → IsReport events one text
     → IsReport events other other_text
@@ -29,8 +29,8 @@ OctetsHaveOneText =
 
 -- What is written of a scenario in two forms is of worlds that are alike.
 pub record OfOneRun (form other : Form) (scenario : Scenario) (text other_text : List ℕ) : Type 0 where
-  pub world : Kept
-  pub other_world : Kept
+  pub world : WorldRecord
+  pub other_world : WorldRecord
   pub alike : WorldsAlike world other_world
   pub text_is : IsText form (events_of scenario) world text
   pub other_is : IsText other (events_of scenario) other_world other_text

@@ -3,7 +3,7 @@ use Rattle.std.specs.Prelude.{◌≡◌, ℕ, ◌-◌, ◌==◌, List, [], ◌�
 use Rattle.gtp_machine.specs.declared.role.Role.{Role}
 use Rattle.gtp_machine.specs.declared.role.Role.TheVariants.{Serving, Packet}
 use Rattle.gtp_machine.specs.World.{Event, Does, Tick, Deliver, Cut, Restart}
-use Rattle.gtp_world.specs.Kept.{Told}
+use Rattle.gtp_world.specs.Record.{EventRecord}
 use Rattle.gtp_scenario.specs.Words.{word_of}
 use Rattle.gtp_replay.specs.Events.{told_text}
 use Rattle.gtp_replay.specs.Labels.{IsLabel}
@@ -68,18 +68,18 @@ abbrev pub some_of : List ℕ → ℕ → List ℕ
 some_of words count = if count == 0 then [] else (words ++ decimal count)
 
 -- what a tick did
-abbrev pub tick_label : Told → List ℕ
+abbrev pub tick_label : EventRecord → List ℕ
 tick_label told = codes "tick" ++ some_of (codes ", sends again ") told.sent ++ some_of (codes ", gives up ") (length told.gave_up) ++ some_of (codes ", forgets ") (length told.forgot)
 
 -- what an event is: a tick with what it did, and a datagram that cannot come with its number
-abbrev pub event_label : Event → Told → List ℕ
+abbrev pub event_label : Event → EventRecord → List ℕ
 event_label (Tick node) told = tick_label told
 event_label (Deliver number) told = codes "deliver " ++ decimal number
 event_label (Cut number size) told = codes "cut " ++ decimal number
 event_label event told = word_of event
 
 -- what it came to; of a tick nothing is said
-abbrev pub event_end : Event → Told → List ℕ
+abbrev pub event_end : Event → EventRecord → List ℕ
 event_end (Tick node) told = codes "\n"
 event_end event told = codes "  " ++ told_text told
 

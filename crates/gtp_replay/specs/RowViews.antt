@@ -2,7 +2,7 @@
 use Rattle.std.specs.Prelude.{◌≡◌, ℕ, ◌+◌, ◌<◌, ◌^◌, Bool, true, false, List, map, length, get_or, set, Option, Some, None}
 use Rattle.std.specs.List.{enumerate_from}
 use Rattle.gtp_world.specs.Events.{event_of}
-use Rattle.gtp_world.specs.Kept.{sent_by, told_by}
+use Rattle.gtp_world.specs.Record.{sent_by, told_by}
 use Rattle.gtp_world.specs.declared.log.Datagram.{Datagram}
 use Rattle.gtp_replay.specs.Rows as spec
 use Rattle.gtp_replay.specs.Rows.{Numbered}

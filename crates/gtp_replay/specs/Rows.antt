@@ -6,7 +6,7 @@ use Rattle.gtp_machine.specs.declared.role.Role.{Role}
 use Rattle.gtp_machine.specs.declared.role.Role.TheVariants.{Serving, Packet}
 use Rattle.gtp_machine.specs.Spelling.{Datagram}
 use Rattle.gtp_machine.specs.World.{By, Event, Tick, Deliver, Cut, EventOutcome, No_such_datagram, Cut_too_long}
-use Rattle.gtp_world.specs.Kept.{Told}
+use Rattle.gtp_world.specs.Record.{EventRecord}
 use Rattle.gtp_replay.specs.declared.rows.Coming.{Coming}
 use Rattle.gtp_replay.specs.declared.rows.Coming.TheVariants.{First, Again, CutTo}
 
@@ -17,11 +17,11 @@ Numbered = ℕ × By Datagram
 -- an event, what it came to, and the datagrams that it sent
 pub record Happened : Type 0 where
   pub event : Event
-  pub told : Told
+  pub told : EventRecord
   pub sent : List Numbered
 
 -- events, one after the other, and the datagrams that they sent, one after the other
-abbrev pub all_from : List Numbered → List Event → List Told → List Happened
+abbrev pub all_from : List Numbered → List Event → List EventRecord → List Happened
 all_from sent [] notes = []
 all_from sent (event ∷ events) [] = []
 all_from sent (event ∷ events) (told ∷ notes) = record { event = event; told = told; sent = take told.sent sent } ∷ all_from (drop told.sent sent) events notes
@@ -64,7 +64,7 @@ is_none_left [] = true
 is_none_left (x ∷ xs) = false
 
 -- nothing was sent, given up or forgotten
-abbrev pub is_idle : Told → Bool
+abbrev pub is_idle : EventRecord → Bool
 is_idle told = (told.sent == 0) && (is_none_left told.gave_up && is_none_left told.forgot)
 
 abbrev pub ticks_at : Event → Option Role
@@ -92,9 +92,9 @@ idle_next node hs = prefix_len (λ h. is_idle_at node (idle_node h)) hs
 -- ---- rows
 
 pub data Row : Type 0 where
-  Comes : ℕ → Numbered → Coming → Told → Row  -- by the event at this place a datagram comes
+  Comes : ℕ → Numbered → Coming → EventRecord → Row  -- by the event at this place a datagram comes
   Lost : Numbered → Row  -- a datagram never comes
-  Happens : ℕ → Event → Told → Row  -- any other event at this place
+  Happens : ℕ → Event → EventRecord → Row  -- any other event at this place
   Idles : ℕ → Role → ℕ → Row  -- so many ticks from this place on, in which nothing is done
 
 -- the row of an event, after these
@@ -126,5 +126,5 @@ abbrev pub rows_in : List Numbered → List Happened → List Row
 rows_in datagrams all = rows_from datagrams all 0 None all
 
 -- the rows of a run of these events
-abbrev pub rows_of : List Event → List (By Datagram) → List Told → List Row
+abbrev pub rows_of : List Event → List (By Datagram) → List EventRecord → List Row
 rows_of events datagrams notes = rows_in (enumerate_from 0 datagrams) (all_from (enumerate_from 0 datagrams) events notes)

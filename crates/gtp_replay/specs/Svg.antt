@@ -4,7 +4,7 @@ use Rattle.std.specs.List.{enumerate_from}
 use Rattle.gtp_machine.specs.declared.role.Role.{Role}
 use Rattle.gtp_machine.specs.declared.role.Role.TheVariants.{Serving, Packet}
 use Rattle.gtp_machine.specs.World.{Event, Tick, Restart}
-use Rattle.gtp_world.specs.Kept.{Told}
+use Rattle.gtp_world.specs.Record.{EventRecord}
 use Rattle.gtp_lines.specs.Text.{octets_text}
 use Rattle.gtp_outcomes.specs.Outcomes.{is_refused, plane_word}
 use Rattle.gtp_replay.specs.Events.{told_words}
@@ -21,13 +21,13 @@ unfoldable pub place_svg : ℕ → List ℕ
 place_svg place = codes "<text class=\"place\" x=\"60\" y=\"4\">" ++ decimal place ++ codes "</text>"
 
 -- what an event came to, which is marked where it is a refusal
-unfoldable pub outcome_class : Told → List ℕ
+unfoldable pub outcome_class : EventRecord → List ℕ
 outcome_class told = if is_refused told.outcome then codes "refused" else codes "outcome"
 
 abbrev pub told_start : List ℕ → List ℕ
 told_start class = codes "<text class=\"" ++ (class ++ codes "\" x=\"680\" y=\"4\">")
 
-unfoldable pub told_svg : Told → List ℕ
+unfoldable pub told_svg : EventRecord → List ℕ
 told_svg told = told_start (outcome_class told) ++ (told_words told ++ codes "</text>")
 
 unfoldable pub coming_class : Coming → List ℕ
@@ -66,7 +66,7 @@ event_class (Tick node) = codes "tick"
 event_class event = codes "event"
 
 -- what an event came to; of a tick nothing is said
-unfoldable pub event_svg : Event → Told → List ℕ
+unfoldable pub event_svg : Event → EventRecord → List ℕ
 event_svg (Tick node) told = []
 event_svg event told = told_svg told
 

@@ -3,8 +3,8 @@ use Rattle.std.specs.Prelude.{◌≡◌, ℕ, List, ◌++◌, MatchResult, codes
 use Rattle.std.specs.Io.KnownBytes.{Appends}
 use Rattle.std.specs.List.{flat_map}
 use Rattle.gtp_machine.specs.World.{Event}
-use Rattle.gtp_world.specs.Kept.{Kept}
-use Rattle.gtp_world.specs.Runs.{IsWhole}
+use Rattle.gtp_world.specs.Record.{WorldRecord}
+use Rattle.gtp_world.specs.Runs.{RanWhole}
 use Rattle.gtp_scenario.specs.declared.fault.Refusal.{Refusal}
 use Rattle.gtp_scenario.specs.declared.fault.Refusal.TheVariants as refusals
 use Rattle.gtp_scenario.specs.Entries.{events_in}
@@ -27,15 +27,15 @@ abbrev pub events_of : Scenario → List Event
 events_of scenario = flat_map events_in scenario.entries
 
 -- whether each event came to what is expected, in this world
-abbrev pub verdict_on : Scenario → Kept → Verdict
+abbrev pub verdict_on : Scenario → WorldRecord → Verdict
 verdict_on scenario world = if all_met scenario.entries world.log.notes then Expected else Unexpected
 
 -- the rows of a diagram of a world in which these events happened
-abbrev pub rows_in : List Event → Kept → List Row
+abbrev pub rows_in : List Event → WorldRecord → List Row
 rows_in events world = rows_of events world.log.datagrams world.log.notes
 
 -- a text of a world in which these events happened, in a form
-abbrev pub IsText : Form → List Event → Kept → List ℕ → Type 0
+abbrev pub IsText : Form → List Event → WorldRecord → List ℕ → Type 0
 IsText Report events world text = IsReport events world text
 IsText Diagram events world text = IsDiagram (rows_in events world) text
 IsText Svg events world text = IsSvg (rows_in events world) text
@@ -44,8 +44,8 @@ IsText Json events world text = IsRunJson events world text
 
 -- In a world that a run of the scenario's events leaves, the text is one of it in this form, and the verdict says whether each event came to what is expected.
 pub record TellsScenario (form : Form) (scenario : Scenario) (text : List ℕ) (verdict : Verdict) : Type 0 where
-  pub world : Kept
-  pub run : IsWhole scenario.setup (events_of scenario) world
+  pub world : WorldRecord
+  pub run : RanWhole scenario.setup (events_of scenario) world
   pub text_is : IsText form (events_of scenario) world text
   pub verdict_is : verdict ≡ verdict_on scenario world
 
@@ -67,8 +67,8 @@ Tells form octets text verdict = MatchResult (scenario_of octets) (λ scenario. 
 -- a capture is wanted, and this is the number of the first datagram that no packet carries, in a world that a run of the scenario leaves
 pub record LacksPacket (form : Form) (scenario : Scenario) (number : ℕ) : Type 0 where
   pub wanted : form ≡ Capture
-  pub world : Kept
-  pub run : IsWhole scenario.setup (events_of scenario) world
+  pub world : WorldRecord
+  pub run : RanWhole scenario.setup (events_of scenario) world
   pub first : IsFirstWithoutPacket world.log.datagrams number
 
 -- of octets that are a scenario

@@ -3,7 +3,7 @@
 ghost use Rattle.std.specs.Prelude.{◌≡◌, ℕ, ◌+◌, ◌<◌, ◌^◌, ◌++◌, ◌↔◌, IsTrue, OnOk, IfOk, IfSome, None, map, length, nat_le, option_map};
 ghost use Rattle.std.specs.List.{flat_map, enumerate_from};
 ghost use Rattle.gtp_gateway.specs.messages.Sent.{datagram_by};
-ghost use Rattle.gtp_world.specs.Kept.{sent_by, told_by};
+ghost use Rattle.gtp_world.specs.Record.{sent_by, told_by};
 ghost use Rattle.gtp_capture.specs.Writing.{sent_of, most_octets, AreWhole};
 ghost use Rattle.gtp_replay.specs.Captures.{ends_between, sent_between, captured_in, frame_in, frames_from, HasPacket, HavePackets, IsFirstWithoutPacket, IsCaptureOf};
 

@@ -2,7 +2,7 @@
 
 ghost use Rattle.std.specs.Prelude.{◌≡◌, ◌++◌, ◌-◌, OnOk, IfOk, map, length, replicate};
 ghost use Rattle.gtp_world.specs.Events.{event_of};
-ghost use Rattle.gtp_world.specs.Kept.{sent_by, told_by};
+ghost use Rattle.gtp_world.specs.Record.{sent_by, told_by};
 ghost use Rattle.gtp_replay.specs.RowViews.{row_of};
 ghost use Rattle.gtp_replay.specs.Rows.{rows_of};
 ghost use Rattle.gtp_replay.specs.Diagram.{filled, place_text, no_place, marked, arrow, short_arrow, coming_text, counted, stands_at, mark_of, some_of, tick_label, event_label, event_end, IsLine, EachHas, IsDiagram};
@@ -172,16 +172,8 @@ pub(crate) fn stands_at(event: &Event) -> Role
     ensures { result ≡ stands_at (event_of event.now) }
 {
     match event {
-        Event::CreateSession(_) | Event::DeleteSession(_) => Role::Serving,
-        Event::CreateBearer { .. }
-        | Event::DeleteBearer { .. }
-        | Event::ReleaseSession(_)
-        | Event::EndMarker(_) => Role::Packet,
-        Event::Echo(node)
-        | Event::Tick(node)
-        | Event::Restart(node)
-        | Event::SendUser { node, .. } => *node,
-        Event::Deliver(_) | Event::Cut { .. } => Role::Serving,
+        Event::Tick(node) | Event::Restart(node) => *node,
+        _ => event.role().unwrap_or(Role::Serving),
     }
 }
 

@@ -2,7 +2,7 @@
 
 ghost use Rattle.std.specs.Prelude.{◌≡◌, map, option_map, string_bytes};
 ghost use Rattle.std.specs.List.{list_all};
-ghost use Rattle.gtp_world.specs.Kept.{told_by};
+ghost use Rattle.gtp_world.specs.Record.{told_by};
 ghost use Rattle.gtp_scenario.specs.Views.{entry as entry_view};
 ghost use Rattle.gtp_replay.specs.Expected.{is_second_refused, told_is_met, all_met};
 
@@ -37,12 +37,7 @@ fn each_met(expect: &Option<String>, notes: &[Note]) -> bool
     ensures { result ≡ list_all (told_is_met (option_map (λ s. string_bytes s) expect.now))
         (map told_by notes.now) }
 {
-    for note in notes {
-        if !is_met(expect, note) {
-            return false;
-        }
-    }
-    true
+    notes.iter().all(|note| is_met(expect, note))
 }
 
 /// Whether each event had the outcome that its entry expects.

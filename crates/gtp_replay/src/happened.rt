@@ -2,7 +2,7 @@
 
 ghost use Rattle.std.specs.Prelude.{◌≡◌, All, IfOk, map};
 ghost use Rattle.gtp_world.specs.Events.{event_of};
-ghost use Rattle.gtp_world.specs.Kept.{told_by};
+ghost use Rattle.gtp_world.specs.Record.{told_by};
 ghost use Rattle.gtp_replay.specs.Rows.{all_from};
 ghost use Rattle.gtp_replay.specs.RowViews.{numbered, happened_of, IsNumbered};
 
@@ -34,10 +34,7 @@ pub(crate) fn all_that_happened<'a>(
     let mut all = Vec::new(alloc);
     let mut next = 0;
     let mut rest = datagrams;
-    for (place, event) in events.iter().enumerate() {
-        let Some(note) = notes.get(place) else {
-            return Ok(all);
-        };
+    for (event, note) in events.iter().zip(notes) {
         let count = rest.len().min(note.sent);
         let (sent, others) = rest.split_at(count);
         all.push(Happened {

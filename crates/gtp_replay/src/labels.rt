@@ -3,13 +3,13 @@
 ghost use Rattle.std.specs.Prelude.{◌≡◌, IfOk, option_map, codes};
 ghost use Rattle.gtp_user.specs.Message.{content_of};
 ghost use Rattle.gtp_v2.specs.Pair.{datagram_seen};
-ghost use Rattle.gtp_world.specs.Kept.{sent_by};
+ghost use Rattle.gtp_world.specs.Record.{sent_by};
 ghost use Rattle.gtp_replay.specs.Labels.{named, control_names, user_names, AreNames, IsLabel};
 ghost use Rattle.gtp_values.specs.declared.plane.Plane.TheVariants as planes;
 
 use gtp_gateway::Plane;
-use gtp_lines::message_name;
 use gtp_lines::text::{put, put_number, put_teid};
+use gtp_lines::{body_name, message_name};
 use gtp_user::UserBody;
 use gtp_v2::{DatagramView, view};
 use gtp_values::Teid;
@@ -19,7 +19,7 @@ use std::alloc::{AllocError, Global};
 /// A message's name, and the TEID of its header, where it has one.
 #[tactic(auto, using(crate::proofs::Appends::appending))]
 fn named(alloc: Global, name: &str, teid: Option<Teid>) -> Result<Vec<u8>, AllocError>
-    ensures { IfOk result (λ text. text.items ≡ named name.now (option_map (λ t. t.0) teid)) }
+    ensures { IfOk result (λ text. text.items ≡ named name.now teid) }
 {
     let mut text = Vec::new(alloc);
     put(&mut text, name.as_bytes())?;
@@ -71,14 +71,12 @@ fn control_names(alloc: Global, octets: &[u8]) -> Result<Vec<u8>, AllocError>
 fn user_names(alloc: Global, body: &UserBody) -> Result<Vec<u8>, AllocError>
     ensures { IfOk result (λ text. text.items ≡ user_names (content_of body.now)) }
 {
+    let name = body_name(body).unwrap_or("other");
     match body {
-        UserBody::EchoRequest => named(alloc, "echo-request", None),
-        UserBody::EchoResponse => named(alloc, "echo-response", None),
-        UserBody::ErrorIndication { .. } => named(alloc, "error-indication", None),
-        UserBody::Notification { .. } => named(alloc, "supported-extensions", None),
-        UserBody::EndMarker { teid } => named(alloc, "end-marker", Some(*teid)),
-        UserBody::Packet { teid, .. } => named(alloc, "g-pdu", Some(*teid)),
-        UserBody::Other { teid, .. } => named(alloc, "other", Some(*teid)),
+        UserBody::EndMarker { teid }
+        | UserBody::Packet { teid, .. }
+        | UserBody::Other { teid, .. } => named(alloc, name, Some(*teid)),
+        _ => named(alloc, name, None),
     }
 }
 

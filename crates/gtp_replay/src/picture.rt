@@ -3,7 +3,7 @@
 ghost use Rattle.std.specs.Prelude.{◌≡◌, ◌++◌, ◌+◌, ◌*◌, ◌<◌, ◌^◌, ℕ, OnOk, IfOk, map, length};
 ghost use Rattle.std.specs.List.{enumerate_from};
 ghost use Rattle.gtp_world.specs.Events.{event_of};
-ghost use Rattle.gtp_world.specs.Kept.{sent_by, told_by};
+ghost use Rattle.gtp_world.specs.Record.{sent_by, told_by};
 ghost use Rattle.gtp_replay.specs.RowViews.{row_of};
 ghost use Rattle.gtp_replay.specs.Rows.{rows_of};
 ghost use Rattle.gtp_replay.specs.Svg.{place_svg, outcome_class, told_start, told_svg, coming_class, arrow_path, short_path, arrow_start, arrow_end, arrow_svg, mark_svg, event_class, event_svg, IsRowSvg, IsGroup, height_of, svg_style, svg_opening, svg_lives, svg_head, IsSvg};

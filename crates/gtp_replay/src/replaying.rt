@@ -2,7 +2,7 @@
 
 ghost use Rattle.std.specs.Prelude.{◌≡◌, ◌≢◌, ◌+◌, ◌-◌, ◌^◌, ◌<◌, ℕ, map, IfOk, IfErr, IfSome};
 ghost use Rattle.gtp_world.specs.Events.{event_of};
-ghost use Rattle.gtp_world.specs.Runs.{IsWhole};
+ghost use Rattle.gtp_world.specs.Runs.{RanWhole};
 ghost use Rattle.gtp_scenario.specs.Views.{scenario as scenario_view};
 ghost use Rattle.gtp_replay.specs.Ran.{IsRan};
 ghost use Rattle.gtp_counted.specs.Counts.{inner_of, failures_of};
@@ -72,7 +72,7 @@ struct Ran {
 
 /// The world that these events of a scenario leave.
 fn world_of(alloc: Global, config: &WorldConfig, events: &[Event]) -> Option<World>
-    ensures { IfSome result (λ world. IsWhole config.now (map event_of events.now) world) }
+    ensures { IfSome result (λ world. RanWhole config.now (map event_of events.now) world) }
 {
     World::run(alloc, config, events).ok()
 }

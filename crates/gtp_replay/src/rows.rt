@@ -3,7 +3,7 @@
 ghost use Rattle.std.specs.Prelude.{◌≡◌, ◌++◌, ◌+◌, ◌<◌, ◌≤◌, ◌^◌, List, All, OnOk, IfOk, map, length, take, get_or, slice_get, option_map, false};
 ghost use Rattle.std.specs.List.{flat_map};
 ghost use Rattle.gtp_world.specs.Events.{event_of};
-ghost use Rattle.gtp_world.specs.Kept.{sent_by, told_by, outcome_of};
+ghost use Rattle.gtp_world.specs.Record.{sent_by, told_by, outcome_of};
 ghost use Rattle.gtp_replay.specs.Rows as spec;
 ghost use Rattle.gtp_replay.specs.Rows.{Numbered, can_happen, number_in, brought_by, comes_by, coming_of, is_idle, ticks_at, idle_node, is_idle_at, idle_next, event_row, lost_rows, idle_rows, rows_at, rows_in, rows_of};
 ghost use Rattle.gtp_replay.specs.RowViews.{numbered_from, numbered, happened_of, row_of, IsNumbered, AreFlags, marked};
@@ -95,10 +95,7 @@ fn brought_by<'a>(one: &Happened<'_>, datagrams: &'a [Datagram]) -> Option<(usiz
     if !can_happen(one.note.outcome) {
         return None;
     }
-    match number_in(one.event) {
-        Some(number) => datagram_at(number, datagrams),
-        None => None,
-    }
+    datagram_at(number_in(one.event)?, datagrams)
 }
 
 /// Whether a flag is there and set.

@@ -15,7 +15,7 @@ use Rattle.gtp_machine.specs.declared.outcome.DropReason.TheVariants.{Undecodabl
 use Rattle.gtp_machine.specs.declared.outcome.Outcome.{Outcome}
 use Rattle.gtp_machine.specs.declared.outcome.Outcome.TheVariants.{Begun, GoneOut, Refused, Answered, Echoed, Repeated, Opened, Closed, Clash, Rejected, Alive, Accepted, Ended, Broken, Dropped}
 use Rattle.gtp_machine.specs.World.{By, Event, EventOutcome, Came_to, Ticked, Restarted, No_such_datagram, Restarts_used, Cut_too_long}
-use Rattle.gtp_world.specs.Kept.{Kept, Told}
+use Rattle.gtp_world.specs.Record.{WorldRecord, EventRecord}
 use Rattle.gtp_world.specs.Naming.{Pair, Sessions, Bearers}
 use Rattle.gtp_outcomes.specs.Outcomes.{limit_word, outcome_word, first_word}
 use Rattle.gtp_json.specs.Tree.{member, object_of, array_of, items_of, number_of}
@@ -121,7 +121,7 @@ event_details_within Cut_too_long = tt
 then_depth : (outcome : Outcome) → depth (object_of (outcome_members outcome)) ≤ 2
 then_depth outcome = let inner = object_depth 0 (outcome_members outcome) (outcome_within 0 outcome) in omega (arith, inner)
 
-told_within : (t : Told) → Within 2 (told_members t)
+told_within : (t : EventRecord) → Within 2 (told_members t)
 told_within t =
     join 2 (came_members t.outcome) _ (join 2 _ (event_details t.outcome) (word_within 2 (codes "outcome") (first_word t.outcome)) (event_details_within t.outcome))
     (join 2 (second_members t.second) _ (where_within 2 _ t.second (λ outcome. one 2 (codes "then") (object_of (outcome_members outcome)) (then_depth outcome)))
@@ -130,14 +130,14 @@ told_within t =
 sent_depth : (d : ℕ × By Datagram) → depth (sent_json d) ≤ 1
 sent_depth d = object_depth 0 _ (join 0 _ _ (number_within 0 (codes "datagram") d.0) (join 0 _ _ (word_within 0 (codes "plane") _) (hex_within 0 (codes "octets") d.1.what.octets)))
 
-left_within : (sent : List (ℕ × By Datagram)) (t : Told) → Within 2 (left_members sent t)
+left_within : (sent : List (ℕ × By Datagram)) (t : EventRecord) → Within 2 (left_members sent t)
 left_within sent t =
     let gave_up = array_depth 1 (map number_of t.gave_up) (shallow_map 1 number_of t.gave_up (λ x. omega arith)) in
     let forgot = array_depth 1 (map forgot_json t.forgot) (shallow_map 1 forgot_json t.forgot (λ x. omega arith)) in
     join 2 _ _ (one 2 (codes "sent") (array_of (map sent_json sent)) (array_depth 1 (map sent_json sent) (shallow_map 1 sent_json sent sent_depth)))
     (join 2 _ _ (one 2 (codes "gave_up") (array_of (map number_of t.gave_up)) gave_up) (one 2 (codes "forgot") (array_of (map forgot_json t.forgot)) forgot))
 
-pub event_depth : (place : ℕ) (sent : List (ℕ × By Datagram)) (event : Event) (t : Told) → depth (event_json place sent event t) ≤ 3
+pub event_depth : (place : ℕ) (sent : List (ℕ × By Datagram)) (event : Event) (t : EventRecord) → depth (event_json place sent event t) ≤ 3
 event_depth place sent event t =
     object_depth 2 _ (join 2 (head_members place event t) (left_members sent t)
     (join 2 _ _ (number_within 2 (codes "event") place) (join 2 _ _ (word_within 2 (codes "do") _) (told_within t))) (left_within sent t))
@@ -170,19 +170,19 @@ accepted_depth : (a : By Entry) (owed : Bool) → depth (accepted_json a owed) �
 accepted_depth a owed =
     object_depth 0 _ (join 0 _ _ (word_within 0 (codes "node") _) (join 0 _ _ (teid_within 0 (codes "teid") _) (join 0 _ _ (hex_within 0 (codes "payload") _) (flag_within 0 (codes "owed") owed))))
 
-sessions_within : (v : Kept) → Within 2 (sessions_members v)
+sessions_within : (v : WorldRecord) → Within 2 (sessions_members v)
 sessions_within v =
-    let serving = entries v.serving.station.node.sessions in
-    let packet = entries v.packet.station.node.sessions in
+    let serving = entries v.serving.state.node.sessions in
+    let packet = entries v.packet.state.node.sessions in
     one 2 (codes "sessions") _ (array_depth 1 _ (shallow_both 1 _ _ (shallow_map 1 (session_json Serving) serving (session_depth Serving)) (shallow_map 1 (session_json Packet) packet (session_depth Packet))))
 
-bearers_within : (v : Kept) → Within 2 (bearers_members v)
+bearers_within : (v : WorldRecord) → Within 2 (bearers_members v)
 bearers_within v =
-    let serving = entries v.serving.station.node.bearers in
-    let packet = entries v.packet.station.node.bearers in
+    let serving = entries v.serving.state.node.bearers in
+    let packet = entries v.packet.state.node.bearers in
     one 2 (codes "bearers") _ (array_depth 1 _ (shallow_both 1 _ _ (shallow_map 1 (bearer_json Serving) serving (bearer_depth Serving)) (shallow_map 1 (bearer_json Packet) packet (bearer_depth Packet))))
 
-pub end_depth : (v : Kept) (j : Json) → IsEndJson v j → depth j ≤ 3
+pub end_depth : (v : WorldRecord) (j : Json) → IsEndJson v j → depth j ≤ 3
 end_depth v j is =
     let pairs = array_depth 1 is.pairs (shallow_judged 1 _ mutual_json _ is.pairs mutual_depth is.agreeing) in
     let packets = array_depth 1 is.packets (shallow_judged 1 _ accepted_json _ is.packets accepted_depth is.owed) in

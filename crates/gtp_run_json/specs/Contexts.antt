@@ -11,7 +11,7 @@ use Rattle.gtp_tables.specs.declared.context.Subscriber.{Subscriber}
 use Rattle.gtp_tables.specs.declared.context.Session.{Session}
 use Rattle.gtp_tables.specs.declared.context.Bearer.{Bearer}
 use Rattle.gtp_machine.specs.Node.{Node}
-use Rattle.gtp_world.specs.Kept.{Kept}
+use Rattle.gtp_world.specs.Record.{WorldRecord}
 use Rattle.gtp_scenario.specs.Words.{role_text}
 use Rattle.gtp_outcomes.specs.States.{state_word}
 use Rattle.gtp_json.specs.Tree.{member, object_of, array_of}
@@ -46,8 +46,8 @@ abbrev pub bearers_of : Role → Node → List Json
 bearers_of role node = map (bearer_json role) (entries node.bearers)
 
 -- those of the serving gateway, then of the packet gateway
-abbrev pub sessions_members : Kept → List (List ℕ × Json)
-sessions_members v = member (codes "sessions") (array_of (sessions_of Serving v.serving.station.node ++ sessions_of Packet v.packet.station.node))
+abbrev pub sessions_members : WorldRecord → List (List ℕ × Json)
+sessions_members v = member (codes "sessions") (array_of (sessions_of Serving v.serving.state.node ++ sessions_of Packet v.packet.state.node))
 
-abbrev pub bearers_members : Kept → List (List ℕ × Json)
-bearers_members v = member (codes "bearers") (array_of (bearers_of Serving v.serving.station.node ++ bearers_of Packet v.packet.station.node))
+abbrev pub bearers_members : WorldRecord → List (List ℕ × Json)
+bearers_members v = member (codes "bearers") (array_of (bearers_of Serving v.serving.state.node ++ bearers_of Packet v.packet.state.node))

@@ -9,7 +9,7 @@ use Rattle.gtp_machine.specs.declared.outcome.DropReason.TheVariants.{Undecodabl
 use Rattle.gtp_machine.specs.declared.outcome.Outcome.{Outcome}
 use Rattle.gtp_machine.specs.declared.outcome.Outcome.TheVariants.{Begun, Refused, Answered, Rejected, Dropped}
 use Rattle.gtp_machine.specs.World.{By, Event, EventOutcome, Came_to, Restarted}
-use Rattle.gtp_world.specs.Kept.{Told}
+use Rattle.gtp_world.specs.Record.{EventRecord}
 use Rattle.gtp_scenario.specs.Words.{word_of}
 use Rattle.gtp_outcomes.specs.Outcomes.{plane_word, limit_word, fault_word, outcome_word, first_word}
 use Rattle.gtp_json.specs.Tree.{member, object_of, array_of, number_of}
@@ -50,7 +50,7 @@ second_members second = where_some (λ outcome. member (codes "then") (object_of
 abbrev pub learned_members : Option ℕ → List (List ℕ × Json)
 learned_members counter = where_some (number_member (codes "restart")) counter
 
-abbrev pub told_members : Told → List (List ℕ × Json)
+abbrev pub told_members : EventRecord → List (List ℕ × Json)
 told_members told = came_members told.outcome ++ (second_members told.second ++ learned_members told.learned)
 
 -- a datagram that was sent, under its number
@@ -72,23 +72,23 @@ abbrev pub forgot_members : List Arrival → List (List ℕ × Json)
 forgot_members requests = member (codes "forgot") (array_of (map forgot_json requests))
 
 -- what happened, and what it came to
-abbrev pub head_members : ℕ → Event → Told → List (List ℕ × Json)
+abbrev pub head_members : ℕ → Event → EventRecord → List (List ℕ × Json)
 head_members place event told = number_member (codes "event") place ++ (word_member (codes "do") (word_of event) ++ told_members told)
 
 -- what it left: what was sent, given up and forgotten
-abbrev pub left_members : List (ℕ × By Datagram) → Told → List (List ℕ × Json)
+abbrev pub left_members : List (ℕ × By Datagram) → EventRecord → List (List ℕ × Json)
 left_members sent told = sent_members sent ++ (gave_up_members told.gave_up ++ forgot_members told.forgot)
 
 -- an event at this place, and the datagrams that it sent, each with its number
-abbrev pub event_json : ℕ → List (ℕ × By Datagram) → Event → Told → Json
+abbrev pub event_json : ℕ → List (ℕ × By Datagram) → Event → EventRecord → Json
 event_json place sent event told = object_of (head_members place event told ++ left_members sent told)
 
 -- events from this place on, what is told of each, and the datagrams that they sent
-abbrev pub events_from : ℕ → List (ℕ × By Datagram) → List Event → List Told → List Json
+abbrev pub events_from : ℕ → List (ℕ × By Datagram) → List Event → List EventRecord → List Json
 events_from place sent [] notes = []
 events_from place sent (event ∷ events) [] = []
 events_from place sent (event ∷ events) (told ∷ notes) = event_json place (take told.sent sent) event told ∷ events_from (place + 1) (drop told.sent sent) events notes
 
 -- all events, and all datagrams, both numbered from 0
-abbrev pub events_json : List Event → List (By Datagram) → List Told → List Json
+abbrev pub events_json : List Event → List (By Datagram) → List EventRecord → List Json
 events_json events datagrams notes = events_from 0 (enumerate_from 0 datagrams) events notes

@@ -19,8 +19,8 @@ use std::alloc::AllocError;
 
 /// Writes the gateway and both TEIDs of a context.
 #[tactic(auto, using(gtp_json::proofs::Tokens::appending))]
-fn put_ends(out: &mut Output, node: Role, own: Teid, remote: Option<u32>) -> Result<(), AllocError>
-    ensures ok { OnOk result (out.new ≡ out.old ++ written (ends_members node own.0 remote)) }
+fn put_ends(out: &mut Output, node: Role, own: Teid, remote: Option<Teid>) -> Result<(), AllocError>
+    ensures ok { OnOk result (out.new ≡ out.old ++ written (ends_members node own remote)) }
 {
     out.string_member("node", name_of(node))?;
     put_teid(out, "local", own)?;
@@ -62,7 +62,7 @@ fn put_standing(out: &mut Output, session: &Session) -> Result<(), AllocError>
 #[tactic(auto, using(gtp_json::proofs::Tokens::nesting))]
 fn put_session(out: &mut Output, node: Role, own: Teid, session: &Session) -> Result<(), AllocError>
     ensures ok { OnOk result
-        (out.new ≡ out.old ++ json_tokens (session_json node (own.0, session.now))) }
+        (out.new ≡ out.old ++ json_tokens (session_json node (own, session.now))) }
 {
     out.begin_object()?;
     put_ends(out, node, own, session.remote)?;
@@ -76,7 +76,7 @@ fn put_session(out: &mut Output, node: Role, own: Teid, session: &Session) -> Re
 fn put_bearer_members(out: &mut Output, bearer: &Bearer) -> Result<(), AllocError>
     ensures ok { OnOk result (out.new ≡ out.old ++ written (bearer_members bearer.now)) }
 {
-    put_teid(out, "session", Teid(bearer.session))?;
+    put_teid(out, "session", bearer.session)?;
     put_some_number(
         out,
         "ebi",
@@ -90,7 +90,7 @@ fn put_bearer_members(out: &mut Output, bearer: &Bearer) -> Result<(), AllocErro
 #[tactic(auto, using(gtp_json::proofs::Tokens::nesting))]
 fn put_bearer(out: &mut Output, node: Role, own: Teid, bearer: &Bearer) -> Result<(), AllocError>
     ensures ok { OnOk result
-        (out.new ≡ out.old ++ json_tokens (bearer_json node (own.0, bearer.now))) }
+        (out.new ≡ out.old ++ json_tokens (bearer_json node (own, bearer.now))) }
 {
     out.begin_object()?;
     put_ends(out, node, own, bearer.remote)?;

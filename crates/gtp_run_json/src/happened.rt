@@ -6,18 +6,19 @@ ghost use Rattle.json.specs.Tree.{json_tokens};
 ghost use Rattle.gtp_reliable.specs.Forgotten.{question_of};
 ghost use Rattle.gtp_gateway.specs.Tick.{asked_by, arrivals_of};
 ghost use Rattle.gtp_world.specs.Events.{event_of};
-ghost use Rattle.gtp_world.specs.Kept.{outcome_of, sent_by, told_by};
+ghost use Rattle.gtp_world.specs.Record.{outcome_of, sent_by, told_by};
 ghost use Rattle.gtp_outcomes.specs.Outcomes.{fault_word};
 ghost use Rattle.gtp_json.specs.Tree.{number_of, line_of};
 ghost use Rattle.gtp_json.specs.reading.Tokens.{written};
 ghost use Rattle.gtp_run_json.specs.Run.{ReadsAsItself, AllRead};
 ghost use Rattle.gtp_run_json.specs.Happened.{drop_members, outcome_details, outcome_members, event_details, came_members, second_members, learned_members, told_members, sent_json, sent_members, gave_up_members, forgot_json, forgot_members, head_members, left_members, event_json, events_json};
 
-use crate::members::{put_some_number, put_some_teid, put_some_word};
+use crate::members::{put_some_number, put_some_word, put_teid};
 use gtp_gateway::{Counter, DropReason, FaultName, Outcome, Request, Seq};
 use gtp_json::Output;
 use gtp_outcomes::{first_word, limit_word, outcome_word, plane_letter, plane_word};
 use gtp_scenario::word_of;
+use gtp_values::Teid;
 use gtp_world::{Datagram, Event, EventOutcome, Note};
 use itoa::Buffer;
 use std::alloc::{AllocError, Global};
@@ -51,7 +52,7 @@ fn put_outcome_details(out: &mut Output, outcome: Outcome) -> Result<(), AllocEr
     ensures ok { OnOk result (out.new ≡ out.old ++ written (outcome_details outcome)) }
 {
     match outcome {
-        Outcome::Begun(teid) => put_some_teid(out, "teid", teid),
+        Outcome::Begun(Some(teid)) => put_teid(out, "teid", Teid(teid)),
         Outcome::Refused(refusal) => put_some_word(out, "limit", limit_word(refusal)),
         Outcome::Answered(cause) => out.number_member("cause", u64::from(cause)),
         Outcome::Rejected(cause) => out.number_member("cause", u64::from(cause)),
@@ -277,10 +278,7 @@ pub fn put_events(
 {
     let mut next = 0;
     let mut rest = datagrams;
-    for (place, event) in events.iter().enumerate() {
-        let Some(note) = notes.get(place) else {
-            return Ok(());
-        };
+    for (place, (event, note)) in events.iter().zip(notes).enumerate() {
         let count = rest.len().min(note.sent);
         let (sent, others) = rest.split_at(count);
         let line = event_line(alloc, place, event, note, next, sent)?;

@@ -10,20 +10,20 @@ use std::alloc::AllocError;
 
 /// Writes a TEID.
 pub fn put_teid(out: &mut Output, name: &str, teid: Teid) -> Result<(), AllocError>
-    ensures ok { OnOk result (out.new ≡ out.old ++ written (teid_member name.now teid.0)) }
+    ensures ok { OnOk result (out.new ≡ out.old ++ written (teid_member name.now teid)) }
 {
     out.display_member(name, &teid)
 }
 
 /// Writes a TEID, where there is one.
 #[tactic(auto, using(gtp_json::proofs::Tokens::appending))]
-pub fn put_some_teid(out: &mut Output, name: &str, teid: Option<u32>) -> Result<(), AllocError>
+pub fn put_some_teid(out: &mut Output, name: &str, teid: Option<Teid>) -> Result<(), AllocError>
     ensures ok { OnOk result
         (out.new ≡ out.old ++ written (where_some (teid_member name.now) teid)) }
 {
     match teid {
         None => Ok(()),
-        Some(teid) => put_teid(out, name, Teid(teid)),
+        Some(teid) => put_teid(out, name, teid),
     }
 }
 

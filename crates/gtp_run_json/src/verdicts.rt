@@ -3,9 +3,9 @@
 ghost use Rattle.std.specs.Prelude.{◌≡◌, ◌++◌, List, OnOk, codes};
 ghost use Rattle.json.specs.Json.{Json};
 ghost use Rattle.json.specs.Tree.{json_tokens};
-ghost use Rattle.gtp_world.specs.Kept.{entry_by};
+ghost use Rattle.gtp_world.specs.Record.{entry_by};
 ghost use Rattle.gtp_world.specs.Naming.{pair_of, mutual_pairs, DoAgree};
-ghost use Rattle.gtp_outcomes.specs.Owed.{IsOwed};
+ghost use Rattle.gtp_outcomes.specs.Owed.{WasOwed};
 ghost use Rattle.gtp_outcomes.specs.Each.{AddsEach};
 ghost use Rattle.gtp_json.specs.Tree.{member, array_of};
 ghost use Rattle.gtp_json.specs.reading.Tokens.{written};
@@ -28,7 +28,7 @@ fn put_pair(
     agree: bool,
 ) -> Result<(), AllocError>
     ensures ok { OnOk result
-        (out.new ≡ out.old ++ json_tokens (pair_json kind.now serving.0 packet.0 agree)) }
+        (out.new ≡ out.old ++ json_tokens (pair_json kind.now serving packet agree)) }
 {
     out.begin_object()?;
     out.string_member("kind", kind)?;
@@ -55,7 +55,8 @@ fn put_all_mutual(out: &mut Output, world: &World) -> Result<(), AllocError>
         (mutual_pairs world.now) out.old out.new) }
 {
     for pair in world.mutual() {
-        put_contexts(out, pair, world.agrees(pair))?;
+        let agree = world.agrees(&pair);
+        put_contexts(out, pair, agree)?;
     }
     Ok(())
 }
@@ -88,13 +89,13 @@ fn put_packet(out: &mut Output, packet: &Entry, owed: bool) -> Result<(), AllocE
 
 /// Writes all packets that were accepted.
 fn put_all_accepted(out: &mut Output, world: &World) -> Result<(), AllocError>
-    ensures ok { OnOk result (AddsEach (IsOwed world.now.log)
+    ensures ok { OnOk result (AddsEach (WasOwed world.now.log)
         (λ entry owed. json_tokens (accepted_json entry owed))
         world.now.log.accepted out.old out.new) }
 {
     for (index, packet) in world.accepted().iter().enumerate() {
         let Some(owed) = world.owed(index) else {
-            return Ok(());
+            unreachable!()
         };
         put_packet(out, packet, owed)?;
     }
@@ -104,7 +105,7 @@ fn put_all_accepted(out: &mut Output, world: &World) -> Result<(), AllocError>
 /// Writes the member of the packets that were accepted.
 pub fn put_accepted(out: &mut Output, world: &World) -> Result<(), AllocError>
     ensures ok { OnOk result ((packets : List Json)
-        × JudgesEach (IsOwed world.now.log) accepted_json world.now.log.accepted packets
+        × JudgesEach (WasOwed world.now.log) accepted_json world.now.log.accepted packets
         × (out.new ≡ out.old ++ written (member (codes "accepted") (array_of packets)))) }
 {
     out.key("accepted")?;

@@ -1,3 +1,4 @@
+pub mod Among
 pub mod Counts
 pub mod Front
 pub mod Gateways

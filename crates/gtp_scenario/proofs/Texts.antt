@@ -81,7 +81,7 @@ apn_read text (Err e) is reads = sym (none_apn text (λ is_text. absurd cc (read
 
 -- ---- TEIDs
 
-pub teid_read : (text : List ℕ) (r : Result Teid ValueFault) → ReadsTeid text r → option_map (λ teid. teid.0) (result_ok r) ≡ teid_of text
+pub teid_read : (text : List ℕ) (r : Result Teid ValueFault) → ReadsTeid text r → result_ok r ≡ teid_of text
 unfolding teid_of
 teid_read text (Ok teid) reads =
     let is = reads.ok.0 refl in

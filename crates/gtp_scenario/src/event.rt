@@ -39,7 +39,7 @@ fn node_at(value: &Tree<'_, '_>) -> Option<Role>
 /// The TEID under `teid`: eight hexadecimal digits.
 #[tactic(auto, unfolding(crate::specs::Events::teid_at))]
 pub fn teid_at(value: &Tree<'_, '_>) -> Option<Teid>
-    ensures { option_map (λ teid. teid.0) result ≡ teid_at (view value.now) }
+    ensures { result ≡ teid_at (view value.now) }
 {
     teid_of(text_at(value, "teid")?)
 }
@@ -108,7 +108,7 @@ fn create_session_of(value: &Tree<'_, '_>) -> Option<Event>
 /// The TEID of an event that has no key of its own beside it.
 #[tactic(auto, unfolding(crate::specs::Events::lone_teid_of))]
 fn lone_teid_of(value: &Tree<'_, '_>) -> Option<Teid>
-    ensures { option_map (λ teid. teid.0) result ≡ lone_teid_of (view value.now) }
+    ensures { result ≡ lone_teid_of (view value.now) }
 {
     if !has_only(value, &["do", "expect", "teid"]) {
         return None;

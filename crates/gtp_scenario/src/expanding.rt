@@ -16,7 +16,7 @@ use std::alloc::Global;
 
 /// A copy of a packet that is handed in.
 fn send_copy(alloc: Global, node: Role, bearer: Teid, payload: &[u8]) -> Result<Event, Memory>
-    ensures { IfOk result (λ e. event_of e ≡ Does node (Send_user bearer.0 payload.now)) }
+    ensures { IfOk result (λ e. event_of e ≡ Does node (Send_user bearer payload.now)) }
 {
     let payload = Vec::from_slice(alloc, payload)?;
     Ok(Event::SendUser {

@@ -146,12 +146,7 @@ pub fn within(low: u32, high: u32, number: u64) -> Option<u32>
 fn is_among(keys: &[&str], key: &str) -> bool
     ensures { result ≡ is_among (map (λ k. k.now) keys.now) key.now }
 {
-    for known in keys {
-        if key == *known {
-            return true;
-        }
-    }
-    false
+    keys.iter().any(|known| key == *known)
 }
 
 /// Whether each key of the members is one of these.

@@ -33,7 +33,7 @@ pub(crate) fn apn_of(text: &str) -> Option<Apn>
 
 /// A TEID.
 pub(crate) fn teid_of(text: &str) -> Option<Teid>
-    ensures { option_map (λ teid. teid.0) result ≡ teid_of text.now }
+    ensures { result ≡ teid_of text.now }
 {
     Teid::from_text(text).ok()
 }

@@ -1,5 +1,5 @@
 -- Where nothing is wrong with a head, it is read.
-use Rattle.std.proofs.Common.{◌≡◌, ◌||◌, ◌∙◌, ℕ, List, [], ◌∷◌, true, false, Option, Some, None, refl, sym, ap}
+use Rattle.std.proofs.Common.{◌≡◌, ◌||◌, ◌∙◌, ℕ, List, true, false, Option, Some, None, refl, sym, ap}
 use Rattle.std.specs.Prelude.{is_some, codes}
 use Rattle.std.specs.Option.{option_map_or}
 use Rattle.serde_json.specs.Data.{Data}
@@ -7,7 +7,6 @@ use Rattle.serde_json.specs.Find.{get, as_str}
 use Rattle.gtp_machine.specs.declared.role.Role.{Role}
 use Rattle.gtp_machine.specs.declared.role.Role.TheVariants.{Serving, Packet}
 use Rattle.gtp_gateway.specs.Settings.{settings_of}
-use Rattle.gtp_scenario.specs.declared.reason.key.Key.{Key}
 use Rattle.gtp_scenario.specs.declared.reason.key.Key.TheVariants as keys
 use Rattle.gtp_scenario.specs.declared.reason.wanted.Wanted.TheVariants as wanted
 use Rattle.gtp_scenario.specs.Heads.{access_points_at, counter_at, pool_at, prefixes_at, pools_at, timers_at, with_templates_at}

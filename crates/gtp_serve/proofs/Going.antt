@@ -1,5 +1,5 @@
 -- Lines are answered one after the other.
-use Rattle.std.proofs.Common.{arith, ◌≡◌, ℕ, ◌+◌, ◌-◌, ◌^◌, ◌<◌, ◌≤◌, Bool, true, false, eqb, cond, List, [], ◌∷◌, ◌++◌, length, length-take, take, take_all, inl, inr, Option, Some, None, IfSome, codes, refl, sym, ap, ◌∙◌, subst, append-nil, append_assoc}
+use Rattle.std.proofs.Common.{arith, ◌≡◌, ℕ, ◌-◌, ◌^◌, ◌<◌, ◌≤◌, List, [], ◌∷◌, ◌++◌, length, length-take, take, take_all, inl, inr, Option, Some, None, IfSome, codes, refl, sym, ap, ◌∙◌, subst, append-nil, append_assoc}
 use Rattle.std.proofs.lemmas.Bool.{cases_lt}
 use Rattle.std.proofs.KnownBytes.{Appends-trans}
 use Rattle.std.specs.Io.KnownBytes.{Appends, IsAtEnd}
@@ -95,11 +95,11 @@ pub no_head : (old : Option (List ℕ)) (held : List ℕ) → IfSome old (λ xs.
 no_head None held is fits none = tt
 no_head (Some xs) held is fits none = inr (ap head_in (sym (whole_line xs held is fits)) ∙ none)
 
-pub has_started : (old new : Option (List ℕ)) (held : List ℕ) (head : Head) (station : GatewayState) → IfSome old (λ xs. held ≡ take 1048577 (take_through 10 xs)) → DropsThrough old new 10 → length held ≤ 1048576
-    → head_in held ≡ Some head → station ≡ started head → Known (λ octets left. IsStarted octets left head.role station) old new
-has_started None new held head station is drops fits says starts = tt
-has_started (Some xs) None held head station is drops fits says starts = absurd (subst is_known (sym drops) tt)
-has_started (Some xs) (Some ys) held head station is drops fits says starts =
+pub has_started : (old new : Option (List ℕ)) (held : List ℕ) (head : Head) (state : GatewayState) → IfSome old (λ xs. held ≡ take 1048577 (take_through 10 xs)) → DropsThrough old new 10 → length held ≤ 1048576
+    → head_in held ≡ Some head → state ≡ started head → Known (λ octets left. IsStarted octets left head.role state) old new
+has_started None new held head state is drops fits says starts = tt
+has_started (Some xs) None held head state is drops fits says starts = absurd (subst is_known (sym drops) tt)
+has_started (Some xs) (Some ys) held head state is drops fits says starts =
     let whole = whole_line xs held is fits in
     record {
       head = head;

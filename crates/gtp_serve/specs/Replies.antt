@@ -14,7 +14,7 @@ use Rattle.gtp_gateway.specs.messages.Sent.{datagram_by}
 use Rattle.gtp_gateway.specs.receive.Taken.{datagrams}
 use Rattle.gtp_gateway.specs.Tick.{arrivals_of}
 use Rattle.gtp_gateway.specs.declared.sent.Begun.{Begun}
-use Rattle.gtp_gateway.specs.declared.step.Accepted.{Accepted}
+use Rattle.gtp_gateway.specs.user.Accepted.{Accepted}
 use Rattle.gtp_gateway.specs.declared.step.Step.{Step}
 use Rattle.gtp_gateway.specs.declared.tick.Ticked.{Ticked as TickedOnce}
 use Rattle.gtp_outcomes.specs.Outcomes.{plane_word}
@@ -44,14 +44,14 @@ plain outcome = record { outcome = outcome; second = None; learned = None; sent 
 
 -- a command that was carried out
 abbrev pub of_begun : Command → Begun → Reply
-of_begun command begun = record (plain (Came_to (outcome_by command (option_map (λ t. t.0) begun.teid)))) { sent = datagram_by begun.out ∷ [] }
+of_begun command begun = record (plain (Came_to (outcome_by command begun.teid))) { sent = datagram_by begun.out ∷ [] }
 
 -- a command that was refused
 abbrev pub of_refusal : Refusal → Reply
 of_refusal why = plain (Came_to (Refused why))
 
 abbrev pub packet_of : Accepted → ℕ × List ℕ
-packet_of accepted = (accepted.bearer.0, accepted.payload.now)
+packet_of accepted = (accepted.bearer, accepted.payload)
 
 -- a datagram that was received
 abbrev pub of_step : Step → Reply

@@ -5,7 +5,7 @@ ghost use Rattle.std.specs.List.{flat_map};
 ghost use Rattle.json.specs.Tree.{json_tokens};
 ghost use Rattle.gtp_gateway.specs.messages.Sent.{datagram_by};
 ghost use Rattle.gtp_gateway.specs.receive.Taken.{datagrams};
-ghost use Rattle.gtp_world.specs.Kept.{outcome_of};
+ghost use Rattle.gtp_world.specs.Record.{outcome_of};
 ghost use Rattle.gtp_world.specs.Commands.{command_of, is_command};
 ghost use Rattle.gtp_json.specs.Tree.{line_of, member, array_of};
 ghost use Rattle.gtp_json.specs.reading.Tokens.{written};
@@ -34,7 +34,7 @@ struct Told<'a> {
     second: Option<Outcome>,
     learned: Option<Counter>,
     sent: &'a [Sent],
-    accepted: Option<Accepted<'a>>,
+    accepted: Option<&'a Accepted<'a>>,
     gave_up: &'a [Seq],
     forgotten: &'a [Request],
 }
@@ -97,7 +97,7 @@ fn put_sent(out: &mut Output, sent: &[Sent]) -> Result<(), AllocError>
 #[tactic(auto, using(gtp_json::proofs::Tokens::appending))]
 fn put_packet_members(out: &mut Output, bearer: Teid, payload: &[u8]) -> Result<(), AllocError>
     ensures ok { OnOk result
-        (out.new ≡ out.old ++ written (packet_members (bearer.0, payload.now))) }
+        (out.new ≡ out.old ++ written (packet_members (bearer, payload.now))) }
 {
     put_teid(out, "teid", bearer)?;
     out.hex_member("payload", payload)
@@ -107,7 +107,7 @@ fn put_packet_members(out: &mut Output, bearer: Teid, payload: &[u8]) -> Result<
 #[tactic(auto, using(gtp_json::proofs::Tokens::nesting))]
 fn put_packet(out: &mut Output, bearer: Teid, payload: &[u8]) -> Result<(), AllocError>
     ensures ok { OnOk result
-        (out.new ≡ out.old ++ json_tokens (accepted_json (bearer.0, payload.now))) }
+        (out.new ≡ out.old ++ json_tokens (accepted_json (bearer, payload.now))) }
 {
     out.begin_object()?;
     put_packet_members(out, bearer, payload)?;
@@ -116,9 +116,10 @@ fn put_packet(out: &mut Output, bearer: Teid, payload: &[u8]) -> Result<(), Allo
 
 /// Writes the packet that was accepted, where there is one.
 #[tactic(auto, using(gtp_json::proofs::Tokens::nesting))]
-fn put_accepted(out: &mut Output, accepted: &Option<Accepted<'_>>) -> Result<(), AllocError>
+fn put_accepted(out: &mut Output, accepted: Option<&Accepted<'_>>) -> Result<(), AllocError>
     ensures ok { OnOk result (out.new
-        ≡ out.old ++ written (accepted_members (option_map packet_of accepted.now))) }
+        ≡ out.old ++ written (accepted_members
+        (option_map (λ a. packet_of a.now) accepted.entry))) }
 {
     let Some(accepted) = accepted else {
         return Ok(());
@@ -143,7 +144,7 @@ fn put_left(out: &mut Output, told: &Told<'_>) -> Result<(), AllocError>
     ensures ok { OnOk result (out.new ≡ out.old ++ written (left_members (reply_by told.now))) }
 {
     put_sent(out, told.sent)?;
-    put_accepted(out, &told.accepted)?;
+    put_accepted(out, told.accepted)?;
     put_gave_up(out, told.gave_up)?;
     put_forgot(out, told.forgotten)
 }
@@ -197,7 +198,7 @@ pub fn step_line(alloc: Global, step: &Step<'_>) -> Result<Vec<u8>, AllocError>
             second: step.report.second,
             learned: step.report.restart,
             sent: step.out.as_slice(),
-            accepted: step.accepted,
+            accepted: step.accepted.as_ref(),
             ..Told::of(EventOutcome::CameTo(step.report.outcome))
         },
     )

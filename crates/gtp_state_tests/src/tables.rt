@@ -6,14 +6,14 @@ use std::test::Fail;
 
 /// The TEID of this number in the seventh start.
 fn teid(number: u32) -> Teid {
-    Teid(0x0700_0000 | number)
+    Teid(number.wrapping_add(0x0700_0000))
 }
 
 /// The bearer of this number, of the eleven of each session; perhaps with the peer's TEID, which is its number.
-fn bearer(number: u32, remote: Option<u32>) -> Result<Bearer, Fail> {
+fn bearer(number: u32, remote: Option<Teid>) -> Result<Bearer, Fail> {
     Ok(Bearer {
         remote,
-        session: number / 11,
+        session: Teid(number / 11),
         identity: Some(Ebi::try_new((5 + number % 11) as u8)?),
         kind: Kind::Default,
         state: State::Active,
@@ -28,7 +28,7 @@ fn add_and_open(rt: &impl Abort, bearers: &mut Bearers, number: u32) -> Result<(
     bearers.add(own, bearer(number, None)?)?;
     let pending = bearers.get(own).ok_or("the bearer that was added")?;
     if pending.remote.is_none() {
-        bearers.open(own, bearer(number, Some(number))?)?;
+        bearers.open(own, bearer(number, Some(Teid(number)))?)?;
     }
     Ok(())
 }

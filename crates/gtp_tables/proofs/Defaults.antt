@@ -13,12 +13,12 @@ use Rattle.gtp_values.proofs.Tests.{both, itself, same_number}
 -- the bearer that is looked at next is not past this TEID
 abbrev pub IsAhead : Option Teid → ℕ → Type 0
 IsAhead None t = ⊥
-IsAhead (Some next) t = next.0 ≤ t
+IsAhead (Some next) t = next ≤ t
 
 -- how many TEIDs there are from the one that is looked at next
 abbrev pub left_from : Option Teid → ℕ
 left_from None = 0
-left_from (Some next) = 4294967296 - next.0
+left_from (Some next) = 4294967296 - next
 
 pub kind_is : (k : Kind) → is_default k ≡ true → k ≡ Default
 kind_is Default h = refl
@@ -38,7 +38,7 @@ is_found m remote session d =
 
 module _ (m : FiniteMap Bearer) (remote session : ℕ) (d : HasDefault m remote session) where
   -- it is not before the first one
-  pub ahead_first : (o : Option Teid) → IfSome o (λ teid. (t : ℕ) → HasRemote m remote t → teid.0 ≤ t) → IfNone o (IsUnnamed m remote) → IsAhead o d.teid
+  pub ahead_first : (o : Option Teid) → IfSome o (λ teid. (t : ℕ) → HasRemote m remote t → teid ≤ t) → IfNone o (IsUnnamed m remote) → IsAhead o d.teid
   ahead_first None lowest none = none d.teid d.at.bearer d.at.stands d.at.has
   ahead_first (Some teid) lowest none = lowest d.teid d.at
 
@@ -48,6 +48,6 @@ module _ (m : FiniteMap Bearer) (remote session : ℕ) (d : HasDefault m remote 
       omega (arith, upto, other)
 
   -- where it is not the one that was looked at, it is not before the next one
-  pub ahead_next : (t : Teid) (o : Option Teid) → t.0 ≤ d.teid → default_of session (get m t.0) ≡ false → IfSome o (λ teid. (k : ℕ) → t.0 < k → HasRemote m remote k → teid.0 ≤ k) → IfNone o ((k : ℕ) → t.0 < k → HasRemote m remote k → ⊥) → IsAhead o d.teid
-  ahead_next t None upto is next none = none d.teid (past_other t.0 upto is) d.at
-  ahead_next t (Some teid) upto is next none = next d.teid (past_other t.0 upto is) d.at
+  pub ahead_next : (t : Teid) (o : Option Teid) → t ≤ d.teid → default_of session (get m t) ≡ false → IfSome o (λ teid. (k : ℕ) → t < k → HasRemote m remote k → teid ≤ k) → IfNone o ((k : ℕ) → t < k → HasRemote m remote k → ⊥) → IsAhead o d.teid
+  ahead_next t None upto is next none = none d.teid (past_other t upto is) d.at
+  ahead_next t (Some teid) upto is next none = next d.teid (past_other t upto is) d.at

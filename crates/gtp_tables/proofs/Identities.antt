@@ -35,6 +35,6 @@ is_unused m session identity none t b stands of has =
     cc
 
 -- where a bearer was found that has the identity, the session has it
-pub some_has : (m : FiniteMap Bearer) (session identity : ℕ) (found : Option Teid) → IfSome found (λ teid. IsBearerWith m session identity teid.0) → is_some found ≡ true → HasIdentity m session identity
+pub some_has : (m : FiniteMap Bearer) (session identity : ℕ) (found : Option Teid) → IfSome found (λ teid. IsBearerWith m session identity teid) → is_some found ≡ true → HasIdentity m session identity
 some_has m session identity None h is = absurd cc
-some_has m session identity (Some teid) h is = record { teid = teid.0; bearer = h.bearer; stands = h.stands; of = h.of; has = h.has }
+some_has m session identity (Some teid) h is = record { teid = teid; bearer = h.bearer; stands = h.stands; of = h.of; has = h.has }

@@ -1,7 +1,7 @@
 -- The index by remote TEID after a change.
 use Rattle.std.proofs.Common.{◌≡◌, ◌<◌, ◌≤◌, ℕ, ◌&&◌, Bool, true, false, cond, Option, Some, None, refl, sym, ap, subst, ◌∙◌, nat_eq, arith}
 use Rattle.std.specs.declared.cmp.Ordering.TheVariants.{Less}
-use Rattle.std.specs.Ordering.{nat_cmp, eq_by_cmp, ordering_then, is_eq, is_gt}
+use Rattle.std.specs.Ordering.{nat_cmp, eq_by_cmp, ord_min, ordering_then, is_eq, is_gt}
 use Rattle.std.specs.BTreeMap.Range.{IsLeBy, IsLtBy}
 use Rattle.std.specs.Prelude.{◌==◌, ◌||◌, List, [], ◌∷◌, map, is_some, option_map, if◌then◌else◌}
 use Rattle.std.specs.Map.{lookup}
@@ -246,3 +246,27 @@ noted_stays index remote r o old new none taken named from = by (nat_eq remote r
         let there : is_under index r ≡ true = under_named index.keys r o named in
         absurd cc
     by false other = subst (λ t. IsFrom t o) (sym (taken r ∙ ap (λ b. cond b None (lookup (nat_eq r) old)) other)) from
+
+-- the lower one of two TEIDs
+pub least : (own there : ℕ) → (ord_min nat_cmp own there ≤ own) × (ord_min nat_cmp own there ≤ there)
+least own there = (grind (arith, nat_tests), grind (arith, nat_tests))
+
+-- a note is put in the place of none, or of one that is not lower
+pub noted_more : (old new : List (ℕ × ℕ)) (remote low : ℕ) → ((q : ℕ) → lookup (nat_eq q) new ≡ cond (nat_eq remote q) (Some low) (lookup (nat_eq q) old)) → IfSome (lookup (nat_eq remote) old) (λ there. low ≤ there)
+    → (r o : ℕ) → IsFrom (lookup (nat_eq r) old) o → IsFrom (lookup (nat_eq r) new) o
+noted_more old new remote low put least r o from = by (nat_eq remote r) refl
+  where
+    lower : (there : Option ℕ) → IfSome there (λ n. low ≤ n) → IsFrom there o → low ≤ o
+    lower None h from = absurd from
+    lower (Some n) h from = omega (arith, h, from)
+
+    by : (b : Bool) → nat_eq remote r ≡ b → IsFrom (lookup (nat_eq r) new) o
+    by true same =
+        let here : IfSome (lookup (nat_eq r) old) (λ n. low ≤ n) = subst (λ q. IfSome (lookup (nat_eq q) old) (λ n. low ≤ n)) (same_number remote r same) least in
+        subst (λ t. IsFrom t o) (sym (put r ∙ ap (λ b. cond b (Some low) (lookup (nat_eq r) old)) same)) (lower (lookup (nat_eq r) old) here from)
+    by false other = subst (λ t. IsFrom t o) (sym (put r ∙ ap (λ b. cond b (Some low) (lookup (nat_eq r) old)) other)) from
+
+-- what follows from what a clause says where there is no value
+pub IfNone_then : {X : Type 0} (r : Option X) {P Q : Type 0} → IfNone r P → (P → Q) → IfNone r Q
+IfNone_then None p by = by p
+IfNone_then (Some x) p by = tt

@@ -2,7 +2,7 @@
 
 ghost use Rattle.std.specs.Prelude.{◌≡◌, ◌↔◌, ◌<◌, ◌≤◌, ℕ, Option, None, Some};
 ghost use Rattle.std.specs.Prelude.{true, false, IsTrue, IfSome, IfNone, IsOk, IfErr, OnOk, OnErr};
-ghost use Rattle.std.specs.Prelude.{option_map, slice_get};
+ghost use Rattle.std.specs.Prelude.{slice_get};
 ghost use Rattle.std.specs.FinMap as map;
 ghost use Rattle.std.specs.Prelude.{Bool, not, map as mapped};
 ghost use Rattle.indexmap.specs.IndexMap.{spare};
@@ -17,7 +17,7 @@ ghost use Rattle.gtp_tables.specs.Index.{default_of, HasDefault};
 use crate::context::{Bearer, Kind, State};
 use crate::fault::TablesFault;
 use crate::index::{
-    first_named, forget_if, keep_named, keep_noted, name_if, next_named, noted_for, unname_if,
+    first_named, keep_named, keep_noted, name_if, next_named, noted_for, unname_if,
 };
 use crate::table::Table;
 use gtp_values::{Ebi, Teid};
@@ -32,10 +32,10 @@ use std::marker::Model;
 pub struct Bearers {
     table: Table<Bearer>,
     /// Exactly the pairs of a remote and an own TEID of the bearers that have a remote.
-    by_remote: BTreeSet<(u32, u32)>,
+    by_remote: BTreeSet<(Teid, Teid)>,
     /// By remote TEID an own one, below which none has this remote: where it has it, it is found at
     /// once, and the pairs need not be searched.
-    noted: IndexMap<u32, u32>,
+    noted: IndexMap<Teid, Teid>,
 }
 
 impl Model for Bearers {
@@ -59,7 +59,7 @@ impl Model for Bearers {
 }
 
 /// Closes a bearer where it is of the session.
-fn close_if(bearer: &mut Bearer, session: u32)
+fn close_if(bearer: &mut Bearer, session: Teid)
     ensures { bearer.new ≡ closing_bearer session bearer.old }
 {
     if bearer.session == session {
@@ -68,7 +68,7 @@ fn close_if(bearer: &mut Bearer, session: u32)
 }
 
 /// Closes the bearers of a session.
-fn close_rows(rows: &mut IndexMap<u32, Bearer>, session: u32)
+fn close_rows(rows: &mut IndexMap<Teid, Bearer>, session: Teid)
     ensures rows { rows.new.entries
         ≡ mapped (with_value (closing_bearer session)) rows.old.entries }
     ensures room { spare rows.old ≡ spare rows.new }
@@ -80,7 +80,7 @@ fn close_rows(rows: &mut IndexMap<u32, Bearer>, session: u32)
 
 impl Table<Bearer> {
     /// Closes the bearers of a session.
-    fn close_of_session(&mut self, session: u32)
+    fn close_of_session(&mut self, session: Teid)
         ensures { self.new ≡ record self.old {
           table = changed (closing_bearer session) self.old.table;
         } }
@@ -110,59 +110,53 @@ impl Bearers {
 
     /// The bearer under a TEID.
     pub fn get(&self, teid: Teid) -> Option<Bearer>
-        ensures { result ≡ map.get self.now teid.0 }
+        ensures { result ≡ map.get self.now teid }
     {
         self.table.get(teid)
     }
 
     /// The bearer at an index in order of the TEIDs, from 0.
     pub fn at(&self, index: usize) -> Option<(Teid, Bearer)>
-        ensures { option_map (λ e. (e.0.0, e.1)) result ≡ slice_get (map.entries self.now) index }
+        ensures { result ≡ slice_get (map.entries self.now) index }
     {
         self.table.at(index)
     }
 
     /// The bearer that has this remote TEID: of several the one under the lowest TEID.
     pub fn first_of_remote(&self, remote: Teid) -> Option<Teid>
-        ensures found { IfSome result (λ teid. HasRemote self.now remote.0 teid.0) }
+        ensures found { IfSome result (λ teid. HasRemote self.now remote teid) }
         ensures lowest { IfSome result (λ teid. (t : ℕ)
-            → HasRemote self.now remote.0 t → teid.0 ≤ t) }
-        ensures none { IfNone result (IsUnnamed self.now remote.0) }
+            → HasRemote self.now remote t → teid ≤ t) }
+        ensures none { IfNone result (IsUnnamed self.now remote) }
     {
-        let Some(noted) = noted_for(&self.noted, remote.0) else {
+        let Some(noted) = noted_for(&self.noted, remote) else {
             return None;
         };
-        if remote_of(&self.table, Teid(noted)) == Some(remote.0) {
-            return Some(Teid(noted));
+        if remote_of(&self.table, noted) == Some(remote) {
+            return Some(noted);
         }
-        match first_named(&self.by_remote, remote.0) {
-            Some(teid) => Some(Teid(teid)),
-            None => None,
-        }
+        first_named(&self.by_remote, remote)
     }
 
     /// The bearer after this one, in order of the own TEIDs, that has this remote TEID.
     pub fn next_of_remote(&self, remote: Teid, after: Teid) -> Option<Teid>
-        ensures found { IfSome result (λ teid. HasRemote self.now remote.0 teid.0) }
-        ensures after { IfSome result (λ teid. after.0 < teid.0) }
-        ensures next { IfSome result (λ teid. (t : ℕ) → after.0 < t
-            → HasRemote self.now remote.0 t → teid.0 ≤ t) }
-        ensures none { IfNone result ((t : ℕ) → after.0 < t
-            → HasRemote self.now remote.0 t → ⊥) }
+        ensures found { IfSome result (λ teid. HasRemote self.now remote teid) }
+        ensures after { IfSome result (λ teid. after < teid) }
+        ensures next { IfSome result (λ teid. (t : ℕ) → after < t
+            → HasRemote self.now remote t → teid ≤ t) }
+        ensures none { IfNone result ((t : ℕ) → after < t
+            → HasRemote self.now remote t → ⊥) }
     {
-        match next_named(&self.by_remote, remote.0, after.0) {
-            Some(teid) => Some(Teid(teid)),
-            None => None,
-        }
+        next_named(&self.by_remote, remote, after)
     }
 
     /// Whether the default bearer of the session has this remote TEID.
     pub fn has_default(&self, remote: Teid, session: Teid) -> bool
-        ensures { IsTrue result ↔ HasDefault self.now remote.0 session.0 }
+        ensures { IsTrue result ↔ HasDefault self.now remote session }
     {
         let mut next = self.first_of_remote(remote);
         while let Some(teid) = next {
-            if is_default_of(self.get(teid), session.0) {
+            if is_default_of(self.get(teid), session) {
                 return true;
             }
             next = self.next_of_remote(remote, teid);
@@ -172,7 +166,7 @@ impl Bearers {
 
     /// Whether a TEID is above all those in the table, so that a bearer can be added under it.
     pub fn is_above(&self, teid: Teid) -> bool
-        ensures { IsTrue result ↔ Each (λ key _. key < teid.0) self.now }
+        ensures { IsTrue result ↔ Each (λ key _. key < teid) self.now }
     {
         self.table.is_above(teid)
     }
@@ -180,14 +174,14 @@ impl Bearers {
     /// Adds a bearer under a TEID above all those in the table: `Memory` where an allocation was
     /// refused, and then nothing has changed.
     pub fn add(&mut self, teid: Teid, bearer: Bearer) -> Result<(), TablesFault>
-        requires rises { Each (λ key _. key < teid.0) self.old }
-        ensures ok { OnOk result (self.new ≡ map.insert self.old teid.0 bearer) }
+        requires rises { Each (λ key _. key < teid) self.old }
+        ensures ok { OnOk result (self.new ≡ map.insert self.old teid bearer) }
         ensures err { OnErr result (self.new ≡ self.old) }
         ensures fault { IfErr result (λ f. f ≡ TablesFault.Memory) }
     {
         self.table.reserve_one()?;
         let (index, noted) = (&mut self.by_remote, &mut self.noted);
-        name_if(index, noted, bearer.remote, teid.0)?;
+        name_if(index, noted, bearer.remote, teid)?;
         self.table.add(teid, bearer);
         Ok(())
     }
@@ -195,14 +189,14 @@ impl Bearers {
     /// Puts a bearer in the place of one that has no remote: `Memory` where an allocation was
     /// refused, and then nothing has changed.
     pub fn open(&mut self, teid: Teid, bearer: Bearer) -> Result<(), TablesFault>
-        requires unopened { IsUnopened self.old teid.0 }
-        ensures ok { OnOk result (self.new ≡ map.insert self.old teid.0 bearer) }
+        requires unopened { IsUnopened self.old teid }
+        ensures ok { OnOk result (self.new ≡ map.insert self.old teid bearer) }
         ensures err { OnErr result (self.new ≡ self.old) }
         ensures fault { IfErr result (λ f. f ≡ TablesFault.Memory) }
         ensures unnamed { bearer.remote ≡ None → IsOk result }
     {
         let (index, noted) = (&mut self.by_remote, &mut self.noted);
-        name_if(index, noted, bearer.remote, teid.0)?;
+        name_if(index, noted, bearer.remote, teid)?;
         self.table.replace(teid, bearer);
         Ok(())
     }
@@ -210,8 +204,8 @@ impl Bearers {
     /// Puts a bearer in the place of one with the same remote, or with none if it has none. Takes
     /// no memory.
     pub fn replace(&mut self, teid: Teid, bearer: Bearer)
-        requires same { IsAt self.old teid.0 bearer.remote }
-        ensures { self.new ≡ map.insert self.old teid.0 bearer }
+        requires same { IsAt self.old teid bearer.remote }
+        ensures { self.new ≡ map.insert self.old teid bearer }
     {
         self.table.replace(teid, bearer);
     }
@@ -220,12 +214,12 @@ impl Bearers {
     /// lowest TEID.
     pub fn with_identity(&self, session: Teid, identity: Ebi) -> Option<Teid>
         ensures found { IfSome result (λ teid.
-            IsBearerWith self.now session.0 identity teid.0) }
-        ensures none { IfNone result (IsUnused self.now session.0 identity) }
+            IsBearerWith self.now session identity teid) }
+        ensures none { IfNone result (IsUnused self.now session identity) }
     {
         for index in 0..self.len() {
             if let Some((teid, bearer)) = self.at(index)
-                && has(&bearer, session.0, identity)
+                && has(&bearer, session, identity)
             {
                 return Some(teid);
             }
@@ -247,31 +241,30 @@ impl Bearers {
 
     /// Closes the bearers of a session, whatever they were. Takes no memory.
     pub fn close_of_session(&mut self, session: Teid)
-        ensures { self.new ≡ changed (closing_bearer session.0) self.old }
+        ensures { self.new ≡ changed (closing_bearer session) self.old }
     {
-        self.table.close_of_session(session.0);
+        self.table.close_of_session(session);
     }
 
     /// Removes the bearer under a TEID, if there is one. Takes no memory.
     pub fn remove(&mut self, teid: Teid)
-        ensures { self.new ≡ map.remove self.old teid.0 }
+        ensures { self.new ≡ map.remove self.old teid }
     {
         let remote = remote_of(&self.table, teid);
-        unname_if(&mut self.by_remote, remote, teid.0);
-        forget_if(&mut self.noted, &self.by_remote, remote);
+        unname_if(&mut self.by_remote, &mut self.noted, remote, teid);
         self.table.remove(teid);
     }
 }
 
 /// Whether it is a bearer of the session, with the identity.
-fn has(bearer: &Bearer, session: u32, identity: Ebi) -> bool
+fn has(bearer: &Bearer, session: Teid, identity: Ebi) -> bool
     ensures { result ≡ has_number session identity bearer.now }
 {
     bearer.session == session && bearer.identity == Some(identity)
 }
 
 /// Whether it is the default bearer of the session.
-fn is_default_of(bearer: Option<Bearer>, session: u32) -> bool
+fn is_default_of(bearer: Option<Bearer>, session: Teid) -> bool
     ensures { result ≡ default_of session bearer }
 {
     match bearer {
@@ -281,8 +274,8 @@ fn is_default_of(bearer: Option<Bearer>, session: u32) -> bool
 }
 
 /// The remote TEID of a bearer.
-fn remote_of(table: &Table<Bearer>, teid: Teid) -> Option<u32>
-    ensures { result ≡ remote_at (map.get table.now.table teid.0) }
+fn remote_of(table: &Table<Bearer>, teid: Teid) -> Option<Teid>
+    ensures { result ≡ remote_at (map.get table.now.table teid) }
 {
     match table.get(teid) {
         Some(bearer) => bearer.remote,

@@ -62,11 +62,11 @@ impl Draws {
     pub fn draw(&mut self) -> Result<Teid, TablesFault>
         ensures ok { IsOk result ↔ (self.old.count < 16777215) }
         ensures value { IfOk result (λ teid.
-            teid.0 ≡ teid_at self.old.counter (self.old.count + 1)) }
-        ensures counted { IfOk result (λ teid. teid.0 / 2 ^ 24 ≡ self.old.counter) }
-        ensures numbered { IfOk result (λ teid. 0 < teid.0 % 2 ^ 24) }
+            teid ≡ teid_at self.old.counter (self.old.count + 1)) }
+        ensures counted { IfOk result (λ teid. teid / 2 ^ 24 ≡ self.old.counter) }
+        ensures numbered { IfOk result (λ teid. 0 < teid % 2 ^ 24) }
         ensures undrawn { IfOk result (λ teid.
-            Among teid.0 (drawn_up_to self.old.counter self.old.count) → ⊥) }
+            Among teid (drawn_up_to self.old.counter self.old.count) → ⊥) }
         ensures drawn { OnOk result (self.new ≡ record self.old { count = self.old.count + 1 }) }
         ensures fault { IfErr result (λ fault. fault ≡ TeidsUsed) }
         ensures err { OnErr result (self.new ≡ self.old) }

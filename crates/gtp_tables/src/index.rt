@@ -19,7 +19,7 @@ use std::collections::BTreeSet;
 use std::ops::Bound;
 
 /// Names an own TEID under a remote one.
-fn name(index: &mut BTreeSet<(u32, u32)>, remote: u32, own: u32) -> Result<(), AllocError>
+fn name(index: &mut BTreeSet<(Teid, Teid)>, remote: Teid, own: Teid) -> Result<(), AllocError>
     ensures ok { OnOk result ((r o : ℕ) → contains pair_cmp index.new (r, o)
         ≡ cond (nat_eq remote r && nat_eq own o) true (contains pair_cmp index.old (r, o))) }
     ensures err { OnErr result (index.new.keys ≡ index.old.keys) }
@@ -29,7 +29,7 @@ fn name(index: &mut BTreeSet<(u32, u32)>, remote: u32, own: u32) -> Result<(), A
 }
 
 /// Notes an own TEID for a remote one, where a lower one is not noted.
-fn note(noted: &mut IndexMap<u32, u32>, remote: u32, own: u32)
+fn note(noted: &mut IndexMap<Teid, Teid>, remote: Teid, own: Teid)
     requires room { 0 < spare noted.old }
     ensures others { (r o : ℕ) → IsFrom (lookup (nat_eq r) noted.old.entries) o
         → IsFrom (lookup (nat_eq r) noted.new.entries) o }
@@ -45,7 +45,7 @@ fn note(noted: &mut IndexMap<u32, u32>, remote: u32, own: u32)
 }
 
 /// What is noted for a remote TEID.
-pub(crate) fn noted_for(noted: &IndexMap<u32, u32>, remote: u32) -> Option<u32>
+pub(crate) fn noted_for(noted: &IndexMap<Teid, Teid>, remote: Teid) -> Option<Teid>
     ensures { result ≡ lookup (nat_eq remote) noted.now.entries }
 {
     noted.get(&remote).copied()
@@ -53,10 +53,10 @@ pub(crate) fn noted_for(noted: &IndexMap<u32, u32>, remote: u32) -> Option<u32>
 
 /// Names an own TEID under a remote one, where there is one, and notes it.
 pub(crate) fn name_if(
-    index: &mut BTreeSet<(u32, u32)>,
-    noted: &mut IndexMap<u32, u32>,
-    remote: Option<u32>,
-    own: u32,
+    index: &mut BTreeSet<(Teid, Teid)>,
+    noted: &mut IndexMap<Teid, Teid>,
+    remote: Option<Teid>,
+    own: Teid,
 ) -> Result<(), AllocError>
     ensures ok { OnOk result ((r o : ℕ) → contains pair_cmp index.new (r, o)
         ≡ cond (is_number r remote && nat_eq own o) true (contains pair_cmp index.old (r, o))) }
@@ -77,38 +77,46 @@ pub(crate) fn name_if(
 }
 
 /// Names an own TEID no more under a remote one.
-fn unname(index: &mut BTreeSet<(u32, u32)>, remote: u32, own: u32)
+fn unname(index: &mut BTreeSet<(Teid, Teid)>, remote: Teid, own: Teid)
     ensures { (r o : ℕ) → contains pair_cmp index.new (r, o)
         ≡ cond (nat_eq remote r && nat_eq own o) false (contains pair_cmp index.old (r, o)) }
 {
     index.remove(&(remote, own));
 }
 
-/// Names an own TEID no more under a remote one, where there is one.
-pub(crate) fn unname_if(index: &mut BTreeSet<(u32, u32)>, remote: Option<u32>, own: u32)
-    ensures { (r o : ℕ) → contains pair_cmp index.new (r, o)
+/// Names an own TEID no more under a remote one, where there is one, and notes nothing more where none
+/// is named any more.
+pub(crate) fn unname_if(
+    index: &mut BTreeSet<(Teid, Teid)>,
+    noted: &mut IndexMap<Teid, Teid>,
+    remote: Option<Teid>,
+    own: Teid,
+)
+    ensures named { (r o : ℕ) → contains pair_cmp index.new (r, o)
         ≡ cond (is_number r remote && nat_eq own o) false (contains pair_cmp index.old (r, o)) }
+    ensures noted { (r o : ℕ) → contains pair_cmp index.new (r, o) ≡ true
+        → IsFrom (lookup (nat_eq r) noted.old.entries) o
+        → IsFrom (lookup (nat_eq r) noted.new.entries) o }
 {
     if let Some(remote) = remote {
         unname(index, remote, own);
+        forget(noted, index, remote);
     }
 }
 
 /// The lowest own TEID that is named under a remote one.
-pub(crate) fn first_named(index: &BTreeSet<(u32, u32)>, remote: u32) -> Option<u32>
+pub(crate) fn first_named(index: &BTreeSet<(Teid, Teid)>, remote: Teid) -> Option<Teid>
     ensures found { IfSome result (λ o. contains pair_cmp index.now (remote, o) ≡ true) }
     ensures lowest { IfSome result (λ own. (o : ℕ)
         → contains pair_cmp index.now (remote, o) ≡ true → own ≤ o) }
     ensures none { IfNone result ((o : ℕ) → contains pair_cmp index.now (remote, o) ≡ false) }
 {
-    match index.range((remote, 0)..).next() {
-        Some(&(r, own)) if r == remote => Some(own),
-        _ => None,
-    }
+    let &(r, own) = index.range((remote, Teid(0))..).next()?;
+    if r == remote { Some(own) } else { None }
 }
 
 /// The lowest own TEID after this one that is named under a remote one.
-pub(crate) fn next_named(index: &BTreeSet<(u32, u32)>, remote: u32, after: u32) -> Option<u32>
+pub(crate) fn next_named(index: &BTreeSet<(Teid, Teid)>, remote: Teid, after: Teid) -> Option<Teid>
     ensures found { IfSome result (λ o. contains pair_cmp index.now (remote, o) ≡ true) }
     ensures after { IfSome result (λ o. after < o) }
     ensures lowest { IfSome result (λ own. (o : ℕ) → after < o
@@ -117,26 +125,24 @@ pub(crate) fn next_named(index: &BTreeSet<(u32, u32)>, remote: u32, after: u32) 
         → contains pair_cmp index.now (remote, o) ≡ false) }
 {
     let above = (Bound::Excluded((remote, after)), Bound::Unbounded);
-    match index.range(above).next() {
-        Some(&(r, next)) if r == remote => Some(next),
-        _ => None,
-    }
+    let &(r, next) = index.range(above).next()?;
+    if r == remote { Some(next) } else { None }
 }
 
 /// Keeps the own TEIDs under which a bearer stands.
-pub(crate) fn keep_named(index: &mut BTreeSet<(u32, u32)>, table: &Table<Bearer>)
+pub(crate) fn keep_named(index: &mut BTreeSet<(Teid, Teid)>, table: &Table<Bearer>)
     ensures { (r o : ℕ) → contains pair_cmp index.new (r, o)
         ≡ (is_some (get table.now.table o) && contains pair_cmp index.old (r, o)) }
 {
     index.retain(
-        |pair: &(u32, u32)| -> bool
+        |pair: &(Teid, Teid)| -> bool
             ensures { result ≡ is_some (get table.entry.now.table pair.now.1) }
-        { table.get(Teid(pair.1)).is_some() },
+        { table.get(pair.1).is_some() },
     );
 }
 
 /// Notes nothing more for a remote TEID under which none is named any more.
-fn forget(noted: &mut IndexMap<u32, u32>, index: &BTreeSet<(u32, u32)>, remote: u32)
+fn forget(noted: &mut IndexMap<Teid, Teid>, index: &BTreeSet<(Teid, Teid)>, remote: Teid)
     ensures { (r o : ℕ) → contains pair_cmp index.now (r, o) ≡ true
         → IsFrom (lookup (nat_eq r) noted.old.entries) o
         → IsFrom (lookup (nat_eq r) noted.new.entries) o }
@@ -146,36 +152,21 @@ fn forget(noted: &mut IndexMap<u32, u32>, index: &BTreeSet<(u32, u32)>, remote: 
     }
 }
 
-/// Notes nothing more for a remote TEID, where there is one, under which none is named any more.
-pub(crate) fn forget_if(
-    noted: &mut IndexMap<u32, u32>,
-    index: &BTreeSet<(u32, u32)>,
-    remote: Option<u32>,
-)
-    ensures { (r o : ℕ) → contains pair_cmp index.now (r, o) ≡ true
-        → IsFrom (lookup (nat_eq r) noted.old.entries) o
-        → IsFrom (lookup (nat_eq r) noted.new.entries) o }
-{
-    if let Some(remote) = remote {
-        forget(noted, index, remote);
-    }
-}
-
 /// Notes something only for remote TEIDs under which one is named.
-pub(crate) fn keep_noted(noted: &mut IndexMap<u32, u32>, index: &BTreeSet<(u32, u32)>)
+pub(crate) fn keep_noted(noted: &mut IndexMap<Teid, Teid>, index: &BTreeSet<(Teid, Teid)>)
     ensures { (r o : ℕ) → contains pair_cmp index.now (r, o) ≡ true
         → IsFrom (lookup (nat_eq r) noted.old.entries) o
         → IsFrom (lookup (nat_eq r) noted.new.entries) o }
 {
     noted.retain(
-        |remote: &u32, own: &mut u32| -> bool
+        |remote: &Teid, own: &mut Teid| -> bool
             ensures { (result ≡ is_under index.entry.now remote.now) × (own.new ≡ own.old) }
         { is_under(index, *remote) },
     );
 }
 
 /// Whether an own TEID is named under a remote one.
-fn is_under(index: &BTreeSet<(u32, u32)>, remote: u32) -> bool
+fn is_under(index: &BTreeSet<(Teid, Teid)>, remote: Teid) -> bool
     ensures { result ≡ is_under index.now remote }
 {
     first_named(index, remote).is_some()

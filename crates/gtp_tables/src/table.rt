@@ -2,7 +2,7 @@
 
 ghost use Rattle.std.specs.Prelude.{◌≡◌, ◌↔◌, ◌<◌, ◌≤◌, ℕ, Bool, Option, None, Some, true, false, not};
 ghost use Rattle.std.specs.Prelude.{IsSome, IsTrue, IsOk, IfErr, OnOk, OnErr};
-ghost use Rattle.std.specs.Prelude.{filter, option_map, slice_get, is_some, length};
+ghost use Rattle.std.specs.Prelude.{filter, slice_get, is_some, length};
 ghost use Rattle.std.specs.Prelude.{vec_len, vec_capacity};
 ghost use Rattle.std.specs.List.{list_any, IsDistinct};
 ghost use Rattle.std.specs.Fn.{FnReturnsAt};
@@ -25,9 +25,9 @@ use std::marker::Model;
 #[derive(Drop)]
 pub struct Table<V: Copy> {
     /// In no order, so that a removal moves one row and not all that come after it.
-    pub(crate) rows: IndexMap<u32, V>,
+    pub(crate) rows: IndexMap<Teid, V>,
     /// The TEIDs of the rows, ascending.
-    keys: Vec<u32>,
+    keys: Vec<Teid>,
     ready: bool,
 }
 
@@ -74,9 +74,9 @@ impl<V: Copy> Table<V> {
 
     /// What stands under a TEID.
     pub fn get(&self, teid: Teid) -> Option<V>
-        ensures { result ≡ map.get self.now.table teid.0 }
+        ensures { result ≡ map.get self.now.table teid }
     {
-        self.rows.get(&teid.0).copied()
+        self.rows.get(&teid).copied()
     }
 
     /// Room for one more, however many there are: `Memory` where an allocation was refused. Nothing
@@ -99,11 +99,11 @@ impl<V: Copy> Table<V> {
     /// memory.
     pub fn add(&mut self, teid: Teid, value: V)
         requires room { self.old.has_room ≡ true }
-        requires rises { Each (λ key _. key < teid.0) self.old.table }
-        ensures table { self.new.table ≡ map.insert self.old.table teid.0 value }
+        requires rises { Each (λ key _. key < teid) self.old.table }
+        ensures table { self.new.table ≡ map.insert self.old.table teid value }
     {
-        put_last(&mut self.rows, teid.0, value);
-        if self.keys.push(teid.0).is_err() {
+        put_last(&mut self.rows, teid, value);
+        if self.keys.push(teid).is_err() {
             unreachable!()
         }
         self.ready = false;
@@ -111,32 +111,31 @@ impl<V: Copy> Table<V> {
 
     /// Whether a TEID is above all those in the table, so that one can be added under it.
     pub fn is_above(&self, teid: Teid) -> bool
-        ensures { IsTrue result ↔ Each (λ key _. key < teid.0) self.now.table }
+        ensures { IsTrue result ↔ Each (λ key _. key < teid) self.now.table }
     {
         let len = self.len();
         if len == 0 {
             return true;
         }
         match self.at(len - 1) {
-            Some(last) => last.0.0 < teid.0,
+            Some(last) => last.0 < teid,
             None => unreachable!(),
         }
     }
 
     /// Puts another in the place of one that stands there. Takes no memory.
     pub fn replace(&mut self, teid: Teid, value: V)
-        requires stands { IsSome (map.get self.old.table teid.0) }
-        ensures { self.new ≡ record self.old { table = map.insert self.old.table teid.0 value } }
+        requires stands { IsSome (map.get self.old.table teid) }
+        ensures { self.new ≡ record self.old { table = map.insert self.old.table teid value } }
     {
-        put_there(&mut self.rows, teid.0, value);
+        put_there(&mut self.rows, teid, value);
     }
 
     /// What stands at an index in order of the TEIDs, from 0.
     pub fn at(&self, index: usize) -> Option<(Teid, V)>
-        ensures { option_map (λ e. (e.0.0, e.1)) result
-            ≡ slice_get (map.entries self.now.table) index }
+        ensures { result ≡ slice_get (map.entries self.now.table) index }
     {
-        let teid = Teid(key_at(self.keys.as_slice(), index)?);
+        let teid = key_at(self.keys.as_slice(), index)?;
         match self.get(teid) {
             Some(value) => Some((teid, value)),
             None => unreachable!(),
@@ -166,7 +165,7 @@ impl<V: Copy> Table<V> {
 
     /// Removes what stands under each TEID that meets the test, whose answer a TEID determines. Takes
     /// no memory.
-    pub fn remove_keys_where<F: Fn(&u32) -> bool>(&mut self, test: F)
+    pub fn remove_keys_where<F: Fn(&Teid) -> bool>(&mut self, test: F)
         requires callable { F.IsAlwaysCallable test }
         requires decides { (goes : ℕ → Bool) × Answers (FnReturnsAt F.Fn test) goes }
         ensures { (goes : ℕ → Bool) → Answers (FnReturnsAt F.Fn test) goes
@@ -178,22 +177,22 @@ impl<V: Copy> Table<V> {
 
     /// Removes what stands under a TEID, if anything does. Takes no memory.
     pub fn remove(&mut self, teid: Teid)
-        ensures { self.new ≡ record self.old { table = map.remove self.old.table teid.0 } }
+        ensures { self.new ≡ record self.old { table = map.remove self.old.table teid } }
     {
-        take_out(&mut self.rows, teid.0);
-        cut_key(&mut self.keys, teid.0);
+        take_out(&mut self.rows, teid);
+        cut_key(&mut self.keys, teid);
     }
 }
 
 /// The key at a place.
-fn key_at(keys: &[u32], index: usize) -> Option<u32>
+fn key_at(keys: &[Teid], index: usize) -> Option<Teid>
     ensures { result ≡ slice_get keys.now index }
 {
     keys.get(index).copied()
 }
 
 /// Adds a row under a new key.
-fn put_last<V: Copy>(rows: &mut IndexMap<u32, V>, key: u32, value: V)
+fn put_last<V: Copy>(rows: &mut IndexMap<Teid, V>, key: Teid, value: V)
     requires room { 0 < spare rows.old }
     requires new { lookup (nat_eq key) rows.old.entries ≡ None }
     ensures entries { rows.new.entries ≡ rows.old.entries ++ (key, value) ∷ [] }
@@ -205,7 +204,7 @@ fn put_last<V: Copy>(rows: &mut IndexMap<u32, V>, key: u32, value: V)
 }
 
 /// Puts another value in the place of one that stands there.
-fn put_there<V: Copy>(rows: &mut IndexMap<u32, V>, key: u32, value: V)
+fn put_there<V: Copy>(rows: &mut IndexMap<Teid, V>, key: Teid, value: V)
     requires stands { IsSome (lookup (nat_eq key) rows.old.entries) }
     ensures entries { rows.new.entries ≡ set_value (nat_eq key) rows.old.entries value }
     ensures distinct { IsDistinct nat_eq (keys_of rows.new.entries) }
@@ -218,7 +217,7 @@ fn put_there<V: Copy>(rows: &mut IndexMap<u32, V>, key: u32, value: V)
 }
 
 /// Takes a row out.
-pub(crate) fn take_out<V: Copy>(rows: &mut IndexMap<u32, V>, key: u32)
+pub(crate) fn take_out<V: Copy>(rows: &mut IndexMap<Teid, V>, key: Teid)
     ensures distinct { IsDistinct nat_eq (keys_of rows.new.entries) }
     ensures rows { (q : ℕ) → lookup (nat_eq q) rows.new.entries
         ≡ cond (nat_eq key q) None (lookup (nat_eq q) rows.old.entries) }
@@ -228,7 +227,7 @@ pub(crate) fn take_out<V: Copy>(rows: &mut IndexMap<u32, V>, key: u32)
 }
 
 /// Takes a key out, where it is there.
-fn cut_key(keys: &mut Vec<u32>, key: u32)
+fn cut_key(keys: &mut Vec<Teid>, key: Teid)
     requires rising { AreRising keys.old.items }
     ensures keys { keys.new.items ≡ filter (λ k. not (nat_eq key k)) keys.old.items }
     ensures room { vec_len keys.old < vec_capacity keys.old
@@ -240,21 +239,21 @@ fn cut_key(keys: &mut Vec<u32>, key: u32)
 }
 
 /// Keeps the keys that have a row.
-fn keep_keys<V: Copy>(keys: &mut Vec<u32>, rows: &IndexMap<u32, V>)
+fn keep_keys<V: Copy>(keys: &mut Vec<Teid>, rows: &IndexMap<Teid, V>)
     ensures keys { keys.new.items
         ≡ filter (λ k. is_some (lookup (nat_eq k) rows.now.entries)) keys.old.items }
     ensures room { vec_len keys.old < vec_capacity keys.old
         → vec_len keys.new < vec_capacity keys.new }
 {
     keys.retain(
-        |key: &u32| -> bool
+        |key: &Teid| -> bool
             ensures { result ≡ is_some (lookup (nat_eq key.now) rows.entry.now.entries) }
         { rows.contains_key(key) },
     );
 }
 
 /// Drops the rows whose value meets the test.
-fn drop_where<V: Copy, F: Fn(&V) -> bool>(rows: &mut IndexMap<u32, V>, test: F)
+fn drop_where<V: Copy, F: Fn(&V) -> bool>(rows: &mut IndexMap<Teid, V>, test: F)
     requires callable { F.IsAlwaysCallable test }
     ensures entries { (goes : V → Bool) → Answers (FnReturnsAt F.Fn test) goes
         → rows.new.entries ≡ filter (λ e. not (goes e.1)) rows.old.entries }
@@ -262,7 +261,7 @@ fn drop_where<V: Copy, F: Fn(&V) -> bool>(rows: &mut IndexMap<u32, V>, test: F)
     ensures room { spare rows.old ≤ spare rows.new }
 {
     rows.retain(
-        |_key: &u32, value: &mut V| -> bool
+        |_key: &Teid, value: &mut V| -> bool
             requires { F.IsAlwaysCallable test }
             ensures { ((r : Bool) × FnReturnsAt F.Fn test value.old r × (result ≡ not r))
                 × (value.new ≡ value.old) }
@@ -271,7 +270,7 @@ fn drop_where<V: Copy, F: Fn(&V) -> bool>(rows: &mut IndexMap<u32, V>, test: F)
 }
 
 /// Drops the rows whose key meets the test.
-fn drop_keys_where<V: Copy, F: Fn(&u32) -> bool>(rows: &mut IndexMap<u32, V>, test: F)
+fn drop_keys_where<V: Copy, F: Fn(&Teid) -> bool>(rows: &mut IndexMap<Teid, V>, test: F)
     requires callable { F.IsAlwaysCallable test }
     ensures entries { (goes : ℕ → Bool) → Answers (FnReturnsAt F.Fn test) goes
         → rows.new.entries ≡ filter (λ e. not (goes e.0)) rows.old.entries }
@@ -279,7 +278,7 @@ fn drop_keys_where<V: Copy, F: Fn(&u32) -> bool>(rows: &mut IndexMap<u32, V>, te
     ensures room { spare rows.old ≤ spare rows.new }
 {
     rows.retain(
-        |key: &u32, value: &mut V| -> bool
+        |key: &Teid, value: &mut V| -> bool
             requires { F.IsAlwaysCallable test }
             ensures { ((r : Bool) × FnReturnsAt F.Fn test key.now r × (result ≡ not r))
                 × (value.new ≡ value.old) }

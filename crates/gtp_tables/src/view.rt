@@ -66,7 +66,7 @@ impl<'a> View<'a> {
 
     /// The session under a TEID.
     pub fn session(&self, teid: Teid) -> Option<Session>
-        ensures { result ≡ map.get self.now.sessions teid.0 }
+        ensures { result ≡ map.get self.now.sessions teid }
     {
         match self.sessions.get(teid) {
             Some(session) if is_seen(&session, self.restarted) => Some(session),
@@ -113,10 +113,10 @@ impl<'a> View<'a> {
 
     /// The bearer under a TEID.
     pub fn bearer(&self, teid: Teid) -> Option<Bearer>
-        ensures { result ≡ map.get self.now.bearers teid.0 }
+        ensures { result ≡ map.get self.now.bearers teid }
     {
         match self.bearers.get(teid) {
-            Some(bearer) if are_seen(self.sessions, Teid(bearer.session), self.restarted) => {
+            Some(bearer) if are_seen(self.sessions, bearer.session, self.restarted) => {
                 Some(bearer)
             }
             _ => None,
@@ -127,8 +127,8 @@ impl<'a> View<'a> {
     /// lowest TEID.
     pub fn with_identity(&self, session: Teid, identity: Ebi) -> Option<Teid>
         ensures found { IfSome result (λ teid.
-            IsBearerWith self.now.bearers session.0 identity teid.0) }
-        ensures none { IfNone result (IsUnused self.now.bearers session.0 identity) }
+            IsBearerWith self.now.bearers session identity teid) }
+        ensures none { IfNone result (IsUnused self.now.bearers session identity) }
     {
         if are_seen(self.sessions, session, self.restarted) {
             self.bearers.with_identity(session, identity)
@@ -141,8 +141,8 @@ impl<'a> View<'a> {
     /// there is none.
     pub fn lowest_free_identity(&self, session: Teid) -> Result<Ebi, TablesFault>
         ensures free { IfOk result (λ identity.
-            IsLowestUnused self.now.bearers session.0 identity) }
-        ensures none { IfErr result (λ _. HasAll self.now.bearers session.0) }
+            IsLowestUnused self.now.bearers session identity) }
+        ensures none { IfErr result (λ _. HasAll self.now.bearers session) }
         ensures fault { IfErr result (λ fault. fault ≡ TablesFault.NoBearerIdentity) }
     {
         for number in 5..16u8 {
@@ -173,7 +173,7 @@ pub fn end_opened(sessions: &mut Sessions, bearers: &mut Bearers)
     bearers.remove_where(
         |bearer: &Bearer| -> bool
             ensures { result ≡ is_opened (map.get sessions.entry.now.table bearer.now.session) }
-        { !are_seen(sessions, Teid(bearer.session), true) },
+        { !are_seen(sessions, bearer.session, true) },
     );
     sessions.remove_where(
         |session: &Session| -> bool
@@ -195,7 +195,7 @@ fn count_seen(sessions: &[Session], restarted: bool) -> usize
 /// Whether the bearers of the session under a TEID are seen: those of an opened session not after a
 /// restart.
 fn are_seen(sessions: &Sessions, session: Teid, restarted: bool) -> bool
-    ensures { result ≡ are_seen restarted (map.get sessions.now.table session.0) }
+    ensures { result ≡ are_seen restarted (map.get sessions.now.table session) }
 {
     match sessions.get(session) {
         Some(session) => is_seen(&session, restarted),

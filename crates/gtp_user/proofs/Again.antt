@@ -7,7 +7,8 @@ use Rattle.std.proofs.lemmas.List.{append-nil}
 use Rattle.gtp_values.specs.declared.address.Ip.{Ip}
 use Rattle.gtp_values.specs.declared.address.Ip.TheVariants as addresses
 use Rattle.gtp_user.specs.Chain.{first_kind, chain_encoding}
-use Rattle.gtp_user.specs.Header.{Flags, bits, Opens, IsHeaded}
+use Rattle.gtp_user.specs.Flags.{Flags, bits}
+use Rattle.gtp_user.specs.Header.{Opens, IsHeaded}
 use Rattle.gtp_user.specs.Element.{Recovery, TeidData, Peer, Types, SpellsAddress}
 use Rattle.gtp_user.specs.Message.{Content, EchoRequest, EchoResponse, ErrorIndication, Notification, EndMarker, Packet, Other, MessageValue, numbered}
 use Rattle.gtp_user.specs.Datagram.{Carries, IsUserMessage}

@@ -9,7 +9,8 @@ use Rattle.gtp_user.specs.declared.fault.UserFault.TheVariants as faults
 use Rattle.gtp_values.specs.Decides.{Decides}
 use Rattle.gtp_user.specs.Headed.{Headed, where_set}
 use Rattle.gtp_user.specs.reading.Headed.{header_at, after_flags}
-use Rattle.gtp_user.specs.Header.{Flags, bits, Opens, HeadedPlain, HeadedByFlags, IsHeaded, HeaderFails}
+use Rattle.gtp_user.specs.Flags.{Flags, bits}
+use Rattle.gtp_user.specs.Header.{Opens, HeadedPlain, HeadedByFlags, IsHeaded, HeaderFails}
 use Rattle.gtp_values.specs.Bit.{bit}
 use Rattle.gtp_values.proofs.Outcomes.{decided_by}
 use Rattle.gtp_values.proofs.Tests.{unequal, at_most_one}

@@ -1,8 +1,6 @@
 -- Where the packet of a G-PDU begins.
-use Rattle.std.proofs.Common.{◌≡◌, ◌≢◌, ℕ, ◌+◌, ◌-◌, ◌*◌, ◌/◌, ◌%◌, ◌<◌, ◌≤◌, Bool, true, false, cond, List, [], ◌∷◌, length, take, drop, Some, None, Result, Ok, Err, refl, sym, ap, subst, ◌∙◌, arith}
-use Rattle.std.specs.Prelude.{◌==◌, slice_index, bit_and}
-use Rattle.std.proofs.lemmas.Nat.{and_mask}
-use Rattle.std.proofs.lemmas.Bool.Decides.{nat_tests}
+use Rattle.std.proofs.Common.{◌≡◌, ℕ, ◌+◌, ◌-◌, ◌*◌, ◌/◌, ◌%◌, ◌<◌, ◌≤◌, Bool, true, false, cond, List, [], ◌∷◌, length, take, drop, Some, None, Result, Ok, Err, refl, sym, ap, subst, ◌∙◌, arith}
+use Rattle.std.specs.Prelude.{◌==◌, slice_index}
 use Rattle.std.proofs.lemmas.List.{length-drop, get_or-drop, drop-drop}
 use Rattle.std.proofs.lemmas.Option.{same_Some}
 use Rattle.gtp_user.specs.declared.fault.UserFault.{UserFault}
@@ -26,12 +24,9 @@ chosen x y b e t = sym (e ∙ ap (λ (b : Bool). cond b x y) t)
 pub other : {X : Type 0} {o : X} (x y : X) (b : Bool) → o ≡ cond b x y → b ≡ false → y ≡ o
 other x y b e t = sym (e ∙ ap (λ (b : Bool). cond b x y) t)
 
--- a flag
-pub flag_set : (n : ℕ) → bit_and n 1 ≡ 1 → (n % 2 == 1) ≡ true
-flag_set n set = let is : n % 2 ≡ 1 = sym (and_mask n 1) ∙ set in grind (arith, nat_tests)
-
-pub flag_unset : (n : ℕ) → bit_and n 1 ≢ 1 → (n % 2 == 1) ≡ false
-flag_unset n none = let is : n % 2 ≢ 1 = λ e. none (and_mask n 1 ∙ e) in grind (arith, nat_tests)
+-- the lowest bit
+pub lowest : (n : ℕ) (b : Bool) → ((n / 1) % 2 == 1) ≡ b → (n % 2 == 1) ≡ b
+lowest n b = subst (λ (k : ℕ). (k % 2 == 1) ≡ b) (omega arith)
 
 -- ---- a chain
 
@@ -95,10 +90,10 @@ packet_flagged octets first t o f long is chain =
         ∙ rw (get_or-drop 8 octets 0 0, get_or-drop 8 octets 1 0, get_or-drop 8 octets 2 0, get_or-drop 8 octets 3 0, drop-drop 4 8 octets) refl
 
 -- with an extension header
-pub packet_chained : (octets t : List ℕ) → OpensPacket octets → 0 < octet octets 0 % 8 → 12 ≤ length octets → bit_and (octet octets 0 / 4) 1 ≡ 1 → rest_of (chain_at (length octets) (octet octets 11) (drop 12 octets)) ≡ Some t → tail_at octets ≡ Ok t
-packet_chained octets t o f long set chain = packet_flagged octets (octet octets 11) t o f long (ap (λ (b : Bool). cond b (octet octets 11) 0) (flag_set (octet octets 0 / 4) set)) chain
+pub packet_chained : (octets t : List ℕ) → OpensPacket octets → 0 < octet octets 0 % 8 → 12 ≤ length octets → ((octet octets 0 / 4) % 2 == 1) ≡ true → rest_of (chain_at (length octets) (octet octets 11) (drop 12 octets)) ≡ Some t → tail_at octets ≡ Ok t
+packet_chained octets t o f long set chain = packet_flagged octets (octet octets 11) t o f long (ap (λ (b : Bool). cond b (octet octets 11) 0) set) chain
 
 -- without one
-pub packet_unchained : (octets : List ℕ) → OpensPacket octets → 0 < octet octets 0 % 8 → 12 ≤ length octets → bit_and (octet octets 0 / 4) 1 ≢ 1 → tail_at octets ≡ Ok (drop 12 octets)
+pub packet_unchained : (octets : List ℕ) → OpensPacket octets → 0 < octet octets 0 % 8 → 12 ≤ length octets → ((octet octets 0 / 4) % 2 == 1) ≡ false → tail_at octets ≡ Ok (drop 12 octets)
 packet_unchained octets o f long none =
-    packet_flagged octets 0 (drop 12 octets) o f long (ap (λ (b : Bool). cond b (octet octets 11) 0) (flag_unset (octet octets 0 / 4) none)) (no_chain (length octets) (drop 12 octets))
+    packet_flagged octets 0 (drop 12 octets) o f long (ap (λ (b : Bool). cond b (octet octets 11) 0) none) (no_chain (length octets) (drop 12 octets))

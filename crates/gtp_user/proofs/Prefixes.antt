@@ -4,7 +4,8 @@ use Rattle.std.proofs.lemmas.List.{length-take}
 use Rattle.gtp_user.specs.declared.fault.UserFault.TheVariants as faults
 use Rattle.gtp_user.specs.Headed.{Headed}
 use Rattle.gtp_values.proofs.Tests.{at_most_one}
-use Rattle.gtp_user.specs.Header.{Flags, bits, Opens, IsHeaded, HeaderFails}
+use Rattle.gtp_user.specs.Flags.{Flags, bits}
+use Rattle.gtp_user.specs.Header.{Opens, IsHeaded, HeaderFails}
 use Rattle.gtp_user.specs.Message.{MessageValue}
 use Rattle.gtp_user.specs.Datagram.{IsUserMessage, IsUserFault}
 

@@ -61,14 +61,14 @@ bodies_decided : (x y : UserBody) → Decides ((user_bodies.ghosts).eq x y) (con
 bodies_decided bodies.EchoRequest bodies.EchoRequest = (λ e. refl, λ e. refl)
 bodies_decided bodies.EchoResponse bodies.EchoResponse = (λ e. refl, λ e. refl)
 bodies_decided (bodies.ErrorIndication p t) (bodies.ErrorIndication q u) =
-    Decides-like ((ips.ghosts).eq p q && nat_eq t.0 u.0) (λ e. ap (λ a. ErrorIndication t.0 a) e.0 ∙ ap (λ n. ErrorIndication n q) e.1) (λ e. (cc, cc)) (Decides-and ((ips.ghosts).eq p q) (nat_eq t.0 u.0) (ip_same p q) (Decides-eqb t.0 u.0))
+    Decides-like ((ips.ghosts).eq p q && nat_eq t u) (λ e. ap (λ a. ErrorIndication t a) e.0 ∙ ap (λ n. ErrorIndication n q) e.1) (λ e. (cc, cc)) (Decides-and ((ips.ghosts).eq p q) (nat_eq t u) (ip_same p q) (Decides-eqb t u))
 bodies_decided (bodies.Notification xs) (bodies.Notification ys) = Decides-like (pointwise nat_eq xs.now ys.now) (λ e. ap (λ zs. Notification zs) e) (λ e. cc) (bytes_decides xs.now ys.now)
-bodies_decided (bodies.EndMarker t) (bodies.EndMarker u) = Decides-like (nat_eq t.0 u.0) (λ e. ap (λ n. EndMarker n) e) (λ e. cc) (Decides-eqb t.0 u.0)
+bodies_decided (bodies.EndMarker t) (bodies.EndMarker u) = Decides-like (nat_eq t u) (λ e. ap (λ n. EndMarker n) e) (λ e. cc) (Decides-eqb t u)
 bodies_decided (bodies.Packet t xs) (bodies.Packet u ys) =
-    Decides-like (nat_eq t.0 u.0 && pointwise nat_eq xs.now ys.now) (λ e. ap (λ n. Packet n xs.now) e.0 ∙ ap (λ zs. Packet u.0 zs) e.1) (λ e. (cc, cc)) (Decides-and (nat_eq t.0 u.0) (pointwise nat_eq xs.now ys.now) (Decides-eqb t.0 u.0) (bytes_decides xs.now ys.now))
+    Decides-like (nat_eq t u && pointwise nat_eq xs.now ys.now) (λ e. ap (λ n. Packet n xs.now) e.0 ∙ ap (λ zs. Packet u zs) e.1) (λ e. (cc, cc)) (Decides-and (nat_eq t u) (pointwise nat_eq xs.now ys.now) (Decides-eqb t u) (bytes_decides xs.now ys.now))
 bodies_decided (bodies.Other k t xs) (bodies.Other l u ys) =
-    Decides-like (nat_eq k l && (nat_eq t.0 u.0 && pointwise nat_eq xs.now ys.now)) (λ e. ap (λ n. Other n t.0 xs.now) e.0 ∙ (ap (λ n. Other l n xs.now) e.1.0 ∙ ap (λ zs. Other l u.0 zs) e.1.1)) (λ e. (cc, (cc, cc)))
-    (Decides-and (nat_eq k l) (nat_eq t.0 u.0 && pointwise nat_eq xs.now ys.now) (Decides-eqb k l) (Decides-and (nat_eq t.0 u.0) (pointwise nat_eq xs.now ys.now) (Decides-eqb t.0 u.0) (bytes_decides xs.now ys.now)))
+    Decides-like (nat_eq k l && (nat_eq t u && pointwise nat_eq xs.now ys.now)) (λ e. ap (λ n. Other n t xs.now) e.0 ∙ (ap (λ n. Other l n xs.now) e.1.0 ∙ ap (λ zs. Other l u zs) e.1.1)) (λ e. (cc, (cc, cc)))
+    (Decides-and (nat_eq k l) (nat_eq t u && pointwise nat_eq xs.now ys.now) (Decides-eqb k l) (Decides-and (nat_eq t u) (pointwise nat_eq xs.now ys.now) (Decides-eqb t u) (bytes_decides xs.now ys.now)))
 bodies_decided x y = (λ e. absurd cc, λ e. absurd cc)
 
 pub messages_decided : (a b : UserMessage) → Decides ((messages.ghosts).eq a b) (message_value a ≡ message_value b)

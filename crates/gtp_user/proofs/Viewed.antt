@@ -1,7 +1,7 @@
 -- What the octets of a viewed message say.
-use Rattle.std.proofs.Common.{◌≡◌, ◌≢◌, ℕ, ◌+◌, ◌-◌, ◌*◌, ◌/◌, ◌%◌, ◌<◌, ◌≤◌, Bool, true, false, cond, List, [], ◌∷◌, ◌++◌, length, take, drop, Option, Some, None, Ok, inl, inr, refl, sym, ap, subst, ◌∙◌, arith}
-use Rattle.std.specs.Prelude.{◌==◌, slice_index, bit_and, unwrap_or}
-use Rattle.std.proofs.lemmas.Nat.{and_mask}
+use Rattle.std.proofs.Common.{◌≡◌, ℕ, ◌+◌, ◌-◌, ◌*◌, ◌/◌, ◌%◌, ◌<◌, ◌≤◌, Bool, true, false, cond, List, [], ◌∷◌, ◌++◌, length, take, drop, Option, Some, None, Ok, inl, inr, refl, sym, ap, subst, ◌∙◌, arith}
+use Rattle.std.specs.Prelude.{◌==◌, slice_index, unwrap_or}
+use Rattle.std.proofs.lemmas.Bool.Decides.{nat_tests}
 use Rattle.std.proofs.Math.Seq.{drop-append_seam}
 use Rattle.std.proofs.lemmas.List.{length-append, length-drop, drop-drop}
 use Rattle.gtp_user.specs.declared.fault.UserFault.{UserFault}
@@ -10,7 +10,8 @@ use Rattle.gtp_values.proofs.Decided.{bind_ok}
 use Rattle.gtp_values.proofs.Outcomes.{ok_same}
 use Rattle.gtp_user.specs.Chain.{Extension, IsChain, chain_encoding}
 use Rattle.gtp_user.specs.Headed.{Headed, where_set}
-use Rattle.gtp_user.specs.Header.{IsHeaded, bits}
+use Rattle.gtp_user.specs.Flags.{bits}
+use Rattle.gtp_user.specs.Header.{IsHeaded}
 use Rattle.gtp_user.specs.Message.{Content, EchoRequest, EchoResponse, ErrorIndication, Notification, EndMarker, Packet, Other, MessageValue, numbered, receiver_in, packet_in}
 use Rattle.gtp_user.specs.Encoding.{kind_of}
 use Rattle.gtp_user.specs.Datagram.{Carries}
@@ -21,7 +22,7 @@ use Rattle.gtp_user.specs.reading.Viewed.{tail_at, message_or_none, viewed, IsVi
 use Rattle.gtp_user.proofs.Headers.{header_decided, AreFlags, flags_are, test_not}
 use Rattle.gtp_user.proofs.Chains.{chain_decided, chain_spelled}
 use Rattle.gtp_user.proofs.Messages.{body_decided}
-use Rattle.gtp_user.proofs.Packets.{flag_set, flag_unset, chain_alone}
+use Rattle.gtp_user.proofs.Packets.{chain_alone}
 
 abbrev octet : List ℕ → ℕ → ℕ
 octet octets i = slice_index octets i
@@ -199,8 +200,8 @@ pub record Says (octets : List ℕ) (start : ℕ) (m : MessageValue) : Type 0 wh
   pub packet : packet_in m.content ≡ cond (octet octets 1 == 255) (Some (teid_at octets, drop start octets)) None
   pub seq : m.seq ≡ cond ((octet octets 0 / 2) % 2 == 1) (Some (256 * octet octets 8 + octet octets 9)) (cond (is_numbered (octet octets 1)) (Some 0) None)
   pub npdu : m.npdu ≡ cond (octet octets 0 % 2 == 1) (Some (octet octets 10)) None
-  pub no_chain : bit_and (octet octets 0 / 4) 1 ≢ 1 → m.ext ≡ []
-  pub chain : bit_and (octet octets 0 / 4) 1 ≡ 1 → HasNoRest (octet octets 11) (take (start - 12) (drop 12 octets)) × (headers_in (octet octets 11) (take (start - 12) (drop 12 octets)) ≡ m.ext)
+  pub no_chain : ((octet octets 0 / 4) % 2 == 1) ≡ false → m.ext ≡ []
+  pub chain : ((octet octets 0 / 4) % 2 == 1) ≡ true → HasNoRest (octet octets 11) (take (start - 12) (drop 12 octets)) × (headers_in (octet octets 11) (take (start - 12) (drop 12 octets)) ≡ m.ext)
 
 said : (octets : List ℕ) (start : ℕ) (m : MessageValue) → start ≤ length octets → Lies octets (drop start octets) m → Says octets start m
 said octets start m within l = by_header (header_says octets l.h l.header).0 (header_says octets l.h l.header).1 where
@@ -216,10 +217,15 @@ said octets start m within l = by_header (header_says octets l.h l.header).0 (he
         ∙ (ap (λ (k : ℕ). cond (is_numbered k) (Some (unwrap_or l.h.seq 0)) l.h.seq) (sym s.kind) ∙ (ap (λ (o : Option ℕ). cond (is_numbered (octet octets 1)) (Some (unwrap_or o 0)) o) s.seq
         ∙ either (is_numbered (octet octets 1)) ((octet octets 0 / 2) % 2 == 1) (256 * octet octets 8 + octet octets 9))));
     npdu = l.npdu ∙ s.npdu;
-    no_chain = λ none. by_headers m.ext (subst (λ (k : ℕ). IsChain k l.h.rest m.ext (drop start octets)) (s.first ∙ ap (λ (b : Bool). cond b (octet octets 11) 0) (flag_unset (octet octets 0 / 4) none)) l.chain);
-    chain = λ set. with_chain (s.flagged (omega (arith, sym (and_mask (octet octets 0 / 4) 1) ∙ set))) (s.first ∙ ap (λ (b : Bool). cond b (octet octets 11) 0) (flag_set (octet octets 0 / 4) set));
+    no_chain = λ none. by_headers m.ext (subst (λ (k : ℕ). IsChain k l.h.rest m.ext (drop start octets)) (s.first ∙ ap (λ (b : Bool). cond b (octet octets 11) 0) none) l.chain);
+    chain = λ set. with_chain (s.flagged (some set)) (s.first ∙ ap (λ (b : Bool). cond b (octet octets 11) 0) set);
   }
     where
+      some : ((octet octets 0 / 4) % 2 == 1) ≡ true → 0 < octet octets 0 % 8
+      some set =
+          let is : (octet octets 0 / 4) % 2 ≡ 1 = grind (arith, nat_tests) in
+          omega (arith, is)
+
       either : (numbered set : Bool) (n : ℕ) → cond numbered (Some (unwrap_or (where_set set n) 0)) (where_set set n) ≡ cond set (Some n) (cond numbered (Some 0) None)
       either true true n = refl
       either true false n = refl

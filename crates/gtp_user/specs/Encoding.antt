@@ -4,7 +4,7 @@ use Rattle.gtp_values.specs.declared.address.Ip.{Ip}
 use Rattle.gtp_values.specs.declared.address.Ip.TheVariants as addresses
 use Rattle.gtp_values.specs.Numbers.{two, four}
 use Rattle.gtp_user.specs.Chain.{AreExtensions, first_kind, chain_encoding}
-use Rattle.gtp_user.specs.Header.{Flags, bits}
+use Rattle.gtp_user.specs.Flags.{Flags, bits, version_1, protocol_type}
 use Rattle.gtp_user.specs.Message.{Content, EchoRequest, EchoResponse, ErrorIndication, Notification, EndMarker, Packet, Other, MessageValue}
 use Rattle.gtp_user.specs.Datagram.{IsOtherKind}
 
@@ -64,7 +64,7 @@ rest_encoding m = options_encoding m ++ (chain_encoding m.ext ++ content_encodin
 
 -- the first eight octets with this length
 abbrev pub opening_encoding : ℕ → MessageValue → List ℕ
-opening_encoding size m = (48 + bits (flags_of m)) ∷ kind_of m.content ∷ two size (four (teid_of m.content) [])
+opening_encoding size m = (version_1 + protocol_type + bits (flags_of m)) ∷ kind_of m.content ∷ two size (four (teid_of m.content) [])
 
 -- the whole encoding: spare bits 0
 abbrev pub encoding : MessageValue → List ℕ

@@ -1,26 +1,16 @@
 -- The header of a datagram (TS 29.281 5.1), and which fault of one is the first.
-use Rattle.std.specs.Prelude.{◌≡◌, ◌≢◌, ℕ, ◌+◌, ◌*◌, ◌/◌, ◌%◌, ◌<◌, Bool, false, List, [], ◌∷◌, length, None, ◌⊎◌, if◌then◌else◌}
+use Rattle.std.specs.Prelude.{◌≡◌, ◌≢◌, ℕ, ◌+◌, ◌*◌, ◌/◌, ◌%◌, ◌<◌, false, List, [], ◌∷◌, length, None, ◌⊎◌, if◌then◌else◌}
 use Rattle.std.specs.Int.{w32, from_be_bytes}
-use Rattle.gtp_values.specs.Bit.{bit}
 use Rattle.gtp_user.specs.declared.fault.UserFault.{UserFault}
 use Rattle.gtp_user.specs.declared.fault.UserFault.TheVariants as faults
+use Rattle.gtp_user.specs.Flags.{Flags, bits, version_1, protocol_type, spare_bit}
 use Rattle.gtp_user.specs.Headed.{Headed, where_set}
-
--- the flags of the first octet: an extension header, a sequence number, an N-PDU number
-pub record Flags : Type 0 where
-  pub chain : Bool
-  pub seq : Bool
-  pub npdu : Bool
-
--- the three lowest bits of the first octet
-abbrev pub bits : Flags → ℕ
-bits flags = 4 * bit flags.chain + 2 * bit flags.seq + bit flags.npdu
 
 -- the first eight octets: version 1, protocol type 1, a spare bit, the flags; the type; the length of the octets after them; the TEID
 abbrev pub Opens : List ℕ → Flags → ℕ → ℕ → List ℕ → Type 0
 Opens octets flags kind teid tail =
     (spare : ℕ) × (high : ℕ) × (low : ℕ) × (a : ℕ) × (b : ℕ) × (c : ℕ) × (d : ℕ)
-    × (octets ≡ (48 + 8 * spare + bits flags) ∷ kind ∷ high ∷ low ∷ a ∷ b ∷ c ∷ d ∷ tail) × (spare < 2)
+    × (octets ≡ (version_1 + protocol_type + spare_bit * spare + bits flags) ∷ kind ∷ high ∷ low ∷ a ∷ b ∷ c ∷ d ∷ tail) × (spare < 2)
     × (256 * high + low ≡ length tail) × (teid ≡ from_be_bytes w32 (a ∷ b ∷ c ∷ d ∷ []))
 
 -- no flag is set, and the octets after the first eight follow
@@ -43,6 +33,6 @@ HeaderFails octets f =
     ((length octets < 8) × (f ≡ faults.Short (length octets)))
     ⊎ ((first : ℕ) × (kind : ℕ) × (high : ℕ) × (low : ℕ) × (a : ℕ) × (b : ℕ) × (c : ℕ) × (d : ℕ) × (tail : List ℕ) × (octets ≡ first ∷ kind ∷ high ∷ low ∷ a ∷ b ∷ c ∷ d ∷ tail)
     × (((first / 32 ≢ 1) × (f ≡ faults.Version (first / 32)))
-    ⊎ (((flags : ℕ) × (flags < 16) × (first ≡ 32 + flags) × (f ≡ faults.Protocol))
-    ⊎ (((flags : ℕ) × (flags < 16) × (first ≡ 48 + flags) × (256 * high + low ≢ length tail) × (f ≡ faults.Length (256 * high + low) (length tail)))
-    ⊎ ((flags : ℕ) × (flags < 16) × (first ≡ 48 + flags) × (0 < flags % 8) × (256 * high + low ≡ length tail) × (length tail < 4) × (f ≡ faults.Short (8 + length tail)))))))
+    ⊎ (((flags : ℕ) × (flags < 16) × (first ≡ version_1 + flags) × (f ≡ faults.Protocol))
+    ⊎ (((flags : ℕ) × (flags < 16) × (first ≡ version_1 + protocol_type + flags) × (256 * high + low ≢ length tail) × (f ≡ faults.Length (256 * high + low) (length tail)))
+    ⊎ ((flags : ℕ) × (flags < 16) × (first ≡ version_1 + protocol_type + flags) × (0 < flags % 8) × (256 * high + low ≡ length tail) × (length tail < 4) × (f ≡ faults.Short (8 + length tail)))))))

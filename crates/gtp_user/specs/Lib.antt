@@ -1,6 +1,7 @@
 -- what clauses of public functions, public traits and laws speak of
 pub mod Chain
 pub mod Headed
+pub mod Flags
 pub mod Header
 pub mod Element
 pub mod Message

@@ -26,11 +26,11 @@ pub record MessageValue : Type 0 where
 abbrev pub content_of : UserBody → Content
 content_of bodies.EchoRequest = EchoRequest
 content_of bodies.EchoResponse = EchoResponse
-content_of (bodies.ErrorIndication peer teid) = ErrorIndication teid.0 peer
+content_of (bodies.ErrorIndication peer teid) = ErrorIndication teid peer
 content_of (bodies.Notification types) = Notification types.now
-content_of (bodies.EndMarker teid) = EndMarker teid.0
-content_of (bodies.Packet teid payload) = Packet teid.0 payload.now
-content_of (bodies.Other kind teid octets) = Other kind teid.0 octets.now
+content_of (bodies.EndMarker teid) = EndMarker teid
+content_of (bodies.Packet teid payload) = Packet teid payload.now
+content_of (bodies.Other kind teid octets) = Other kind teid octets.now
 
 abbrev pub message_value : UserMessage → MessageValue
 message_value m = record { seq = m.seq; npdu = m.npdu; ext = m.ext; content = content_of m.body }

@@ -4,10 +4,11 @@ ghost use Rattle.std.specs.Prelude.{◌≡◌, ◌≤◌, length, ◌^◌, ◌<�
 ghost use Rattle.gtp_values.specs.Steps.{Gives};
 ghost use Rattle.gtp_values.specs.Room.{Leaves};
 ghost use Rattle.gtp_user.specs.Message.{content_of};
-ghost use Rattle.gtp_user.specs.reading.Message.{body_at};
+ghost use Rattle.gtp_user.specs.reading.Gathered.{found_of};
+ghost use Rattle.gtp_user.specs.reading.Message.{body_at, echo_response, error_indication, notification};
 ghost use Rattle.gtp_user.specs.Encoding.{content_encoding, octets_of, HasAddressSize, kind_of, teid_of, HasShortList, IsInRange};
 
-use crate::element::read_elements;
+use crate::element::{Found, read_elements};
 use crate::fault::UserFault;
 use crate::kinds::{
     ECHO_REQUEST, ECHO_RESPONSE, END_MARKER, ERROR_INDICATION, G_PDU,
@@ -18,35 +19,56 @@ use crate::numbers::{EXTENSION_TYPES, PEER_ADDRESS, RECOVERY, TEID_DATA};
 use gtp_values::{Ip, Teid};
 use std::alloc::AllocError;
 
+/// An Echo Response has a Recovery (TS 29.281 7.2.2).
+fn as_echo_response<'a>(found: &Found<'a>) -> Result<UserBody<'a>, UserFault>
+    ensures { Gives content_of result (echo_response (found_of found.now)) }
+{
+    if !found.recovery {
+        return Err(UserFault::Missing { kind: RECOVERY });
+    }
+    Ok(UserBody::EchoResponse)
+}
+
+/// An Error Indication has a TEID and an address (7.3.1).
+fn as_error_indication<'a>(found: &Found<'a>) -> Result<UserBody<'a>, UserFault>
+    ensures { Gives content_of result (error_indication (found_of found.now)) }
+{
+    let teid = found.teid.ok_or(UserFault::Missing { kind: TEID_DATA })?;
+    let peer = found.peer.ok_or(UserFault::Missing { kind: PEER_ADDRESS })?;
+    Ok(UserBody::ErrorIndication { teid, peer })
+}
+
+/// A Supported Extension Headers Notification has a list of types (7.2.3).
+fn as_notification<'a>(found: &Found<'a>) -> Result<UserBody<'a>, UserFault>
+    ensures { Gives content_of result (notification (found_of found.now)) }
+{
+    let types = found.types.ok_or(UserFault::Missing {
+        kind: EXTENSION_TYPES,
+    })?;
+    Ok(UserBody::Notification { types })
+}
+
 /// What a message of this type carries in the octets after its chain, the last ones of a datagram of
 /// `end` octets.
 #[tactic(auto, unfolding(crate::specs::reading::Message::body_at))]
 pub fn read_body(kind: u8, teid: Teid, octets: &[u8], end: usize) -> Result<UserBody<'_>, UserFault>
     requires { length octets.now ≤ end }
-    ensures { Gives content_of result (body_at end kind teid.0 octets.now) }
+    ensures { Gives content_of result (body_at end kind teid octets.now) }
 {
     match kind {
         ECHO_REQUEST => Ok(UserBody::EchoRequest),
-        ECHO_RESPONSE => {
-            let found = read_elements(octets, end)?;
-            if !found.recovery {
-                return Err(UserFault::Missing { kind: RECOVERY });
-            }
-            Ok(UserBody::EchoResponse)
-        }
-        ERROR_INDICATION => {
-            let found = read_elements(octets, end)?;
-            let teid = found.teid.ok_or(UserFault::Missing { kind: TEID_DATA })?;
-            let peer = found.peer.ok_or(UserFault::Missing { kind: PEER_ADDRESS })?;
-            Ok(UserBody::ErrorIndication { teid, peer })
-        }
-        SUPPORTED_EXTENSION_HEADERS_NOTIFICATION => {
-            let found = read_elements(octets, end)?;
-            let types = found.types.ok_or(UserFault::Missing {
-                kind: EXTENSION_TYPES,
-            })?;
-            Ok(UserBody::Notification { types })
-        }
+        ECHO_RESPONSE => match read_elements(octets, end) {
+            Ok(found) => as_echo_response(&found),
+            Err(fault) => Err(fault),
+        },
+        ERROR_INDICATION => match read_elements(octets, end) {
+            Ok(found) => as_error_indication(&found),
+            Err(fault) => Err(fault),
+        },
+        SUPPORTED_EXTENSION_HEADERS_NOTIFICATION => match read_elements(octets, end) {
+            Ok(found) => as_notification(&found),
+            Err(fault) => Err(fault),
+        },
         END_MARKER => Ok(UserBody::EndMarker { teid }),
         G_PDU => Ok(UserBody::Packet {
             teid,

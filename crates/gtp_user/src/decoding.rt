@@ -48,9 +48,15 @@ fn read_packet(octets: &[u8]) -> Option<UserMessage<'_>>
 fn read_message(octets: &[u8]) -> Result<UserMessage<'_>, UserFault>
     ensures { Gives message_value result (message_at octets.now) }
 {
-    let header = read_header(octets)?;
+    let header = match read_header(octets) {
+        Ok(header) => header,
+        Err(fault) => return Err(fault),
+    };
     let (ext, rest) = read_chain(header.first, header.rest, octets.len())?;
-    let body = read_body(header.kind, header.teid, rest, octets.len())?;
+    let body = match read_body(header.kind, header.teid, rest, octets.len()) {
+        Ok(body) => body,
+        Err(fault) => return Err(fault),
+    };
     let seq = match body {
         UserBody::EchoRequest
         | UserBody::EchoResponse

@@ -143,15 +143,25 @@ impl<'a> Found<'a> {
         ensures { found_of result
             ≡ and_found (found_of self.entry) (found_in (element_of element.entry ∷ [])) }
     {
-        let mut found = self;
+        let Found {
+            mut recovery,
+            mut teid,
+            mut peer,
+            mut types,
+        } = self;
         match element {
-            Element::Recovery => found.recovery = true,
-            Element::TeidData(teid) => found.teid = found.teid.or(Some(teid)),
-            Element::Peer(peer) => found.peer = found.peer.or(Some(peer)),
-            Element::Types(types) => found.types = found.types.or(Some(types)),
+            Element::Recovery => recovery = true,
+            Element::TeidData(data) => teid = teid.or(Some(data)),
+            Element::Peer(address) => peer = peer.or(Some(address)),
+            Element::Types(kinds) => types = types.or(Some(kinds)),
             Element::Skipped => {}
         }
-        found
+        Found {
+            recovery,
+            teid,
+            peer,
+            types,
+        }
     }
 }
 

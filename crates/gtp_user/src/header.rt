@@ -7,8 +7,11 @@ ghost use Rattle.gtp_user.specs.Message.{content_of, message_value};
 ghost use Rattle.gtp_user.specs.Encoding.{options_encoding, opening_encoding, teid_of};
 
 use crate::fault::UserFault;
+use crate::flags::{
+    EXTENSION_HEADER, GTP, N_PDU_NUMBER, PROTOCOL_TYPE, SEQUENCE_NUMBER, field_flags,
+};
 use crate::message::UserMessage;
-use gtp_values::Teid;
+use gtp_values::{Teid, has_bit};
 use std::alloc::AllocError;
 
 /// What the octets before the chain say, and the octets from the chain on.
@@ -23,17 +26,10 @@ pub struct Header<'a> {
     pub rest: &'a [u8],
 }
 
-/// The flags E, S and PN of the first octet: four octets follow the first eight where one is set.
-pub fn field_flags(first: u8) -> u8
-    ensures { result ≡ first % 8 }
-{
-    first & 7
-}
-
 /// The header after its first eight octets, where a flag is set.
 #[inline(always)]
 fn with_flags(flags: u8, kind: u8, teid: Teid, octets: &[u8]) -> Result<Header<'_>, UserFault>
-    ensures header { Gives headed_of result (after_flags flags kind teid.0 octets.now) }
+    ensures header { Gives headed_of result (after_flags flags kind teid octets.now) }
     ensures within { IfOk result (λ h. length h.rest.now ≤ length octets.now) }
 {
     let [a, b, npdu, first, rest @ ..] = octets else {
@@ -45,9 +41,13 @@ fn with_flags(flags: u8, kind: u8, teid: Teid, octets: &[u8]) -> Result<Header<'
     Ok(Header {
         kind,
         teid,
-        seq: (flags >> 1 & 1 == 1).then_some(seq),
-        npdu: (flags & 1 == 1).then_some(*npdu),
-        first: if flags >> 2 & 1 == 1 { *first } else { 0 },
+        seq: has_bit(flags, SEQUENCE_NUMBER).then_some(seq),
+        npdu: has_bit(flags, N_PDU_NUMBER).then_some(*npdu),
+        first: if has_bit(flags, EXTENSION_HEADER) {
+            *first
+        } else {
+            0
+        },
         rest,
     })
 }
@@ -65,7 +65,7 @@ pub fn read_header(octets: &[u8]) -> Result<Header<'_>, UserFault>
     if version != 1 {
         return Err(UserFault::Version { version });
     }
-    if *flags >> 4 & 1 == 0 {
+    if !has_bit(*flags, PROTOCOL_TYPE) {
         return Err(UserFault::Protocol);
     }
     let stated = usize::from(u16::from_be_bytes([*high, *low]));
@@ -98,7 +98,7 @@ pub fn write_opening(out: &mut Vec<u8>, message: &UserMessage, size: u16) -> Res
     let size = size.to_be_bytes();
     let teid = message.body.header_teid().to_be_bytes();
     out.extend_from_slice(&[
-        48 + message.flags(),
+        GTP | message.flags(),
         message.body.kind(),
         size[0],
         size[1],

@@ -8,6 +8,7 @@ mod element;
 mod encoding;
 mod extension;
 mod fault;
+pub mod flags;
 mod front;
 mod header;
 pub mod kinds;

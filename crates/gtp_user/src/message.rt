@@ -4,9 +4,10 @@ ghost use Rattle.gtp_values.specs.Room.{Leaves};
 ghost use Rattle.std.specs.Prelude.{◌≡◌, length, ◌↔◌, IsTrue};
 ghost use Rattle.gtp_user.specs.Message.{message_value};
 ghost use Rattle.gtp_user.specs.Encoding.{rest_encoding, flags_of, IsEncodable};
-ghost use Rattle.gtp_user.specs.Header.{bits};
+ghost use Rattle.gtp_user.specs.Flags.{bits};
 
 use crate::extension::Extensions;
+use crate::flags::{EXTENSION_HEADER, N_PDU_NUMBER, SEQUENCE_NUMBER};
 use crate::kinds::{
     ECHO_REQUEST, ECHO_RESPONSE, END_MARKER, ERROR_INDICATION, G_PDU,
     SUPPORTED_EXTENSION_HEADERS_NOTIFICATION,
@@ -88,9 +89,9 @@ impl UserMessage<'_> {
     pub(crate) fn flags(&self) -> u8
         ensures { result ≡ bits (flags_of (message_value self.now)) }
     {
-        u8::from(self.ext.first_kind() != 0) << 2
-            | u8::from(self.seq.is_some()) << 1
-            | u8::from(self.npdu.is_some())
+        u8::from(self.ext.first_kind() != 0) << EXTENSION_HEADER
+            | u8::from(self.seq.is_some()) << SEQUENCE_NUMBER
+            | u8::from(self.npdu.is_some()) << N_PDU_NUMBER
     }
 
     /// What is left of a room after the octets that follow the first eight, `None` where they don't fit.

@@ -13,12 +13,15 @@ use crate::body::read_body;
 use crate::decoding::read_first;
 use crate::extension::{Extensions, read_chain};
 use crate::fault::UserFault;
-use crate::header::{field_flags, read_header};
+use crate::flags::{
+    EXTENSION_HEADER, GTP, N_PDU_NUMBER, PROTOCOL_TYPE, SEQUENCE_NUMBER, field_flags,
+};
+use crate::header::read_header;
 use crate::kinds::{
     ECHO_REQUEST, ECHO_RESPONSE, ERROR_INDICATION, G_PDU, SUPPORTED_EXTENSION_HEADERS_NOTIFICATION,
 };
 use crate::message::UserMessage;
-use gtp_values::Teid;
+use gtp_values::{Teid, has_bit};
 use std::marker::Model;
 
 /// A message where it lies. Contracts see the message.
@@ -47,7 +50,7 @@ fn opens_packet(octets: &[u8]) -> bool
     ensures { IsTrue result → OpensPacket octets.now }
 {
     octets.len() >= 8
-        && octets[0] >> 4 == 3
+        && octets[0] >> PROTOCOL_TYPE == GTP >> PROTOCOL_TYPE
         && octets[1] == G_PDU
         && usize::from(u16::from_be_bytes([octets[2], octets[3]])) == octets.len() - 8
 }
@@ -68,7 +71,7 @@ fn packet_start(octets: &[u8]) -> Option<usize>
     if octets.len() < 12 {
         return None;
     }
-    if octets[0] >> 2 & 1 != 1 {
+    if !has_bit(octets[0], EXTENSION_HEADER) {
         return Some(12);
     }
     let Ok((_, tail)) = read_chain(octets[11], &octets[12..], octets.len()) else {
@@ -84,13 +87,18 @@ fn packet_start(octets: &[u8]) -> Option<usize>
 fn view_message(octets: &[u8]) -> Result<UserView<'_>, UserFault>
     ensures { Gives (λ v. v) result (message_at octets.now) }
 {
-    let header = read_header(octets)?;
+    let header = match read_header(octets) {
+        Ok(header) => header,
+        Err(fault) => return Err(fault),
+    };
     let (_, tail) = read_chain(header.first, header.rest, octets.len())?;
-    read_body(header.kind, header.teid, tail, octets.len())?;
-    Ok(UserView {
-        octets,
-        start: octets.len() - tail.len(),
-    })
+    match read_body(header.kind, header.teid, tail, octets.len()) {
+        Ok(_) => Ok(UserView {
+            octets,
+            start: octets.len() - tail.len(),
+        }),
+        Err(fault) => Err(fault),
+    }
 }
 
 /// A view of the message that a datagram spells. A G-PDU is looked at first; other messages and faults
@@ -140,7 +148,7 @@ fn is_numbered(kind: u8) -> bool
 #[inline(always)]
 fn header_teid(octets: &[u8]) -> Teid
     requires { 8 ≤ length octets.now }
-    ensures { result.0 ≡ teid_at octets.now }
+    ensures { result ≡ teid_at octets.now }
 {
     Teid(u32::from_be_bytes([octets[4], octets[5], octets[6], octets[7]]))
 }
@@ -157,7 +165,7 @@ impl<'a> UserView<'a> {
     /// The receiver's TEID. An echo, an Error Indication and a notification have none (5.1).
     #[inline(always)]
     pub fn teid(&self) -> Option<Teid>
-        ensures { option_map (λ t. t.0) result ≡ receiver_in self.now.content }
+        ensures { result ≡ receiver_in self.now.content }
     {
         if is_numbered(self.octets[1]) {
             None
@@ -171,7 +179,7 @@ impl<'a> UserView<'a> {
     pub fn seq(&self) -> Option<u16>
         ensures { result ≡ self.now.seq }
     {
-        if self.octets[0] >> 1 & 1 == 1 {
+        if has_bit(self.octets[0], SEQUENCE_NUMBER) {
             Some(u16::from_be_bytes([self.octets[8], self.octets[9]]))
         } else if is_numbered(self.octets[1]) {
             Some(0)
@@ -185,7 +193,7 @@ impl<'a> UserView<'a> {
     pub fn npdu(&self) -> Option<u8>
         ensures { result ≡ self.now.npdu }
     {
-        if self.octets[0] & 1 == 1 {
+        if has_bit(self.octets[0], N_PDU_NUMBER) {
             Some(self.octets[10])
         } else {
             None
@@ -197,7 +205,7 @@ impl<'a> UserView<'a> {
     pub fn extensions(&self) -> Extensions<'a>
         ensures { result ≡ self.now.ext }
     {
-        if self.octets[0] >> 2 & 1 == 1 {
+        if has_bit(self.octets[0], EXTENSION_HEADER) {
             Extensions::of(self.octets[11], &self.octets[12..self.start])
         } else {
             Extensions::none()
@@ -207,7 +215,7 @@ impl<'a> UserView<'a> {
     /// The receiver's TEID and the user's packet of a G-PDU; `None` of another message.
     #[inline(always)]
     pub fn packet(&self) -> Option<(Teid, &'a [u8])>
-        ensures { option_map (λ p. (p.0.0, p.1.now)) result ≡ packet_in self.now.content }
+        ensures { option_map (λ p. (p.0, p.1.now)) result ≡ packet_in self.now.content }
     {
         if self.octets[1] == G_PDU {
             Some((header_teid(self.octets), &self.octets[self.start..]))

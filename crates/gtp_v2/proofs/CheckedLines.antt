@@ -22,7 +22,7 @@ use Rattle.gtp_v2.specs.Viewed.{value_or_none, welcome, optional_at}
 use Rattle.gtp_v2.specs.reading.Rows.{group_at, each_at, rows_at, lines_at, whole}
 use Rattle.gtp_v2.specs.reading.Checked.{forgotten, says, row_says, rows_accept, groups_silent, groups_say, after_groups, line_says, lines_say, merged}
 use Rattle.gtp_v2.specs.declared.table.Shape.{Shape}
-use Rattle.gtp_v2.specs.reading.Lines.{line_of, is_unchecked, checked_rows, has_several, checked_lines, shape_of, shape_in}
+use Rattle.gtp_v2.specs.reading.Lines.{line_of, is_unchecked, checked_rows, has_list, checked_lines, shape_of, shape_in}
 use Rattle.gtp_v2.specs.Tables.{table_of}
 use Rattle.gtp_v2.specs.Headed.{Headed}
 use Rattle.gtp_v2.specs.Message.{Fields, head_of, with_head}
@@ -164,7 +164,7 @@ said_after s t first now (Ok one) es same = same one
 said_after s t first now (Err f) es same = refl
 
 -- where no line has several values, it does not matter whether one before has a value
-no_silence : (a s t : Bool) (lines : List Line) (es : List Element) → has_several lines ≡ false → forgotten (lines_say (state_of a s) lines es) ≡ forgotten (lines_say (state_of a t) lines es)
+no_silence : (a s t : Bool) (lines : List Line) (es : List Element) → has_list lines ≡ false → forgotten (lines_say (state_of a s) lines es) ≡ forgotten (lines_say (state_of a t) lines es)
 unfolding lines_say
 no_silence a s t [] es none = refl
 no_silence a s t (Several kind instance missed ∷ lines) es none = absurd cc
@@ -186,14 +186,14 @@ lines_checked (Grouped row rows ∷ lines) es state =
     let of = all_of (kind_of row) (instance_of row) es in
     ap (λ (r : Result State RowFault). forgotten (r >>= λ one. lines_say (merged state one) (checked_lines lines) es)) (say_checked (need_of state.accepting row) (kind_of row) (instance_of row) state.accepting rows of)
     ∙ said_after state state (checked_lines lines) lines (line_says state (Grouped row rows) es) es (λ one. lines_checked lines es (merged state one))
-lines_checked (Single row ∷ lines) es state = by_free (is_unchecked row && not (has_several lines)) refl (lines_checked lines es) where
-  by_free : (b : Bool) → (is_unchecked row && not (has_several lines)) ≡ b → ((s : State) → forgotten (lines_say s (checked_lines lines) es) ≡ forgotten (lines_say s lines es))
+lines_checked (Single row ∷ lines) es state = by_free (is_unchecked row && not (has_list lines)) refl (lines_checked lines es) where
+  by_free : (b : Bool) → (is_unchecked row && not (has_list lines)) ≡ b → ((s : State) → forgotten (lines_say s (checked_lines lines) es) ≡ forgotten (lines_say s lines es))
       → forgotten (lines_say state (cond b (checked_lines lines) (Single row ∷ checked_lines lines)) es) ≡ forgotten (row_says state.accepting row es >>= λ one. lines_say (merged state one) lines es)
   by_free true free others =
-      let p = both_true (is_unchecked row) (not (has_several lines)) free in
+      let p = both_true (is_unchecked row) (not (has_list lines)) free in
       let f = unchecked_says state.accepting row es p.0 in
       let accepting : state.accepting ≡ state.accepting && f.0.accepting = sym (and_true state.accepting) ∙ ap (λ (b : Bool). state.accepting && b) (sym f.1.1) in
-      others state ∙ no_silence state.accepting state.silent (state.silent && f.0.silent) lines es (is_other (has_several lines) p.1)
+      others state ∙ no_silence state.accepting state.silent (state.silent && f.0.silent) lines es (is_other (has_list lines) p.1)
       ∙ ap (λ (a : Bool). forgotten (lines_say (state_of a (state.silent && f.0.silent)) lines es)) accepting
       ∙ ap (λ (r : Result State RowFault). forgotten (r >>= λ one. lines_say (merged state one) lines es)) (sym f.1.0)
   by_free false needed others = said_after state state (checked_lines lines) lines (row_says state.accepting row es) es (λ one. others (merged state one))

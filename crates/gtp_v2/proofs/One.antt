@@ -45,9 +45,3 @@ kind_one {f = f} {g = g} table e = same_fields f g (ap (λ s. s.content) e)
 -- octets that are kept
 pub kept_one : {k l : ℕ} {xs ys : List ℕ} → kept k xs ≡ kept l ys → (k ≡ l) × (xs ≡ ys)
 kept_one {xs = xs} {ys = ys} e = (ap (λ s. s.kind) e, same_octets xs ys (ap (λ s. s.content) e))
-
--- a number in a struct of its own, where there is one
-pub number_one : {X : Type 0} (o p : Option X) (view : X → ℕ) → Determines view → option_map view o ≡ option_map view p → o ≡ p
-number_one (Some x) (Some y) view one e = ap (λ z. Some z) (one x y cc)
-number_one None None view one e = refl
-number_one o p view one e = absurd cc

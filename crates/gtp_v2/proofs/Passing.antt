@@ -2,7 +2,7 @@
 use Rattle.std.proofs.Common.{◌≡◌, ℕ, Bool, true, false, ◌&&◌, List, [], ◌∷◌, ◌++◌, length, Option, Some, None, Result, Ok, Err, refl, ap, arith, ◌∙◌}
 use Rattle.std.proofs.lemmas.Bool.{eqb-true}
 use Rattle.std.specs.Bool.{beq}
-use Rattle.std.specs.Prelude.{◌==◌, not, IsTrue, IsOk, if◌then◌else◌, is_some, option_map, IsSomeAnd}
+use Rattle.std.specs.Prelude.{◌==◌, not, IsTrue, IsOk, if◌then◌else◌, is_some, IsSomeAnd}
 use Rattle.gtp_values.specs.Steps.{◌>>=◌}
 use Rattle.gtp_values.proofs.Decided.{bind_at}
 use Rattle.gtp_ie.specs.Element.{Element, elements_of, all_of}
@@ -99,7 +99,3 @@ passing h es has_teid form walked passes = by_table (table_of h.kind) refl passe
       let fields = ok_is _ p.1 in
       record { reads = rw (is, form ∙ p.0, same_form t.has_teid, walked, fields.1) refl; walked = rw (is, walked) refl }
   by_table None is p = absurd p
-
-pub is_some_mapped : {A B : Type 0} (f : A → B) (o : Option A) → is_some (option_map f o) ≡ is_some o
-is_some_mapped f (Some x) = refl
-is_some_mapped f None = refl

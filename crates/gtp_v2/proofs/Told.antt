@@ -1,6 +1,6 @@
 -- Reading a datagram decides which message it is.
 use Rattle.std.proofs.Common.{◌≡◌, ℕ, Bool, true, false, cond, List, Option, Some, None, Result, Ok, Err, inl, inr, refl, ap, sym, subst, ◌∙◌}
-use Rattle.std.specs.Prelude.{◌≢◌, is_some, option_map, IfOk}
+use Rattle.std.specs.Prelude.{◌≢◌, is_some, IfOk}
 use Rattle.std.specs.Bool.{beq}
 use Rattle.gtp_values.specs.Steps.{◌>>=◌}
 use Rattle.gtp_values.specs.Decides.{Decides, First_or_later}
@@ -23,7 +23,6 @@ use Rattle.gtp_v2.specs.reading.Headed.{headed_of, header_at, HasHeader}
 use Rattle.gtp_v2.specs.declared.header.Header.{Header}
 use Rattle.gtp_v2.specs.declared.message.Datagram.{Datagram}
 use Rattle.gtp_v2.specs.Body.{content_of, kind_of, message_value}
-use Rattle.gtp_values.specs.declared.identifiers.Teid.{Teid}
 use Rattle.gtp_v2.specs.Header.{IsHeaded, HeaderFails}
 use Rattle.gtp_v2.proofs.Headers.{header_decided}
 use Rattle.gtp_v2.specs.Message.{head_of, with_head, Content, Fields, Raw, with_content, MessageGives, ContentAllocates}
@@ -100,6 +99,6 @@ unfolding content_at
 built_marked h (Ok d) gives kind header =
     let content = content_of d.message.body in
     let marked = content_marked (table_of h.kind) (headed_of h) content ((content_decided (table_of h.kind) (headed_of h)).ok content gives) in
-    subst (λ (k : ℕ). ContentMarked (table_of k) (is_some (option_map (λ (t : Teid). t.0) d.message.teid)) content) (sym kind)
-    (subst (λ (o : Option Teid). ContentMarked (table_of h.kind) (is_some (option_map (λ (t : Teid). t.0) o)) content) (sym header.0) marked)
+    subst (λ (k : ℕ). ContentMarked (table_of k) (is_some d.message.teid) content) (sym kind)
+    (subst (λ (o : Option ℕ). ContentMarked (table_of h.kind) (is_some o) content) (sym header.0) marked)
 built_marked h (Err f) gives kind header = tt

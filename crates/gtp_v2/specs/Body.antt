@@ -1,5 +1,5 @@
 -- What the code's messages say.
-use Rattle.std.specs.Prelude.{◌≡◌, ℕ, List, None, option_map}
+use Rattle.std.specs.Prelude.{◌≡◌, ℕ, List, None}
 use Rattle.gtp_v2.specs.declared.body.Body.{Body}
 use Rattle.gtp_v2.specs.declared.body.Body.TheVariants as bodies
 use Rattle.gtp_v2.specs.declared.message.Message.{Message}
@@ -48,7 +48,7 @@ content_of body = (said_of body).content
 
 -- what a message says
 abbrev pub message_value : Message → MessageValue
-message_value m = record { kind = kind_of m.body; teid = option_map (λ t. t.0) m.teid; seq = m.seq; priority = m.priority; content = content_of m.body }
+message_value m = record { kind = kind_of m.body; teid = m.teid; seq = m.seq; priority = m.priority; content = content_of m.body }
 
 -- the kind fits the body: a message kept as octets is of a type without a table
 abbrev pub OctetsOnlyWithoutTable : Body → Type 0

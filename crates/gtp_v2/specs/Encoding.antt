@@ -2,6 +2,7 @@
 use Rattle.std.specs.Prelude.{◌≡◌, ℕ, true, ◌+◌, ◌*◌, ◌<◌, ◌≤◌, ◌^◌, List, [], ◌∷◌, length, Option, Some, None}
 use Rattle.gtp_values.specs.Numbers.{two, three, four}
 use Rattle.gtp_v2.specs.Apart.{is_table}
+use Rattle.gtp_v2.specs.Flags.{version_2, with_teid, with_priority}
 use Rattle.gtp_v2.specs.Kinds.{ContentHasKinds, LinesHaveKinds}
 use Rattle.gtp_v2.specs.Marks.{LinesMarked, MeetsMarks}
 use Rattle.gtp_v2.specs.Message.{Content, Fields, Raw, MessageValue}
@@ -21,15 +22,15 @@ carried m = carried_by (table_of m.kind) m.content
 
 -- the header, and what the message carries: spare bits 0
 abbrev pub headed_encoding : ℕ → Option ℕ → ℕ → Option ℕ → List ℕ → List ℕ
-headed_encoding kind None seq priority rest = 64 ∷ kind ∷ two (4 + length rest) (three seq (0 ∷ rest))
-headed_encoding kind (Some teid) seq None rest = 72 ∷ kind ∷ two (8 + length rest) (four teid (three seq (0 ∷ rest)))
-headed_encoding kind (Some teid) seq (Some priority) rest = 76 ∷ kind ∷ two (8 + length rest) (four teid (three seq ((16 * priority) ∷ rest)))
+headed_encoding kind None seq priority rest = version_2 ∷ kind ∷ two (4 + length rest) (three seq (0 ∷ rest))
+headed_encoding kind (Some teid) seq None rest = (version_2 + with_teid) ∷ kind ∷ two (8 + length rest) (four teid (three seq (0 ∷ rest)))
+headed_encoding kind (Some teid) seq (Some priority) rest = (version_2 + with_teid + with_priority) ∷ kind ∷ two (8 + length rest) (four teid (three seq ((16 * priority) ∷ rest)))
 
 -- the header with its length still 0
 abbrev pub open_header : ℕ → Option ℕ → ℕ → Option ℕ → List ℕ
-open_header kind None seq priority = 64 ∷ kind ∷ 0 ∷ 0 ∷ three seq (0 ∷ [])
-open_header kind (Some teid) seq None = 72 ∷ kind ∷ 0 ∷ 0 ∷ four teid (three seq (0 ∷ []))
-open_header kind (Some teid) seq (Some priority) = 76 ∷ kind ∷ 0 ∷ 0 ∷ four teid (three seq ((16 * priority) ∷ []))
+open_header kind None seq priority = version_2 ∷ kind ∷ 0 ∷ 0 ∷ three seq (0 ∷ [])
+open_header kind (Some teid) seq None = (version_2 + with_teid) ∷ kind ∷ 0 ∷ 0 ∷ four teid (three seq (0 ∷ []))
+open_header kind (Some teid) seq (Some priority) = (version_2 + with_teid + with_priority) ∷ kind ∷ 0 ∷ 0 ∷ four teid (three seq ((16 * priority) ∷ []))
 
 abbrev pub canonical_encoding : MessageValue → List ℕ
 canonical_encoding m = headed_encoding m.kind m.teid m.seq m.priority (carried m)

@@ -3,11 +3,12 @@ use Rattle.std.specs.Prelude.{◌≡◌, ◌≢◌, ℕ, ◌+◌, ◌*◌, ◌/�
 use Rattle.byteorder.specs.Endian.{big_number}
 use Rattle.gtp_v2.specs.declared.fault.V2Fault.{V2Fault}
 use Rattle.gtp_v2.specs.declared.fault.V2Fault.TheVariants as faults
+use Rattle.gtp_v2.specs.Flags.{version_2, piggybacking, with_teid, with_priority}
 use Rattle.gtp_v2.specs.Headed.{Headed}
 
 -- the first four octets of a message of version 2 that announces no other: flags, kind, and the length of the octets after them
 abbrev pub Opens : List ℕ → ℕ → ℕ → List ℕ → Type 0
-Opens octets flags kind following = (high : ℕ) × (low : ℕ) × (flags < 16) × (octets ≡ (64 + flags) ∷ kind ∷ high ∷ low ∷ following) × (256 * high + low ≡ length following)
+Opens octets flags kind following = (high : ℕ) × (low : ℕ) × (flags < 16) × (octets ≡ (version_2 + flags) ∷ kind ∷ high ∷ low ∷ following) × (256 * high + low ≡ length following)
 
 -- without a TEID: a number in three octets, and one that is spare
 abbrev pub HeadedPlain : List ℕ → Headed → Type 0
@@ -18,12 +19,12 @@ HeadedPlain octets h =
 -- with a TEID in four octets; the last octet has the priority where the third flag says so
 abbrev pub HeadedByTeid : List ℕ → Headed → Type 0
 HeadedByTeid octets h =
-    (flags : ℕ) × (a : ℕ) × (b : ℕ) × (c : ℕ) × (d : ℕ) × (e : ℕ) × (f : ℕ) × (g : ℕ) × (last : ℕ) × (flags < 8) × Opens octets (8 + flags) h.kind (a ∷ b ∷ c ∷ d ∷ e ∷ f ∷ g ∷ last ∷ h.rest)
+    (flags : ℕ) × (a : ℕ) × (b : ℕ) × (c : ℕ) × (d : ℕ) × (e : ℕ) × (f : ℕ) × (g : ℕ) × (last : ℕ) × (flags < 8) × Opens octets (with_teid + flags) h.kind (a ∷ b ∷ c ∷ d ∷ e ∷ f ∷ g ∷ last ∷ h.rest)
     × (h ≡ record {
       kind = h.kind;
       teid = Some (big_number 4 (a ∷ b ∷ c ∷ d ∷ []));
       seq = big_number 3 (e ∷ f ∷ g ∷ []);
-      priority = if nat_le 4 flags then Some (last / 16) else None;
+      priority = if nat_le with_priority flags then Some (last / 16) else None;
       rest = h.rest;
       at = 12;
     })
@@ -38,7 +39,7 @@ HeaderFails octets f =
     ((length octets < 4) × (f ≡ faults.Short (length octets)))
     ⊎ ((first : ℕ) × (kind : ℕ) × (high : ℕ) × (low : ℕ) × (following : List ℕ) × (octets ≡ first ∷ kind ∷ high ∷ low ∷ following)
     × (((first / 32 ≢ 2) × (f ≡ faults.Version (first / 32)))
-    ⊎ (((flags : ℕ) × (flags < 16) × (first ≡ 80 + flags) × (f ≡ faults.BadPiggyback 0))
-    ⊎ (((flags : ℕ) × (flags < 16) × (first ≡ 64 + flags) × (256 * high + low ≢ length following) × (f ≡ faults.Length (256 * high + low) (length following)))
-    ⊎ (((flags : ℕ) × (flags < 8) × (first ≡ 64 + flags) × (256 * high + low ≡ length following) × (length following < 4) × (f ≡ faults.Short (4 + length following)))
-    ⊎ ((flags : ℕ) × (flags < 8) × (first ≡ 72 + flags) × (256 * high + low ≡ length following) × (length following < 8) × (f ≡ faults.Short (4 + length following))))))))
+    ⊎ (((flags : ℕ) × (flags < 16) × (first ≡ version_2 + piggybacking + flags) × (f ≡ faults.BadPiggyback 0))
+    ⊎ (((flags : ℕ) × (flags < 16) × (first ≡ version_2 + flags) × (256 * high + low ≢ length following) × (f ≡ faults.Length (256 * high + low) (length following)))
+    ⊎ (((flags : ℕ) × (flags < 8) × (first ≡ version_2 + flags) × (256 * high + low ≡ length following) × (length following < 4) × (f ≡ faults.Short (4 + length following)))
+    ⊎ ((flags : ℕ) × (flags < 8) × (first ≡ version_2 + with_teid + flags) × (256 * high + low ≡ length following) × (length following < 8) × (f ≡ faults.Short (4 + length following))))))))

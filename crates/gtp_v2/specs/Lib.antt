@@ -4,6 +4,7 @@ pub mod Needs
 pub mod Tables
 pub mod Priority
 pub mod Headed
+pub mod Flags
 pub mod Header
 pub mod Text
 pub mod Room

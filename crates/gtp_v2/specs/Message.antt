@@ -1,5 +1,5 @@
 -- What a message says, what a fault in it tells of it, and for which messages memory is allocated.
-use Rattle.std.specs.Prelude.{◌≡◌, ◌<◌, ◌||◌, length, IsOkAnd, ℕ, List, Option, Some, None, option_map, Result, Ok, Err, true}
+use Rattle.std.specs.Prelude.{◌≡◌, ◌<◌, ◌||◌, length, IsOkAnd, ℕ, List, Option, Some, None, Result, Ok, Err, true}
 use Rattle.gtp_values.specs.TunnelEnd.{TunnelEnd}
 use Rattle.gtp_v2.specs.declared.fault.Head.{Head}
 use Rattle.gtp_v2.specs.declared.fault.RowFault.{RowFault}
@@ -12,7 +12,7 @@ use Rattle.gtp_v2.specs.Tables.{table_of, is_boxed}
 
 -- what a fault in an element tells of the message
 abbrev pub head_of : Headed → Option TunnelEnd → Head
-head_of h sender = record { kind = h.kind; teid = option_map (λ t. record { 0 = t }) h.teid; seq = h.seq; priority = h.priority; sender = sender }
+head_of h sender = record { kind = h.kind; teid = h.teid; seq = h.seq; priority = h.priority; sender = sender }
 
 -- a fault in a row, told with the head
 abbrev pub with_head : Head → RowFault → V2Fault

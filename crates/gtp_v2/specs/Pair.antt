@@ -10,6 +10,7 @@ use Rattle.std.specs.Global.{Box}
 use Rattle.gtp_v2.specs.declared.message.Message.{Message}
 use Rattle.gtp_v2.specs.Body.{message_value}
 use Rattle.gtp_v2.specs.Datagram.{IsMessage, IsFault}
+use Rattle.gtp_v2.specs.Flags.{version_2, piggybacking}
 use Rattle.gtp_v2.specs.Message.{MessageValue, MessageAllocates}
 use Rattle.gtp_v2.specs.Viewed.{Viewed, ViewedDatagram, Follows, Carries}
 
@@ -28,7 +29,7 @@ both a b = record { first = a; second = Some b }
 
 -- the first four octets of a message of version 2 that announces another (P is set), and all that is held after them
 abbrev pub Begins : List ℕ → ℕ → ℕ → ℕ → ℕ → List ℕ → Type 0
-Begins octets flags kind high low held = (flags < 16) × (octets ≡ (80 + flags) ∷ kind ∷ high ∷ low ∷ held)
+Begins octets flags kind high low held = (flags < 16) × (octets ≡ (version_2 + piggybacking + flags) ∷ kind ∷ high ∷ low ∷ held)
 
 -- no other message is announced
 abbrev pub IsUnannounced : List ℕ → Type 0
@@ -40,12 +41,12 @@ Announces octets front back =
     (flags : ℕ) × (kind : ℕ) × (high : ℕ) × (low : ℕ) × (following : List ℕ)
     × Begins octets flags kind high low (following ++ back)
     × (256 * high + low ≡ length following)
-    × (front ≡ (64 + flags) ∷ kind ∷ high ∷ low ∷ following)
+    × (front ≡ (version_2 + flags) ∷ kind ∷ high ∷ low ∷ following)
 
 -- two messages as one datagram, from the octets of each: the first announces the second
 abbrev pub paired : List ℕ → List ℕ → List ℕ
 paired [] back = back
-paired (first ∷ front) back = ((first + 16) % 256) ∷ (front ++ back)
+paired (first ∷ front) back = ((first + piggybacking) % 256) ∷ (front ++ back)
 
 -- a first message announces another, and states more octets than are held
 abbrev pub AnnouncesMore : List ℕ → V2Fault → Type 0

@@ -13,6 +13,7 @@ ghost use Rattle.gtp_v2.specs.Pair.{IsDatagram, both, paired};
 
 use crate::body::{room_after, write_body};
 use crate::fault::V2Fault;
+use crate::flags::PIGGYBACKING;
 use crate::header::write_header;
 use crate::message::Message;
 use std::alloc::{AllocError, Global};
@@ -152,7 +153,7 @@ pub fn pair(alloc: Global, front: &[u8], back: &[u8]) -> Result<Vec<u8>, AllocEr
 {
     let mut out = Vec::with_capacity(alloc, front.len() + back.len())?;
     if let [first, rest @ ..] = front {
-        out.push(first.wrapping_add(16))?;
+        out.push(first.wrapping_add(1 << PIGGYBACKING))?;
         out.extend_from_slice(rest)?;
     }
     out.extend_from_slice(back)?;

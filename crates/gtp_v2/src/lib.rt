@@ -8,6 +8,7 @@ mod contexts;
 mod decoding;
 mod encoding;
 mod fault;
+pub mod flags;
 mod groups;
 mod header;
 pub mod kinds;

@@ -28,6 +28,7 @@ use crate::body::{build_datagram, build_other};
 use crate::check::check_lines;
 use crate::contexts::Contexts;
 use crate::fault::{V2Fault, moved};
+use crate::flags::announces_another;
 use crate::header::{Header, read_header};
 use crate::message::{Datagram, Message};
 use crate::rows::{mandatory, optional};
@@ -255,7 +256,7 @@ pub fn view_any(octets: &[u8]) -> Result<DatagramView<'_>, V2Fault>
     let [first, kind, high, low, rest @ ..] = octets else {
         return Err(V2Fault::Short { held: octets.len() });
     };
-    if *first >> 4 == 5 {
+    if announces_another(*first) {
         return view_pair(*first, *kind, *high, *low, rest);
     }
     let message = match view_opened(*first, *kind, *high, *low, rest) {
@@ -337,7 +338,7 @@ impl<'a> MessageView<'a> {
 
     /// The receiver's TEID.
     pub fn teid(&self) -> Option<Teid>
-        ensures { option_map (λ t. t.0) result ≡ self.now.message.teid }
+        ensures { result ≡ self.now.message.teid }
     {
         self.header.teid
     }

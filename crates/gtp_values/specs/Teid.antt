@@ -22,7 +22,7 @@ teid_text teid = encode_lower (to_be_bytes w32 teid)
 -- what reading a text answers: the identifier that it writes, or the first refusal
 pub record ReadsTeid (text : List ℕ) (result : Result Teid ValueFault) : Type 0 where
   pub ok : IsOk result ↔ IsTeidText text
-  pub value : IfOk result (λ teid. WritesTeid text teid.0)
+  pub value : IfOk result (λ teid. WritesTeid text teid)
   pub short : IsErrOf result TooShort ↔ (length text < 8)
   pub long : IsErrOf result TooLong ↔ (8 < length text)
   pub digit : IsErrOf result BadDigit ↔ ((length text ≡ 8) × ¬ IsTeidText text)

@@ -25,15 +25,14 @@ impl Model for FTeid {
 
     ghost Value = { TunnelEnd };
 
-    ghost view = { λ a. record { interface = a.interface; teid = a.teid.0; v4 = a.v4; v6 = a.v6 } };
+    ghost view = { λ a. record { interface = a.interface; teid = a.teid; v4 = a.v4; v6 = a.v6 } };
 
     ghost invariant = { λ a. IsTunnelEnd (record
-        { interface = a.interface; teid = a.teid.0; v4 = a.v4; v6 = a.v6 }) };
+        { interface = a.interface; teid = a.teid; v4 = a.v4; v6 = a.v6 }) };
 
     ghost inverse = { λ e. record {
       interface = e.interface;
-      teid = record
-          { 0 = e.teid };
+      teid = e.teid;
       v4 = e.v4;
       v6 = e.v6;
     } };
@@ -50,7 +49,7 @@ impl FTeid {
     ) -> Result<FTeid, ValueFault>
         ensures ok { IsOk result ↔ ((interface < 64) × IsTrue (is_some v4 || is_some v6)) }
         ensures value { IfOk result
-            (λ end. end ≡ record { interface = interface; teid = teid.0; v4 = v4; v6 = v6 }) }
+            (λ end. end ≡ record { interface = interface; teid = teid; v4 = v4; v6 = v6 }) }
         ensures fault { IfErr result (λ f. f ≡ OutOfRange) }
     {
         if interface >= 64 || (v4.is_none() && v6.is_none()) {
@@ -62,7 +61,7 @@ impl FTeid {
     /// The tunnel end of these parts, of which one is an address.
     pub fn of(interface: Below<64>, teid: Teid, v4: Option<[u8; 4]>, v6: Option<[u8; 16]>) -> FTeid
         requires { IsTrue (is_some v4 || is_some v6) }
-        ensures { result ≡ record { interface = interface; teid = teid.0; v4 = v4; v6 = v6 } }
+        ensures { result ≡ record { interface = interface; teid = teid; v4 = v4; v6 = v6 } }
     {
         FTeid {
             interface: interface.number(),
@@ -75,7 +74,7 @@ impl FTeid {
     /// The tunnel end of one address. It takes any interface type, so it can't be refused.
     pub fn new(interface: Below<64>, teid: Teid, address: Ip) -> FTeid
         ensures interface { result.interface ≡ interface }
-        ensures teid { result.teid ≡ teid.0 }
+        ensures teid { result.teid ≡ teid }
         ensures address { HasAddress result address }
     {
         let (v4, v6) = match address {
@@ -95,7 +94,7 @@ impl FTeid {
 
     /// The identifier.
     pub fn teid(&self) -> Teid
-        ensures { result.0 ≡ self.now.teid }
+        ensures { result ≡ self.now.teid }
     {
         self.teid
     }

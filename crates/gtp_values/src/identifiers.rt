@@ -11,9 +11,22 @@ use std::fmt;
 use std::marker::Model;
 use std::str::FromStr;
 
-/// A tunnel endpoint identifier: any number of 32 bits (TS 29.274 5.5.1, TS 29.281 5.1).
+/// A tunnel endpoint identifier: any number of 32 bits (TS 29.274 5.5.1, TS 29.281 5.1). Contracts
+/// see the number.
 #[derive(Clone, Copy, Debug, PartialEq, Eq, PartialOrd, Ord, Hash)]
 pub struct Teid(pub u32);
+
+impl Model for Teid {
+    ghost use Rattle.std.specs.Prelude.{ℕ, ◌<◌, ◌^◌};
+
+    ghost Value = { ℕ };
+
+    ghost view = { λ a. a.0 };
+
+    ghost invariant = { λ a. a.0 < 2 ^ 32 };
+
+    ghost inverse = { λ n. record { 0 = n } };
+}
 
 /// As `from_text`.
 impl FromStr for Teid {
@@ -47,7 +60,7 @@ impl Teid {
 
 /// Eight hexadecimal digits in lower case.
 impl fmt::Display for Teid {
-    ghost output = { λ teid. Some (teid_text teid.0) };
+    ghost output = { λ teid. Some (teid_text teid) };
 
     fn fmt<W: fmt::Write>(&self, f: &mut fmt::Formatter<W>) -> fmt::Result {
         let octets = self.0.to_be_bytes();

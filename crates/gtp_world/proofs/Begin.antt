@@ -3,12 +3,12 @@ use Rattle.std.proofs.Common.{◌≡◌, ◌<◌, [], refl, sym, ap, subst}
 use Rattle.std.proofs.Math.Nat.{mod-eq_of_lt}
 use Rattle.gtp_machine.specs.Node.{fresh_node}
 use Rattle.gtp_machine.specs.World.{start}
-use Rattle.gtp_world.specs.Kept.{Kept}
-use Rattle.gtp_world.specs.Runs.{Setup, begun, IsRunOf}
+use Rattle.gtp_world.specs.Record.{WorldRecord}
+use Rattle.gtp_world.specs.Runs.{Setup, begun, LeftByRun}
 
-pub run_begins : (setup : Setup) (v : Kept) → v ≡ begun setup → setup.serving_counter < 256 → setup.packet_counter < 256 → IsRunOf setup [] v
+pub run_begins : (setup : Setup) (v : WorldRecord) → v ≡ begun setup → setup.serving_counter < 256 → setup.packet_counter < 256 → LeftByRun setup [] v
 run_begins setup v is serving packet =
-    subst (λ k. IsRunOf setup [] k) (sym is)
+    subst (λ k. LeftByRun setup [] k) (sym is)
     (record {
       world = start setup.serving.config setup.packet.config setup.serving_counter setup.packet_counter;
       run = refl;

@@ -13,7 +13,7 @@ use Rattle.gtp_machine.proofs.Worlds.Safety.{always_made_once}
 use Rattle.gtp_reliable.specs.Forgotten.{question_of}
 use Rattle.gtp_reliable.specs.declared.held.Request.{Request}
 use Rattle.gtp_gateway.specs.Tick.{asked_by, arrivals_of}
-use Rattle.gtp_world.specs.Kept.{oldest_first, Kept, half_in}
+use Rattle.gtp_world.specs.Record.{oldest_first, WorldRecord, gateway_in}
 use Rattle.gtp_world.specs.Views.{IsCount, IsMade, IsMadeOnce, as_it_came}
 use Rattle.gtp_world.proofs.Lists.{among_oldest}
 use Rattle.gtp_world.proofs.Standing.{half_stands}
@@ -63,12 +63,12 @@ once_oldest x [] once = tt
 once_oldest x (y ∷ xs) once = once_more x y (oldest_first xs) (once_oldest x xs once.1) (λ has is. once.0 is (among_oldest x xs has))
 
 -- where no delivery of a request was late, at most one context was made for it
-pub made_once : (v : Kept) (number count : ℕ) → IsMade v number count → IsMadeOnce v number count
+pub made_once : (v : WorldRecord) (number count : ℕ) → IsMade v number count → IsMadeOnce v number count
 made_once v number count made setup events r found timely =
     let at = other found.sent.role in
     let a = as_it_came found.sent in
     let same = same_Some made.found.sent found.sent (sym made.found.is ∙ found.is) in
     let half = half_stands setup v r.world r.stands at in
     let once = always_made_once setup.serving.config setup.packet.config setup.serving_counter setup.packet_counter events r.world r.run at a timely in
-    let counts = subst (λ (d : By Datagram). IsCount (as_it_came d) (half_in v (other d.role)).made count) same made.counts in
-    at_most_one a (half_in v at).made count (subst (λ l. AtMostOnce a l) (sym half.made) (once_oldest a (side_of r.world at).made once)) counts
+    let counts = subst (λ (d : By Datagram). IsCount (as_it_came d) (gateway_in v (other d.role)).made count) same made.counts in
+    at_most_one a (gateway_in v at).made count (subst (λ l. AtMostOnce a l) (sym half.made) (once_oldest a (side_of r.world at).made once)) counts

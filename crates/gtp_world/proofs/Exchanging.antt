@@ -15,9 +15,9 @@ use Rattle.gtp_machine.proofs.Exchange.Made.{fair_exchange}
 use Rattle.gtp_machine.proofs.Worlds.Coming.{by_few}
 use Rattle.gtp_machine.proofs.Worlds.Runs.{always}
 use Rattle.gtp_gateway.specs.messages.Sent.{ReadsBackOn, ReadsBack}
-use Rattle.gtp_world.specs.Kept.{oldest_first, Told, Kept, outcomes_in}
-use Rattle.gtp_world.specs.Runs.{Setup, AreFacing, AreFor, told_in, StandsFor, IsRunOf, IsReached}
-use Rattle.gtp_world.specs.Stepped.{Comes, Follows}
+use Rattle.gtp_world.specs.Record.{oldest_first, EventRecord, WorldRecord, outcomes_in}
+use Rattle.gtp_world.specs.Runs.{Setup, AreFacing, AreFor, told_in, StandsFor, LeftByRun, LeftBySomeRun}
+use Rattle.gtp_world.specs.Stepped.{EventLeaves, EventsLeave}
 use Rattle.gtp_world.specs.Exchange.{CameSoFar, IsExchanged}
 use Rattle.gtp_world.proofs.Configs.{set_up}
 use Rattle.gtp_world.proofs.Cuts.{by_itself}
@@ -59,7 +59,7 @@ each_reads setup (d ∷ log) (s ∷ all) are few role m has = ⊎_elim
     (λ later. each_reads setup log all are.1 (λ k among. few k (inr among)) role m later)
     (Among-cases (record { role = role; what = m }) (signed s.role s.what) (flat all) has)
 
-all_read : (setup : Setup) (events : List Event) (v : Kept) → (r : IsRunOf setup events v) → AllRead r.world
+all_read : (setup : Setup) (events : List Event) (v : WorldRecord) → (r : LeftByRun setup events v) → AllRead r.world
 all_read setup events v r role m has =
     let always_so = always setup.serving.config setup.packet.config setup.serving_counter setup.packet_counter events r.world r.run in
     each_reads setup v.log.datagrams r.world.datagrams r.stands.datagrams always_so.few role m (subst (λ h. HasSent h role m) (sym always_so.kept) has)
@@ -77,9 +77,9 @@ same_last (z ∷ xs) [] x y is = absurd (not_empty xs x (cc is))
 same_last (z ∷ xs) (u ∷ ys) x y is = same_last xs ys x y (cc is)
 
 -- what the latest event came to is the last that is told
-last_told : (setup : Setup) (v : Kept) (w : World) (before : List EventOutcome) (outcome came : EventOutcome) → StandsFor setup v w → outcomes_in v.log ≡ before ++ (outcome ∷ []) → CameTo w came → outcome ≡ came
+last_told : (setup : Setup) (v : WorldRecord) (w : World) (before : List EventOutcome) (outcome came : EventOutcome) → StandsFor setup v w → outcomes_in v.log ≡ before ++ (outcome ∷ []) → CameTo w came → outcome ≡ came
 last_told setup v w before outcome came stands told at =
-    let outcome_in : Told → EventOutcome = λ t. t.outcome in
+    let outcome_in : EventRecord → EventOutcome = λ t. t.outcome in
     let notes = stands.notes ∙ ap (λ (l : List Note). oldest_first (map told_in l)) at.notes in
     let whole = ap (map outcome_in) notes ∙ map-append outcome_in (oldest_first (map told_in at.before)) (told_in at.note ∷ []) in
     same_last before (map outcome_in (oldest_first (map told_in at.before))) outcome at.note.outcome (sym told ∙ whole) ∙ at.is
@@ -96,8 +96,8 @@ one_path setup events w run facing =
       back = ap (λ (c : Config). c.peer) packet ∙ back ∙ ap (λ (c : Config). c.own) (sym serving);
     }
 
-pub exchanged : (old : Kept) (reached : IsReached old) (spec : Specification) (next : ℕ) (v1 v2 new : Kept) (o1 o2 o3 : EventOutcome) → next ≡ length old.log.datagrams
-    → Comes old (Does Serving (Create_session spec)) v1 → Comes v1 (Deliver next) v2 → Comes v2 (Deliver (next + 1)) new
+pub exchanged : (old : WorldRecord) (reached : LeftBySomeRun old) (spec : Specification) (next : ℕ) (v1 v2 new : WorldRecord) (o1 o2 o3 : EventOutcome) → next ≡ length old.log.datagrams
+    → EventLeaves old (Does Serving (Create_session spec)) v1 → EventLeaves v1 (Deliver next) v2 → EventLeaves v2 (Deliver (next + 1)) new
     → outcomes_in v1.log ≡ outcomes_in old.log ++ (o1 ∷ []) → outcomes_in v2.log ≡ outcomes_in v1.log ++ (o2 ∷ []) → outcomes_in new.log ≡ outcomes_in v2.log ++ (o3 ∷ [])
     → CanExchange reached.run.world spec → IsExchanged spec old reached (o1 ∷ o2 ∷ o3 ∷ []) new
 exchanged old reached spec next v1 v2 new o1 o2 o3 next_is comes1 comes2 comes3 told1 told2 told3 can =
@@ -108,11 +108,11 @@ exchanged old reached spec next v1 v2 new o1 o2 o3 next_is comes1 comes2 comes3 
     let g1 = goes setup events old r e1 v1 comes1 in
     let at = next_is ∙ as_many setup old.log.datagrams r.world.datagrams r.stands.datagrams in
     let after : next + 1 ≡ 1 + length r.world.datagrams = omega (arith, at) in
-    let comes_there = subst (λ n. Comes v1 (Deliver n) v2) at comes2 in
-    let comes_back = subst (λ n. Comes v2 (Deliver n) new) after comes3 in
-    let r1 : IsRunOf setup (events ++ (e1 ∷ [])) v1 = record { world = g1.world; run = g1.run; stands = g1.stands } in
+    let comes_there = subst (λ n. EventLeaves v1 (Deliver n) v2) at comes2 in
+    let comes_back = subst (λ n. EventLeaves v2 (Deliver n) new) after comes3 in
+    let r1 : LeftByRun setup (events ++ (e1 ∷ [])) v1 = record { world = g1.world; run = g1.run; stands = g1.stands } in
     let g2 = goes setup (events ++ (e1 ∷ [])) v1 r1 (Deliver (length r.world.datagrams)) v2 comes_there in
-    let r2 : IsRunOf setup ((events ++ (e1 ∷ [])) ++ (Deliver (length r.world.datagrams) ∷ [])) v2 = record { world = g2.world; run = g2.run; stands = g2.stands } in
+    let r2 : LeftByRun setup ((events ++ (e1 ∷ [])) ++ (Deliver (length r.world.datagrams) ∷ [])) v2 = record { world = g2.world; run = g2.run; stands = g2.stands } in
     let g3 = goes setup ((events ++ (e1 ∷ [])) ++ (Deliver (length r.world.datagrams) ∷ [])) v2 r2 (Deliver (1 + length r.world.datagrams)) new comes_back in
     let x = fair_exchange setup.serving.config setup.packet.config setup.serving_counter setup.packet_counter events r.world g1.world g2.world g3.world spec r.run (one_path setup events r.world r.run reached.facing) can g1.happens g2.happens g3.happens (all_read setup _ v2 r2) in
     let is1 = last_told setup v1 g1.world (outcomes_in old.log) o1 _ g1.stands told1 x.first in
@@ -133,5 +133,5 @@ exchanged old reached spec next v1 v2 new o1 o2 o3 next_is comes1 comes2 comes3 
     }
 
 -- the first of the events came
-pub so_far : (old : Kept) (events : List Event) (new : Kept) (count : ℕ) → count < 3 → Follows old (take count events) new → CameSoFar old events new
+pub so_far : (old : WorldRecord) (events : List Event) (new : WorldRecord) (count : ℕ) → count < 3 → EventsLeave old (take count events) new → CameSoFar old events new
 so_far old events new count few comes = record { count = count; few = few; comes = comes; run = runs_on old (take count events) new comes }

@@ -11,9 +11,9 @@ use Rattle.gtp_machine.specs.Spelling.{Datagram as Sent}
 use Rattle.gtp_machine.specs.Ordered.{Unless}
 use Rattle.gtp_machine.specs.World.{By, other, Deliver}
 use Rattle.gtp_gateway.specs.Parts.{arrival_of}
-use Rattle.gtp_world.specs.Kept.{Kept, half_in, sent_by}
+use Rattle.gtp_world.specs.Record.{WorldRecord, gateway_in, sent_by}
 use Rattle.gtp_world.specs.Last.{last_octets}
-use Rattle.gtp_world.specs.Stepped.{IsThere, IsGivenUp, IsLate, TakesOn, Brings, BringsFirst, Comes}
+use Rattle.gtp_world.specs.Stepped.{IsThere, IsGivenUp, IsLate, TakesOn, Brings, BringsFirst, EventLeaves}
 use Rattle.gtp_world.specs.declared.log.Datagram.{Datagram}
 
 pub there : (datagrams : List Datagram) (number : ℕ) → number < length datagrams → IsThere (map sent_by datagrams) number
@@ -32,15 +32,15 @@ pub found_at : (datagrams : List Datagram) (number : ℕ) (d : Datagram) (found 
 found_at datagrams number d found is = same_Some found.sent (sent_by d) (sym found.is ∙ slice_get-map sent_by datagrams number ∙ ap (option_map sent_by) is)
 
 -- what comes of a datagram that was brought, by the datagram that stands there
-pub brought : (old : Kept) (late whole : Bool) (new : Kept) (count : ℕ) (node : Role) (octets : List ℕ) (datagrams : List Datagram) (index : ℕ) (d : Datagram) (found : IsThere (map sent_by datagrams) index) → slice_get datagrams index ≡ Some d → node ≡ other d.node → octets ≡ take count d.sent.octets.items
-    → (IsTrue late ↔ IsTrue whole × IsGivenUp (half_in old node) d.sent.plane (arrival_of d.sent.from (last_octets octets))) → TakesOn old node d.sent.plane d.sent.from octets late new → BringsFirst old found.sent count whole new
+pub brought : (old : WorldRecord) (late whole : Bool) (new : WorldRecord) (count : ℕ) (node : Role) (octets : List ℕ) (datagrams : List Datagram) (index : ℕ) (d : Datagram) (found : IsThere (map sent_by datagrams) index) → slice_get datagrams index ≡ Some d → node ≡ other d.node → octets ≡ take count d.sent.octets.items
+    → (IsTrue late ↔ IsTrue whole × IsGivenUp (gateway_in old node) d.sent.plane (arrival_of d.sent.from (last_octets octets))) → TakesOn old node d.sent.plane d.sent.from octets late new → BringsFirst old found.sent count whole new
 brought old late whole new count node octets datagrams index d found at goes reads is t =
     let first = take count d.sent.octets.items in
     subst (λ (x : By Sent). BringsFirst old x count whole new) (sym (found_at datagrams index d found at))
     (record {
       late = late;
-      is = subst (λ (r : Role). IsTrue late ↔ IsTrue whole × IsGivenUp (half_in old r) d.sent.plane (arrival_of d.sent.from (last_octets first))) goes
-          (subst (λ (o : List ℕ). IsTrue late ↔ IsTrue whole × IsGivenUp (half_in old node) d.sent.plane (arrival_of d.sent.from (last_octets o))) reads is);
+      is = subst (λ (r : Role). IsTrue late ↔ IsTrue whole × IsGivenUp (gateway_in old r) d.sent.plane (arrival_of d.sent.from (last_octets first))) goes
+          (subst (λ (o : List ℕ). IsTrue late ↔ IsTrue whole × IsGivenUp (gateway_in old node) d.sent.plane (arrival_of d.sent.from (last_octets o))) reads is);
       brings = subst (λ (r : Role). TakesOn old r d.sent.plane d.sent.from first late new) goes (subst (λ (o : List ℕ). TakesOn old node d.sent.plane d.sent.from o late new) reads t);
     })
 
@@ -49,7 +49,7 @@ pub octets_at : (datagrams : List Datagram) (index : ℕ) (d : Datagram) (found 
 octets_at datagrams index d found at = ap (λ (x : By Sent). length x.what.octets) (found_at datagrams index d found at)
 
 -- a delivery: as many octets come as there are
-pub delivered : (old : Kept) (number count : ℕ) (new : Kept) (found : IsThere old.log.datagrams number) → count ≡ length found.sent.what.octets → BringsFirst old found.sent count true new → Comes old (Deliver number) new
+pub delivered : (old : WorldRecord) (number count : ℕ) (new : WorldRecord) (found : IsThere old.log.datagrams number) → count ≡ length found.sent.what.octets → BringsFirst old found.sent count true new → EventLeaves old (Deliver number) new
 delivered old number count new found long b = inr (found, by b.late b.is b.brings)
   where
     octets : List ℕ
@@ -58,15 +58,15 @@ delivered old number count new found long b = inr (found, by b.late b.is b.bring
     whole : take count octets ≡ octets
     whole = ap (λ n. take n octets) long ∙ take-length octets
 
-    by : (late : Bool) → (IsTrue late ↔ IsTrue true × IsGivenUp (half_in old (other found.sent.role)) found.sent.what.plane (arrival_of found.sent.what.from (last_octets (take count octets)))) → Brings old found.sent (take count octets) late new → Unless (IsLate (half_in old (other found.sent.role)) found.sent.what) (Brings old found.sent octets false new) (λ late. Brings old found.sent octets true new)
-    by true is t = inr (subst (λ o. IsGivenUp (half_in old (other found.sent.role)) found.sent.what.plane (arrival_of found.sent.what.from (last_octets o))) whole (is.0 refl).1, subst (λ (o : List ℕ). Brings old found.sent o true new) whole t)
-    by false is t = inl ((λ late. let e : false ≡ true = is.1 (refl, subst (λ o. IsGivenUp (half_in old (other found.sent.role)) found.sent.what.plane (arrival_of found.sent.what.from (last_octets o))) (sym whole) late) in absurd (cc e)), subst (λ (o : List ℕ). Brings old found.sent o false new) whole t)
+    by : (late : Bool) → (IsTrue late ↔ IsTrue true × IsGivenUp (gateway_in old (other found.sent.role)) found.sent.what.plane (arrival_of found.sent.what.from (last_octets (take count octets)))) → Brings old found.sent (take count octets) late new → Unless (IsLate (gateway_in old (other found.sent.role)) found.sent.what) (Brings old found.sent octets false new) (λ late. Brings old found.sent octets true new)
+    by true is t = inr (subst (λ o. IsGivenUp (gateway_in old (other found.sent.role)) found.sent.what.plane (arrival_of found.sent.what.from (last_octets o))) whole (is.0 refl).1, subst (λ (o : List ℕ). Brings old found.sent o true new) whole t)
+    by false is t = inl ((λ late. let e : false ≡ true = is.1 (refl, subst (λ o. IsGivenUp (gateway_in old (other found.sent.role)) found.sent.what.plane (arrival_of found.sent.what.from (last_octets o))) (sym whole) late) in absurd (cc e)), subst (λ (o : List ℕ). Brings old found.sent o false new) whole t)
 
 -- and where fewer come it is not late
-pub cut_short : (old : Kept) (sent : By Sent) (count : ℕ) (new : Kept) → BringsFirst old sent count false new → Brings old sent (take count sent.what.octets) false new
+pub cut_short : (old : WorldRecord) (sent : By Sent) (count : ℕ) (new : WorldRecord) → BringsFirst old sent count false new → Brings old sent (take count sent.what.octets) false new
 cut_short old sent count new b = by b.late b.is b.brings
   where
-    by : (late : Bool) → (IsTrue late ↔ IsTrue false × IsGivenUp (half_in old (other sent.role)) sent.what.plane (arrival_of sent.what.from (last_octets (take count sent.what.octets)))) → Brings old sent (take count sent.what.octets) late new → Brings old sent (take count sent.what.octets) false new
+    by : (late : Bool) → (IsTrue late ↔ IsTrue false × IsGivenUp (gateway_in old (other sent.role)) sent.what.plane (arrival_of sent.what.from (last_octets (take count sent.what.octets)))) → Brings old sent (take count sent.what.octets) late new → Brings old sent (take count sent.what.octets) false new
     by true is t = let e : false ≡ true = (is.0 refl).0 in absurd (cc e)
     by false is t = t
 

@@ -23,10 +23,10 @@ use Rattle.gtp_gateway.specs.messages.Sent.{SendingReads, ReadsBackOn}
 use Rattle.gtp_gateway.specs.GatewayState.{GatewayState}
 use Rattle.gtp_gateway.specs.Tick.{due_in}
 use Rattle.gtp_gateway.proofs.SentBack.{none_sent}
-use Rattle.gtp_world.specs.Kept.{Kept, half_in}
+use Rattle.gtp_world.specs.Record.{WorldRecord, gateway_in}
 use Rattle.gtp_world.specs.Last.{last_octets}
-use Rattle.gtp_world.specs.Runs.{Setup, config_in, IsFor, StandsFor, IsRunOf}
-use Rattle.gtp_world.specs.Stepped.{AreReadable, Takes, TakesBoth, TakesOn, KeepsOn, AsksFor, Brings, TicksBy, IsThere, IsLate, Comes, passed_over}
+use Rattle.gtp_world.specs.Runs.{Setup, config_in, IsFor, StandsFor, LeftByRun}
+use Rattle.gtp_world.specs.Stepped.{AreReadable, StepsOn, TakesBoth, TakesOn, KeepsOn, AsksFor, Brings, TicksBy, IsThere, IsLate, EventLeaves, passed_over}
 use Rattle.gtp_world.proofs.Lists.{Found, find, back}
 use Rattle.gtp_world.proofs.Pairs.{first_sent, second_sent, last_sent}
 use Rattle.gtp_world.proofs.Cuts.{came, cut, cut_alone}
@@ -34,19 +34,19 @@ use Rattle.gtp_world.proofs.Configs.{set_up}
 use Rattle.gtp_world.proofs.Standing.{half_stands, lates, world_after, world_after_both, after_step, after_both, after_none, after_restart}
 
 -- the machine's world goes on by the event, and what is kept stands for it
-pub record GoesOn (setup : Setup) (old : World) (event : Event) (new : Kept) : Type 0 where
+pub record GoesOn (setup : Setup) (old : World) (event : Event) (new : WorldRecord) : Type 0 where
   pub world : World
   pub happens : Happens old event world
   pub stands : StandsFor setup new world
 
 -- a gateway takes an input, and that is a move of the world
-pub record Moved (setup : Setup) (old : World) (role : Role) (input : Input) (new : Kept) : Type 0 where
+pub record Moved (setup : Setup) (old : World) (role : Role) (input : Input) (new : WorldRecord) : Type 0 where
   pub world : World
   pub moves : Moves old role input world
   pub stands : StandsFor setup new world
 
 -- a gateway takes two messages of one datagram, and these are two steps of the world
-pub record MovedTwice (setup : Setup) (old : World) (role : Role) (first second : Input) (new : Kept) : Type 0 where
+pub record MovedTwice (setup : Setup) (old : World) (role : Role) (first second : Input) (new : WorldRecord) : Type 0 where
   pub world : World
   pub moves : MovesTwice old role first second world
   pub stands : StandsFor setup new world
@@ -58,17 +58,17 @@ ComesOn plane old role from datagram new =
     MovesTwice old role (first_came from (Create_session_response pair.answer)) (second_came from (Create_bearer_request pair.asked)) new)
 
 -- a datagram comes to a gateway, as the machine's world has it come
-pub record Came (setup : Setup) (old : World) (role : Role) (from : Addresses) (plane : Plane) (datagram : List Message) (new : Kept) : Type 0 where
+pub record Came (setup : Setup) (old : World) (role : Role) (from : Addresses) (plane : Plane) (datagram : List Message) (new : WorldRecord) : Type 0 where
   pub world : World
   pub comes : ComesOn plane old role from datagram world
   pub stands : StandsFor setup new world
 
-module _ (setup : Setup) (v : Kept) (w : World) (stands : StandsFor setup v w) (same : (role : Role) → (side_of w role).node.config ≡ config_in setup role) where
+module _ (setup : Setup) (v : WorldRecord) (w : World) (stands : StandsFor setup v w) (same : (role : Role) → (side_of w role).node.config ≡ config_in setup role) where
   -- the step is one of the machine's gateway
-  step_there : (role : Role) (input : Input) (e : Effect) → Step (half_in v role).station.role (half_in v role).station.node input e → Step role (side_of w role).node input e
+  step_there : (role : Role) (input : Input) (e : Effect) → Step (gateway_in v role).state.role (gateway_in v role).state.node input e → Step role (side_of w role).node input e
   step_there role input e step =
       let half = half_stands setup v w stands role in
-      subst (λ n. Step role n input e) half.node (subst (λ r. Step r (half_in v role).station.node input e) half.role step)
+      subst (λ n. Step role n input e) half.node (subst (λ r. Step r (gateway_in v role).state.node input e) half.role step)
 
   -- a request, where none came late
   no_request : Role → Arrival
@@ -79,7 +79,7 @@ module _ (setup : Setup) (v : Kept) (w : World) (stands : StandsFor setup v w) (
   late_node true Serving a = refl
   late_node true Packet a = refl
 
-  takes_on : (role : Role) (late : Bool) (a : Arrival) (input there : Input) (Timed : List Datagram → EventOutcome → GatewayState → GatewayState → Type 0) (new : Kept) → input ≡ there → Takes v role input Timed late new → Moved setup (lates late w role a) role there new
+  takes_on : (role : Role) (late : Bool) (a : Arrival) (input there : Input) (Timed : List Datagram → EventOutcome → GatewayState → GatewayState → Type 0) (new : WorldRecord) → input ≡ there → StepsOn v role input Timed late new → Moved setup (lates late w role a) role there new
   takes_on role late a input there Timed new is t =
       let old = lates late w role a in
       let steps : List Done = record { before = (side_of old role).node; input = there; effect = t.effect } ∷ [] in
@@ -87,19 +87,19 @@ module _ (setup : Setup) (v : Kept) (w : World) (stands : StandsFor setup v w) (
       record {
         world = next;
         moves = record { effect = t.effect; step = subst (λ n. Step role n there t.effect) (late_node late role a) (subst (λ k. Step role (side_of w role).node k t.effect) is (step_there role input t.effect t.step)); becomes = refl };
-        stands = subst (λ k. StandsFor setup k next) (sym t.becomes) (after_step setup v w role t.station t.effect t.effect.outcome late a steps (same role) stands t.readable t.node t.role_stays);
+        stands = subst (λ k. StandsFor setup k next) (sym t.becomes) (after_step setup v w role t.state t.effect t.effect.outcome late a steps (same role) stands t.readable t.node t.role_stays);
       }
 
-  does_on : (role : Role) (input : Input) (new : Kept) → Takes v role input AsksFor false new → Moved setup w role input new
+  does_on : (role : Role) (input : Input) (new : WorldRecord) → StepsOn v role input AsksFor false new → Moved setup w role input new
   does_on role input new t = takes_on role false (no_request role) input input AsksFor new refl t
 
   -- two messages of one datagram
-  takes_both : (role : Role) (late : Bool) (a : Arrival) (source : Endpoint) (octets : List ℕ) (answer : CreateSessionResponse) (asked : CreateBearerRequest) (first second : Input) (new : Kept) → first_comes source octets answer ≡ first → second_comes source octets asked ≡ second → TakesBoth v role source octets answer asked late new → MovedTwice setup (lates late w role a) role first second new
+  takes_both : (role : Role) (late : Bool) (a : Arrival) (source : Endpoint) (octets : List ℕ) (answer : CreateSessionResponse) (asked : CreateBearerRequest) (first second : Input) (new : WorldRecord) → first_comes source octets answer ≡ first → second_comes source octets asked ≡ second → TakesBoth v role source octets answer asked late new → MovedTwice setup (lates late w role a) role first second new
   takes_both role late a source octets answer asked first second new first_is second_is t =
       let old = lates late w role a in
       let steps : List Done = record { before = (side_of old role).node; input = first; effect = t.first } ∷ record { before = t.first.node; input = second; effect = t.second } ∷ [] in
       let next = world_after_both old role t.first t.second steps in
-      let readable : AreReadable t.first.out = subst (λ l. All SendingReads l) (sym t.silent) (none_sent (half_in v role).station.node.config).read in
+      let readable : AreReadable t.first.out = subst (λ l. All SendingReads l) (sym t.silent) (none_sent (gateway_in v role).state.node.config).read in
       record {
         world = next;
         moves = record {
@@ -109,19 +109,19 @@ module _ (setup : Setup) (v : Kept) (w : World) (stands : StandsFor setup v w) (
           follows = subst (λ k. Step role t.first.node k t.second) second_is (subst (λ r. Step r t.first.node (second_comes source octets asked) t.second) (half_stands setup v w stands role).role t.follows);
           becomes = refl;
         };
-        stands = subst (λ k. StandsFor setup k next) (sym t.becomes) (after_both setup v w role t.station t.first t.second late a steps (same role) stands readable t.readable t.node t.role_stays);
+        stands = subst (λ k. StandsFor setup k next) (sym t.becomes) (after_both setup v w role t.state t.first t.second late a steps (same role) stands readable t.readable t.node t.role_stays);
       }
 
-  ticks_on : (role : Role) (new : Kept) → TicksBy v role new → GoesOn setup w (Tick role) new
+  ticks_on : (role : Role) (new : WorldRecord) → TicksBy v role new → GoesOn setup w (Tick role) new
   ticks_on role new t =
       let half = half_stands setup v w stands role in
-      let due = subst (λ n. Ticks n (due_in (half_in v role).station.queues) t.out t.station.node) half.node t.ticks in
-      let steps = tick_steps (side_of w role).node due.moves t.out t.station.node due.step in
-      let next = world_after w role (ticked t.out t.station.node) Ticked steps in
+      let due = subst (λ n. Ticks n (due_in (gateway_in v role).state.queues) t.out t.state.node) half.node t.ticks in
+      let steps = tick_steps (side_of w role).node due.moves t.out t.state.node due.step in
+      let next = world_after w role (ticked t.out t.state.node) Ticked steps in
       record {
         world = next;
-        happens = record { moves = due.moves; out = t.out; after = t.station.node; tick = due.step; becomes = refl };
-        stands = subst (λ k. StandsFor setup k next) (sym t.becomes) (after_step setup v w role t.station (ticked t.out t.station.node) Ticked false (no_request role) steps (same role) stands t.readable refl t.role_stays);
+        happens = record { moves = due.moves; out = t.out; after = t.state.node; tick = due.step; becomes = refl };
+        stands = subst (λ k. StandsFor setup k next) (sym t.becomes) (after_step setup v w role t.state (ticked t.out t.state.node) Ticked false (no_request role) steps (same role) stands t.readable refl t.role_stays);
       }
 
   -- the configuration of a gateway, as it is
@@ -146,26 +146,26 @@ module _ (setup : Setup) (v : Kept) (w : World) (stands : StandsFor setup v w) (
 
   -- a pair is taken by the one gateway where it is taken by the other
   module _ (role : Role) (late : Bool) (a : Arrival) (request : Arrival) (one other : DatagramReading) (reads : one ≡ other) where
-    config_there : (half_in v role).station.node.config ≡ (side_of (lates late w role a) role).node.config
+    config_there : (gateway_in v role).state.node.config ≡ (side_of (lates late w role a) role).node.config
     config_there = ap (λ (n : Node). n.config) ((half_stands setup v w stands role).node ∙ late_node late role a)
 
-    abbrev pair_there : TakesPair (half_in v role).station.role (half_in v role).station.node.config request other → TakesPair role (side_of (lates late w role a) role).node.config request one
+    abbrev pair_there : TakesPair (gateway_in v role).state.role (gateway_in v role).state.node.config request other → TakesPair role (side_of (lates late w role a) role).node.config request one
     pair_there p = record { by = sym (half_stands setup v w stands role).role ∙ p.by; peer = p.peer ∙ ap (λ (c : Config). c.peer.control) config_there; answer = p.answer; asked = p.asked; is = reads ∙ p.is }
 
-    pair_here : TakesPair role (side_of (lates late w role a) role).node.config request one → TakesPair (half_in v role).station.role (half_in v role).station.node.config request other
+    pair_here : TakesPair role (side_of (lates late w role a) role).node.config request one → TakesPair (gateway_in v role).state.role (gateway_in v role).state.node.config request other
     pair_here p = record { by = (half_stands setup v w stands role).role ∙ p.by; peer = p.peer ∙ ap (λ (c : Config). c.peer.control) (sym config_there); answer = p.answer; asked = p.asked; is = sym reads ∙ p.is }
 
   -- a datagram that was sent comes
-  module _ (role : Role) (late : Bool) (a : Arrival) (config : Config) (new : Kept) where
+  module _ (role : Role) (late : Bool) (a : Arrival) (config : Config) (new : WorldRecord) where
     abbrev old : World
     old = lates late w role a
 
-    comes_whole : (datagram : List Message) → ReadsBackOn Control datagram → (TakesPair (half_in v role).station.role (half_in v role).station.node.config (arrival_of (own_end config Control) (spelled_all datagram)) (datagram_reading (spelled_all datagram)) → ⊥) → Takes v role (coming Control (own_end config Control) (spelled_all datagram)) (KeepsOn Control (own_end config Control) (spelled_all datagram)) late new → Came setup old role config.own Control datagram new
+    comes_whole : (datagram : List Message) → ReadsBackOn Control datagram → (TakesPair (gateway_in v role).state.role (gateway_in v role).state.node.config (arrival_of (own_end config Control) (spelled_all datagram)) (datagram_reading (spelled_all datagram)) → ⊥) → StepsOn v role (coming Control (own_end config Control) (spelled_all datagram)) (KeepsOn Control (own_end config Control) (spelled_all datagram)) late new → Came setup old role config.own Control datagram new
     comes_whole datagram reads none t =
         let m = takes_on role late a _ _ _ new (came Control config datagram reads) t in
         record { world = m.world; comes = inl ((λ p. none (pair_here role late a _ _ _ reads.0 p)), m.moves); stands = m.stands }
 
-    comes_apart : (m n : Message) (rest : List Message) → ReadsBackOn Control (m ∷ n ∷ rest) → (pair : TakesPair (half_in v role).station.role (half_in v role).station.node.config (arrival_of (own_end config Control) (spelled_all (m ∷ n ∷ rest))) (datagram_reading (spelled_all (m ∷ n ∷ rest)))) → TakesBoth v role (own_end config Control) (spelled_all (m ∷ n ∷ rest)) pair.answer pair.asked late new → Came setup old role config.own Control (m ∷ n ∷ rest) new
+    comes_apart : (m n : Message) (rest : List Message) → ReadsBackOn Control (m ∷ n ∷ rest) → (pair : TakesPair (gateway_in v role).state.role (gateway_in v role).state.node.config (arrival_of (own_end config Control) (spelled_all (m ∷ n ∷ rest))) (datagram_reading (spelled_all (m ∷ n ∷ rest)))) → TakesBoth v role (own_end config Control) (spelled_all (m ∷ n ∷ rest)) pair.answer pair.asked late new → Came setup old role config.own Control (m ∷ n ∷ rest) new
     comes_apart m n rest reads pair t =
         let both : Both m n ≡ Both (Create_session_response pair.answer) (Create_bearer_request pair.asked) = reads.0 ∙ pair.is in
         let first : m ≡ Create_session_response pair.answer = cc both in
@@ -188,7 +188,7 @@ module _ (setup : Setup) (v : Kept) (w : World) (stands : StandsFor setup v w) (
     comes_there User (m ∷ n ∷ rest) reads t = absurd reads
 
   -- a datagram comes cut: its first octets are no pair
-  comes_cut_there : (role : Role) (config : Config) (new : Kept) (p : Plane) (datagram : List Message) (count : ℕ) → ReadsBackOn p datagram → count < length (spelled_all datagram) → TakesOn v role p (own_end config p) (take count (spelled_all datagram)) false new → Moved setup w role (cut_on p config.own datagram count) new
+  comes_cut_there : (role : Role) (config : Config) (new : WorldRecord) (p : Plane) (datagram : List Message) (count : ℕ) → ReadsBackOn p datagram → count < length (spelled_all datagram) → TakesOn v role p (own_end config p) (take count (spelled_all datagram)) false new → Moved setup w role (cut_on p config.own datagram count) new
   comes_cut_there role config new Control datagram count reads short (inl (none, t)) = takes_on role false (no_request role) _ _ _ new (cut Control config datagram count reads short) t
   comes_cut_there role config new Control datagram count reads short (inr (pair, t)) =
       let never : Alone (Control_fault (fault_of_cut datagram count)) ≡ Both (Create_session_response pair.answer) (Create_bearer_request pair.asked) = sym (cut_alone datagram count reads short) ∙ pair.is in
@@ -200,7 +200,7 @@ module _ (setup : Setup) (v : Kept) (w : World) (stands : StandsFor setup v w) (
   no_message number none s = let d = back setup v.log.datagrams w.datagrams number s.sent stands.datagrams s.is in none (record { sent = d.0; is = d.1 })
 
   -- a datagram comes
-  module _ (number : ℕ) (new : Kept) (found : IsThere v.log.datagrams number) (f : Found setup w.datagrams number found.sent) where
+  module _ (number : ℕ) (new : WorldRecord) (found : IsThere v.log.datagrams number) (f : Found setup w.datagrams number found.sent) where
     abbrev receiver : Role
     receiver = other f.sent.role
 
@@ -211,14 +211,14 @@ module _ (setup : Setup) (v : Kept) (w : World) (stands : StandsFor setup v w) (
     datagram_is : found.sent.what ≡ as_sent found.sent.what f.sent
     datagram_is = is_sent found.sent f.sent f.for
 
-    half_forgotten : (half_in v receiver).forgotten ≡ (side_of w receiver).forgotten
+    half_forgotten : (gateway_in v receiver).forgotten ≡ (side_of w receiver).forgotten
     half_forgotten = (half_stands setup v w stands receiver).forgotten
 
-    late_here : IsLateOn (datagram_plane f.sent.what) (config_of f.sent.role).own (side_of w receiver) f.sent.what → IsLate (half_in v (other found.sent.role)) found.sent.what
-    late_here late = subst (λ r. IsLate (half_in v r) found.sent.what) (sym to_other) (subst (λ d. IsLate (half_in v receiver) d) (sym datagram_is) (to_late (datagram_plane f.sent.what) (config_of f.sent.role) f.sent.what (side_of w receiver) (half_in v receiver).forgotten f.for.reads half_forgotten late))
+    late_here : IsLateOn (datagram_plane f.sent.what) (config_of f.sent.role).own (side_of w receiver) f.sent.what → IsLate (gateway_in v (other found.sent.role)) found.sent.what
+    late_here late = subst (λ r. IsLate (gateway_in v r) found.sent.what) (sym to_other) (subst (λ d. IsLate (gateway_in v receiver) d) (sym datagram_is) (to_late (datagram_plane f.sent.what) (config_of f.sent.role) f.sent.what (side_of w receiver) (gateway_in v receiver).forgotten f.for.reads half_forgotten late))
 
-    late_there : IsLate (half_in v (other found.sent.role)) found.sent.what → IsLateOn (datagram_plane f.sent.what) (config_of f.sent.role).own (side_of w receiver) f.sent.what
-    late_there late = from_late (datagram_plane f.sent.what) (config_of f.sent.role) f.sent.what (side_of w receiver) (half_in v receiver).forgotten f.for.reads half_forgotten (subst (λ d. IsLate (half_in v receiver) d) datagram_is (subst (λ r. IsLate (half_in v r) found.sent.what) to_other late))
+    late_there : IsLate (gateway_in v (other found.sent.role)) found.sent.what → IsLateOn (datagram_plane f.sent.what) (config_of f.sent.role).own (side_of w receiver) f.sent.what
+    late_there late = from_late (datagram_plane f.sent.what) (config_of f.sent.role) f.sent.what (side_of w receiver) (gateway_in v receiver).forgotten f.for.reads half_forgotten (subst (λ d. IsLate (gateway_in v receiver) d) datagram_is (subst (λ r. IsLate (gateway_in v r) found.sent.what) to_other late))
 
     abbrev there : Stands w.datagrams number
     there = record { sent = f.sent; is = f.is }
@@ -229,12 +229,12 @@ module _ (setup : Setup) (v : Kept) (w : World) (stands : StandsFor setup v w) (
         comes_there receiver late a (config_of f.sent.role) new (datagram_plane f.sent.what) f.sent.what f.for.reads
         (subst (λ (d : Datagram). TakesOn v receiver d.plane d.from d.octets late new) datagram_is (subst (λ r. TakesOn v r found.sent.what.plane found.sent.what.from found.sent.what.octets late new) to_other t))
 
-    on_time : (IsLate (half_in v (other found.sent.role)) found.sent.what → ⊥) → Brings v found.sent found.sent.what.octets false new → GoesOn setup w (Deliver number) new
+    on_time : (IsLate (gateway_in v (other found.sent.role)) found.sent.what → ⊥) → Brings v found.sent found.sent.what.octets false new → GoesOn setup w (Deliver number) new
     on_time timely t =
         let m = brought false (no_request receiver) t in
         record { world = m.world; happens = inr (there, inl ((λ late. timely (late_here late)), m.comes)); stands = m.stands }
 
-    too_late : IsLate (half_in v (other found.sent.role)) found.sent.what → Brings v found.sent found.sent.what.octets true new → GoesOn setup w (Deliver number) new
+    too_late : IsLate (gateway_in v (other found.sent.role)) found.sent.what → Brings v found.sent found.sent.what.octets true new → GoesOn setup w (Deliver number) new
     too_late late t =
         let m = brought true (come_from (config_of f.sent.role).own (last_part f.sent.what)) t in
         record { world = m.world; happens = inr (there, inr (late_there late, m.comes)); stands = m.stands }
@@ -255,14 +255,14 @@ module _ (setup : Setup) (v : Kept) (w : World) (stands : StandsFor setup v w) (
   found_by : (number : ℕ) (found : IsThere v.log.datagrams number) → Found setup w.datagrams number found.sent
   found_by number found = find setup v.log.datagrams w.datagrams number found.sent stands.datagrams found.is
 
-  passed : (outcome : EventOutcome) (new : Kept) → new ≡ passed_over v outcome → StandsFor setup new (noted w (quiet_note outcome))
+  passed : (outcome : EventOutcome) (new : WorldRecord) → new ≡ passed_over v outcome → StandsFor setup new (noted w (quiet_note outcome))
   passed outcome new is = subst (λ k. StandsFor setup k (noted w (quiet_note outcome))) (sym is) (after_none setup v w outcome stands)
 
-  few_there : (role : Role) → (half_in v role).restarts ≡ (side_of w role).restarts
+  few_there : (role : Role) → (gateway_in v role).restarts ≡ (side_of w role).restarts
   few_there role = (half_stands setup v w stands role).restarts
 
   -- what comes of an event
-  pub goes_on : (event : Event) (new : Kept) → Comes v event new → GoesOn setup w event new
+  pub goes_on : (event : Event) (new : WorldRecord) → EventLeaves v event new → GoesOn setup w event new
   goes_on (Does role command) new t = let m = does_on role (Commanded command) new t in record { world = m.world; happens = m.moves; stands = m.stands }
   goes_on (Tick role) new t = ticks_on role new t
   goes_on (Deliver number) new (inl (none, is)) = record { world = noted w (quiet_note No_such_datagram); happens = inl (no_message number none, refl); stands = passed No_such_datagram new is }
@@ -279,18 +279,18 @@ module _ (setup : Setup) (v : Kept) (w : World) (stands : StandsFor setup v w) (
       record { world = next; happens = inr (subst (λ n. n < 127) (few_there role) few, refl); stands = subst (λ k. StandsFor setup k next) (sym is) (after_restart setup v w role (same role) stands) }
 
 -- A run goes on by one event: so does the machine's world.
-pub record Goes (setup : Setup) (events : List Event) (old : World) (event : Event) (new : Kept) : Type 0 where
+pub record Goes (setup : Setup) (events : List Event) (old : World) (event : Event) (new : WorldRecord) : Type 0 where
   pub world : World
   pub happens : Happens old event world
   pub run : Run (start setup.serving.config setup.packet.config setup.serving_counter setup.packet_counter) (events ++ event ∷ []) world
   pub stands : StandsFor setup new world
 
-pub goes : (setup : Setup) (events : List Event) (v : Kept) (r : IsRunOf setup events v) (event : Event) (new : Kept) → Comes v event new → Goes setup events r.world event new
+pub goes : (setup : Setup) (events : List Event) (v : WorldRecord) (r : LeftByRun setup events v) (event : Event) (new : WorldRecord) → EventLeaves v event new → Goes setup events r.world event new
 goes setup events v r event new comes =
     let g = goes_on setup v r.world r.stands (set_up setup events r.world r.run) event new comes in
     record { world = g.world; happens = g.happens; run = Run-push _ events r.world event g.world r.run g.happens; stands = g.stands }
 
-pub run_on : (setup : Setup) (events : List Event) (v : Kept) → IsRunOf setup events v → (event : Event) (new : Kept) → Comes v event new → IsRunOf setup (events ++ event ∷ []) new
+pub run_on : (setup : Setup) (events : List Event) (v : WorldRecord) → LeftByRun setup events v → (event : Event) (new : WorldRecord) → EventLeaves v event new → LeftByRun setup (events ++ event ∷ []) new
 run_on setup events v r event new comes =
     let g = goes setup events v r event new comes in
     record { world = g.world; run = g.run; stands = g.stands }

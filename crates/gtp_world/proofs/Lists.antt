@@ -8,7 +8,7 @@ use Rattle.gtp_machine.specs.declared.role.Role.{Role}
 use Rattle.gtp_machine.specs.Spelling.{Datagram, datagram_plane, datagram_of}
 use Rattle.gtp_machine.specs.World.{By, SentDatagram, signed}
 use Rattle.gtp_machine.proofs.Basics.FiniteMaps.{Among-one_more, Among-left, Among-right}
-use Rattle.gtp_world.specs.Kept.{oldest_first}
+use Rattle.gtp_world.specs.Record.{oldest_first}
 use Rattle.gtp_gateway.specs.messages.Sent.{SendingReads}
 use Rattle.gtp_world.specs.Runs.{Setup, config_in, IsFor, AreFor}
 

@@ -1,8 +1,8 @@
 -- One more in a log.
-use Rattle.std.proofs.Common.{◌≡◌, ℕ, suc, ◌<◌, Bool, true, false, List, [], ◌∷◌, ◌++◌, map, take, length, Option, Some, None, option_to_list, refl, ◌∙◌, ap, get_or}
+use Rattle.std.proofs.Common.{◌≡◌, ℕ, Bool, true, false, List, [], ◌∷◌, ◌++◌, map, length, count_by, Option, Some, None, option_to_list, refl, ◌∙◌, ap}
 use Rattle.std.proofs.lemmas.List.{map-append, length-map}
-use Rattle.std.proofs.Math.Seq.{take-suc}
-use Rattle.gtp_world.specs.Kept.{Told, told_by, entry_by, counted, late_among}
+use Rattle.std.proofs.lemmas.List.Recursion.{is_count_by}
+use Rattle.gtp_world.specs.Record.{EventRecord, told_by, entry_by, counted, late_among}
 use Rattle.gtp_reliable.specs.Forgotten.{question_of}
 use Rattle.gtp_reliable.specs.declared.held.Request.{Request}
 use Rattle.gtp_gateway.specs.Tick.{asked_by, arrivals_of}
@@ -21,11 +21,9 @@ pub late_last : (notes : List Note) (note : Note) → late_among (notes ++ note 
 late_last [] note = refl
 late_last (n ∷ notes) note = ap (λ k. counted n.late k) (late_last notes note) ∙ either_first n.late note.late (late_among notes)
 
--- one more of the notes that are counted
-pub late_so_far : (notes : List Note) (i : ℕ) (note : Note) → i < length notes → get_or notes i note ≡ note → late_among (take (suc i) notes) ≡ counted note.late (late_among (take i notes))
-late_so_far notes i note within is =
-    ap late_among (take-suc notes i note within ∙ ap (λ n. take i notes ++ (n ∷ [])) is)
-    ∙ late_last (take i notes) note
+-- they are those that are late
+pub late_are : (notes : List Note) → late_among notes ≡ count_by (λ n. n.late) notes
+late_are = is_count_by late_among (λ n. n.late) refl (λ _ _. refl)
 
 pub note_kept : (notes new : List Note) (note : Note) → new ≡ notes ++ note ∷ [] → map told_by new ≡ map told_by notes ++ (told_by note ∷ [])
 note_kept notes new note is = ap (map told_by) is ∙ map-append told_by notes (note ∷ [])
@@ -44,5 +42,5 @@ pub as_many_arrivals : (requests : List Request) → length (arrivals_of request
 as_many_arrivals requests = length-map (map question_of requests) asked_by ∙ length-map requests question_of
 
 -- the outcomes that are told, with one more
-pub told_last : (old new : List Told) (last : Told) → new ≡ old ++ last ∷ [] → map (λ (t : Told). t.outcome) new ≡ map (λ (t : Told). t.outcome) old ++ (last.outcome ∷ [])
-told_last old new last is = ap (map (λ (t : Told). t.outcome)) is ∙ map-append (λ (t : Told). t.outcome) old (last ∷ [])
+pub told_last : (old new : List EventRecord) (last : EventRecord) → new ≡ old ++ last ∷ [] → map (λ (t : EventRecord). t.outcome) new ≡ map (λ (t : EventRecord). t.outcome) old ++ (last.outcome ∷ [])
+told_last old new last is = ap (map (λ (t : EventRecord). t.outcome)) is ∙ map-append (λ (t : EventRecord). t.outcome) old (last ∷ [])

@@ -10,9 +10,9 @@ use Rattle.gtp_tables.specs.declared.context.State.{State}
 use Rattle.gtp_tables.proofs.Found.{stands_at}
 use Rattle.gtp_machine.specs.Node.{Session, Bearer, Pending, Active, Closing}
 use Rattle.gtp_machine.proofs.Basics.FiniteMaps.{Among-left, Among-right, Among-cases}
-use Rattle.gtp_world.specs.Kept.{Kept}
+use Rattle.gtp_world.specs.Record.{WorldRecord}
 use Rattle.gtp_world.specs.Naming.{Pair, Sessions, Bearers, leads_to, back_from, partner, session_leads, bearer_leads, pairs_of, session_pairs, bearer_pairs, mutual_pairs, NameEachOther, DoAgree}
-use Rattle.gtp_world.specs.Runs.{IsReached}
+use Rattle.gtp_world.specs.Runs.{LeftBySomeRun}
 use Rattle.gtp_world.proofs.Safe.{run_safe}
 
 -- what is in a list stands at a place
@@ -139,45 +139,45 @@ unlisted leads pair p apart others es among =
     let of = paired pair g.of.0 (partner leads others g.of.0 g.of.1) p g.gives in
     apart g.of.0 of.0 of.2
 
-module _ (v : Kept) where
+module _ (v : WorldRecord) where
   abbrev sessions : List (ℕ × Session)
-  sessions = entries v.serving.station.node.sessions
+  sessions = entries v.serving.state.node.sessions
 
   abbrev bearers : List (ℕ × Bearer)
-  bearers = entries v.serving.station.node.bearers
+  bearers = entries v.serving.state.node.bearers
 
-  session_named : (c d : ℕ) → Among (Sessions c d) (session_pairs v.packet.station.node.sessions sessions) → NameEachOther v (Sessions c d)
+  session_named : (c d : ℕ) → Among (Sessions c d) (session_pairs v.packet.state.node.sessions sessions) → NameEachOther v (Sessions c d)
   session_named c d among =
-      let n = named session_leads Sessions (λ a b x y same. (cc same, cc same)) v.serving.station.node.sessions v.packet.station.node.sessions c d among in
+      let n = named session_leads Sessions (λ a b x y same. (cc same, cc same)) v.serving.state.node.sessions v.packet.state.node.sessions c d among in
       let here = active n.own.state n.own.remote d n.to in
       let there = active n.other.state n.other.remote c n.back in
       (n.own, n.other, record { serving = n.serving; packet = n.packet; serving_active = here.0; packet_active = there.0; there = here.1; back = there.1 })
 
-  bearer_named : (c d : ℕ) → Among (Bearers c d) (bearer_pairs v.packet.station.node.bearers bearers) → NameEachOther v (Bearers c d)
+  bearer_named : (c d : ℕ) → Among (Bearers c d) (bearer_pairs v.packet.state.node.bearers bearers) → NameEachOther v (Bearers c d)
   bearer_named c d among =
-      let n = named bearer_leads Bearers (λ a b x y same. (cc same, cc same)) v.serving.station.node.bearers v.packet.station.node.bearers c d among in
+      let n = named bearer_leads Bearers (λ a b x y same. (cc same, cc same)) v.serving.state.node.bearers v.packet.state.node.bearers c d among in
       let here = active n.own.state n.own.remote d n.to in
       let there = active n.other.state n.other.remote c n.back in
       (n.own, n.other, record { serving = n.serving; packet = n.packet; serving_active = here.0; packet_active = there.0; there = here.1; back = there.1 })
 
   -- what is listed names each other
   pub listed : (pair : Pair) → Among pair (mutual_pairs v) → NameEachOther v pair
-  listed (Sessions c d) among = ⊎_elim (session_named c d) (λ has. absurd (unlisted bearer_leads Bearers (Sessions c d) (λ own there same. cc same) v.packet.station.node.bearers bearers has)) (Among-cases (Sessions c d) (session_pairs v.packet.station.node.sessions sessions) (bearer_pairs v.packet.station.node.bearers bearers) among)
-  listed (Bearers c d) among = ⊎_elim (λ has. absurd (unlisted session_leads Sessions (Bearers c d) (λ own there same. cc same) v.packet.station.node.sessions sessions has)) (bearer_named c d) (Among-cases (Bearers c d) (session_pairs v.packet.station.node.sessions sessions) (bearer_pairs v.packet.station.node.bearers bearers) among)
+  listed (Sessions c d) among = ⊎_elim (session_named c d) (λ has. absurd (unlisted bearer_leads Bearers (Sessions c d) (λ own there same. cc same) v.packet.state.node.bearers bearers has)) (Among-cases (Sessions c d) (session_pairs v.packet.state.node.sessions sessions) (bearer_pairs v.packet.state.node.bearers bearers) among)
+  listed (Bearers c d) among = ⊎_elim (λ has. absurd (unlisted session_leads Sessions (Bearers c d) (λ own there same. cc same) v.packet.state.node.sessions sessions has)) (bearer_named c d) (Among-cases (Bearers c d) (session_pairs v.packet.state.node.sessions sessions) (bearer_pairs v.packet.state.node.bearers bearers) among)
 
   -- and what names each other is listed
   pub is_listed : (pair : Pair) → NameEachOther v pair → Among pair (mutual_pairs v)
   is_listed (Sessions c d) (s, p, m) =
-      let l = partner_to session_leads v.packet.station.node.sessions c s d (record { to = leads s.state s.remote d m.serving_active m.there; other = p; stands = m.packet; back = leads p.state p.remote c m.packet_active m.back }) in
-      Among-left (Sessions c d) (session_pairs v.packet.station.node.sessions sessions) (bearer_pairs v.packet.station.node.bearers bearers)
-      (among_given _ sessions (c, s) (Sessions c d) (among_entries v.serving.station.node.sessions c s m.serving) (ap (option_map (Sessions c)) l))
+      let l = partner_to session_leads v.packet.state.node.sessions c s d (record { to = leads s.state s.remote d m.serving_active m.there; other = p; stands = m.packet; back = leads p.state p.remote c m.packet_active m.back }) in
+      Among-left (Sessions c d) (session_pairs v.packet.state.node.sessions sessions) (bearer_pairs v.packet.state.node.bearers bearers)
+      (among_given _ sessions (c, s) (Sessions c d) (among_entries v.serving.state.node.sessions c s m.serving) (ap (option_map (Sessions c)) l))
   is_listed (Bearers c d) (s, p, m) =
-      let l = partner_to bearer_leads v.packet.station.node.bearers c s d (record { to = leads s.state s.remote d m.serving_active m.there; other = p; stands = m.packet; back = leads p.state p.remote c m.packet_active m.back }) in
-      Among-right (Bearers c d) (session_pairs v.packet.station.node.sessions sessions) (bearer_pairs v.packet.station.node.bearers bearers)
-      (among_given _ bearers (c, s) (Bearers c d) (among_entries v.serving.station.node.bearers c s m.serving) (ap (option_map (Bearers c)) l))
+      let l = partner_to bearer_leads v.packet.state.node.bearers c s d (record { to = leads s.state s.remote d m.serving_active m.there; other = p; stands = m.packet; back = leads p.state p.remote c m.packet_active m.back }) in
+      Among-right (Bearers c d) (session_pairs v.packet.state.node.sessions sessions) (bearer_pairs v.packet.state.node.bearers bearers)
+      (among_given _ bearers (c, s) (Bearers c d) (among_entries v.serving.state.node.bearers c s m.serving) (ap (option_map (Bearers c)) l))
 
 -- at the end of a run, what names each other agrees
-pub agreeing : (v : Kept) → IsReached v → (pair : Pair) → NameEachOther v pair → DoAgree v pair
+pub agreeing : (v : WorldRecord) → LeftBySomeRun v → (pair : Pair) → NameEachOther v pair → DoAgree v pair
 agreeing v r (Sessions c d) (s, p, m) = record { at_serving = s; at_packet = p; here = m.serving; there = m.packet; agree = (run_safe r.setup r.events v r.run).sessions c d s p m }
 agreeing v r (Bearers c d) (s, p, m) =
     let a = (run_safe r.setup r.events v r.run).bearers c d s p m in

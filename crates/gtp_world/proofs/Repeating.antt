@@ -24,10 +24,10 @@ use Rattle.gtp_machine.proofs.Worlds.Logs.{always_acts_once}
 use Rattle.gtp_machine.proofs.Worlds.Runs.{always}
 use Rattle.gtp_gateway.specs.Parts.{arrival_of}
 use Rattle.gtp_gateway.specs.messages.Sent.{ReadsBackOn}
-use Rattle.gtp_world.specs.Kept.{Kept}
+use Rattle.gtp_world.specs.Record.{WorldRecord}
 use Rattle.gtp_world.specs.Last.{last_octets}
 use Rattle.gtp_world.specs.Repeated.{HoldLast, IsSentBetween, NeverRestarts, IsAnsweredAgainAlike}
-use Rattle.gtp_world.specs.Runs.{Setup, config_in, IsFor, AreFor, IsRunOf, Continues}
+use Rattle.gtp_world.specs.Runs.{Setup, config_in, IsFor, AreFor, LeftByRun, Continues}
 use Rattle.gtp_world.specs.Views.{as_it_came}
 use Rattle.gtp_world.proofs.Configs.{set_up}
 use Rattle.gtp_world.proofs.Cuts.{by_itself}
@@ -367,7 +367,7 @@ said_by setup role (x ∷ sent) [] d are among = absurd are
 said_by setup role (x ∷ sent) (m ∷ said) d are (inl is) = record { messages = m; among = inl refl; octets = ap (λ (k : By Datagram). k.what.octets) is ∙ are.0.octets }
 said_by setup role (x ∷ sent) (m ∷ said) d are (inr there) = let rest = said_by setup role sent said d are.1 there in record { messages = rest.messages; among = inr rest.among; octets = rest.octets }
 
-sent_says : (setup : Setup) (old new : Kept) (role : Role) (before after : List SentDatagram) (said : List (List Message)) (d : By Datagram) → AreFor setup old.log.datagrams before → AreFor setup new.log.datagrams after → after ≡ before ++ signed role said → IsSentBetween old new d → IsSaid d said
+sent_says : (setup : Setup) (old new : WorldRecord) (role : Role) (before after : List SentDatagram) (said : List (List Message)) (d : By Datagram) → AreFor setup old.log.datagrams before → AreFor setup new.log.datagrams after → after ≡ before ++ signed role said → IsSentBetween old new d → IsSaid d said
 sent_says setup old new role before after said d are all is sent =
     said_by setup role sent.sent said d
     (for_rest setup old.log.datagrams before sent.sent (signed role said) are
@@ -422,10 +422,10 @@ in_order before front one between back two =
     ∙ ap (λ k. (before ++ front) ++ (one ∷ k)) (sym (append_assoc between back (two ∷ [])))))
 
 -- where nothing was sent, no answer was
-none_said : (setup : Setup) (old new : Kept) (role : Role) (before after : List SentDatagram) (d : By Datagram) → AreFor setup old.log.datagrams before → AreFor setup new.log.datagrams after → after ≡ before → IsSentBetween old new d → ⊥
+none_said : (setup : Setup) (old new : WorldRecord) (role : Role) (before after : List SentDatagram) (d : By Datagram) → AreFor setup old.log.datagrams before → AreFor setup new.log.datagrams after → after ≡ before → IsSentBetween old new d → ⊥
 none_said setup old new role before after d are all is sent = (sent_says setup old new role before after [] d are all (is ∙ sym (append-nil before)) sent).among
 
-pub answered_again : (first : Kept) → IsAnsweredAgainAlike first
+pub answered_again : (first : WorldRecord) → IsAnsweredAgainAlike first
 answered_again first setup events r number second_number between answered second again are found found_again repeats create timely never answer second_answer answer_sent second_sent =
     ⊎_elim
     (λ one. ⊎_elim (λ two. both_taken one two) (λ none. absurd (none_said setup second again (other g.sent.role) on.whole.world.datagrams end.world.datagrams second_answer on.whole.stands.datagrams end.stands.datagrams none second_sent)) second_taken)
@@ -462,10 +462,10 @@ answered_again first setup events r number second_number between answered second
     control_again : found_again.sent.what.plane ≡ Control
     control_again = repeats.plane ∙ create.plane
 
-    few : (events : List Event) (v : Kept) (x : IsRunOf setup events v) (s : SentDatagram) (n : ℕ) → slice_get x.world.datagrams n ≡ Some s → IsFew s.what
+    few : (events : List Event) (v : WorldRecord) (x : LeftByRun setup events v) (s : SentDatagram) (n : ℕ) → slice_get x.world.datagrams n ≡ Some s → IsFew s.what
     few events v x s n is = (always setup.serving.config setup.packet.config setup.serving_counter setup.packet_counter events x.world x.run).few s (among_at x.world.datagrams n s is)
 
-    held : (events : List Event) (v : Kept) (x : IsRunOf setup events v) → HeldOfSent x.world
+    held : (events : List Event) (v : WorldRecord) (x : LeftByRun setup events v) → HeldOfSent x.world
     held events v x = always_held setup.serving.config setup.packet.config setup.serving_counter setup.packet_counter events x.world x.run
 
     holds : HoldLast (reading_of f.sent.what) create.request

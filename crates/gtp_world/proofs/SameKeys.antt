@@ -34,4 +34,4 @@ pub entry_same : (a b : Entry) → Decides ((entries.ghosts).eq a b) (owed_by a 
 entry_same a b =
     whole_by (λ e. app (app (app (app (app (ap packet e.0) e.1.0) e.1.1.0) e.1.1.1.0) e.1.1.1.1.0) e.1.1.1.1.1)
     (λ e. (ap (λ p. p.role) e, (ap (λ p. p.what.target) e, (ap (λ p. p.what.payload) e, (ap (λ p. p.what.imsi) e, (ap (λ p. p.what.access_point) e, ap (λ p. p.what.identity) e))))))
-    (and_then (other_same a.node b.node) (and_then (Decides-eqb a.teid.0 b.teid.0) (and_then (bytes_decides a.payload.items b.payload.items) (and_then (bytes_decides a.imsi b.imsi) (and_then (bytes_decides a.apn b.apn) (options_same nat_eq Decides-eqb a.ebi b.ebi))))))
+    (and_then (other_same a.node b.node) (and_then (Decides-eqb a.teid b.teid) (and_then (bytes_decides a.payload.items b.payload.items) (and_then (bytes_decides a.imsi b.imsi) (and_then (bytes_decides a.apn b.apn) (options_same nat_eq Decides-eqb a.ebi b.ebi))))))

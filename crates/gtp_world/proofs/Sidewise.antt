@@ -12,17 +12,17 @@ use Rattle.gtp_machine.specs.World.{EventOutcome, Ticked, signed}
 use Rattle.gtp_gateway.specs.GatewayState.{GatewayState}
 use Rattle.gtp_gateway.specs.messages.Sent.{datagram_by}
 use Rattle.gtp_gateway.specs.declared.tick.Ticked.{Ticked as Tick}
-use Rattle.gtp_world.specs.Kept.{Half, Log, Kept, half_in, with_half, counted, half_of, log_of, kept_of}
+use Rattle.gtp_world.specs.Record.{GatewayRecord, Log, WorldRecord, gateway_in, with_gateway, counted, gateway_record_of, log_of, world_record_of}
 use Rattle.gtp_world.specs.Recorded.{log_of_came, log_of_tick}
 use Rattle.gtp_world.specs.Sides.{IsInput, AreInputs, IsBrought, IsTick}
-use Rattle.gtp_world.specs.Stepped.{Takes, TakesBoth, TakesOn, TicksBy, log_after, log_after_both, sent_at}
+use Rattle.gtp_world.specs.Stepped.{StepsOn, TakesBoth, TakesOn, TicksBy, log_after, log_after_both, sent_at}
 use Rattle.gtp_world.specs.declared.records.Records.{Records}
 use Rattle.gtp_world.specs.declared.side.Came.{Came}
 use Rattle.gtp_world.specs.declared.side.Side.{Side}
 use Rattle.gtp_world.specs.declared.sides.Sides.{Sides}
 
 -- the log, after what came of an input
-came_log : (log : Log) (role : Role) (input : Input) (Timed : List Datagram → EventOutcome → GatewayState → GatewayState → Type 0) (old : Half) (came : Came) (new : Half) (late : Bool) (t : IsInput role input Timed old came new) → log_of_came log role came late ≡ log_after log role t.effect.out (sent_at old t.effect.out) t.effect.outcome late
+came_log : (log : Log) (role : Role) (input : Input) (Timed : List Datagram → EventOutcome → GatewayState → GatewayState → Type 0) (old : GatewayRecord) (came : Came) (new : GatewayRecord) (late : Bool) (t : IsInput role input Timed old came new) → log_of_came log role came late ≡ log_after log role t.effect.out (sent_at old t.effect.out) t.effect.outcome late
 came_log log role input Timed old came new late t =
     let out = t.effect.out in
     λ i. record {
@@ -33,23 +33,23 @@ came_log log role input Timed old came new late t =
       notes = log.notes ++ (record { outcome = t.tells.outcome i; second = t.tells.alone i; learned = t.tells.learned i; sent = length (t.tells.sent i); gave_up = sym t.tells.gave_up i; forgot = sym t.tells.forgot i } ∷ []);
     }
 
-pub takes_by : (v : Kept) (role : Role) (input : Input) (Timed : List Datagram → EventOutcome → GatewayState → GatewayState → Type 0) (came : Came) (half : Half) (log : Log) (late : Bool) (new : Kept) → IsInput role input Timed (half_in v role) came half → log ≡ log_of_came v.log role came late → new ≡ record (with_half v role half) { log = log } → Takes v role input Timed late new
+pub takes_by : (v : WorldRecord) (role : Role) (input : Input) (Timed : List Datagram → EventOutcome → GatewayState → GatewayState → Type 0) (came : Came) (half : GatewayRecord) (log : Log) (late : Bool) (new : WorldRecord) → IsInput role input Timed (gateway_in v role) came half → log ≡ log_of_came v.log role came late → new ≡ record (with_gateway v role half) { log = log } → StepsOn v role input Timed late new
 takes_by v role input Timed came half log late new t is becomes =
-    let logs = is ∙ came_log v.log role input Timed (half_in v role) came half late t in
+    let logs = is ∙ came_log v.log role input Timed (gateway_in v role) came half late t in
     record {
       effect = t.effect;
       step = t.step;
       readable = t.readable;
-      station = half.station;
+      state = half.state;
       node = t.node;
       role_stays = t.role_stays;
       lowest = t.lowest;
       timed = t.timed;
-      becomes = becomes ∙ (λ i. record (with_half v role (t.becomes i)) { log = logs i });
+      becomes = becomes ∙ (λ i. record (with_gateway v role (t.becomes i)) { log = logs i });
     }
 
 -- the log, after what came of two messages of one datagram
-both_log : (log : Log) (role : Role) (source : Endpoint) (octets : List ℕ) (answer : CreateSessionResponse) (asked : CreateBearerRequest) (old : Half) (came : Came) (new : Half) (late : Bool) (t : AreInputs role source octets answer asked old came new) → log_of_came log role came late ≡ log_after_both log role t.first t.second (sent_at old t.first.out) (sent_at old t.second.out) late
+both_log : (log : Log) (role : Role) (source : Endpoint) (octets : List ℕ) (answer : CreateSessionResponse) (asked : CreateBearerRequest) (old : GatewayRecord) (came : Came) (new : GatewayRecord) (late : Bool) (t : AreInputs role source octets answer asked old came new) → log_of_came log role came late ≡ log_after_both log role t.first t.second (sent_at old t.first.out) (sent_at old t.second.out) late
 both_log log role source octets answer asked old came new late t =
     let first = t.first.out in
     let second = t.second.out in
@@ -64,9 +64,9 @@ both_log log role source octets answer asked old came new late t =
       notes = log.notes ++ (record { outcome = t.tells.outcome i; second = t.tells.next i; learned = t.tells.learned i; sent = length (t.tells.sent i); gave_up = sym t.tells.gave_up i; forgot = sym t.tells.forgot i } ∷ []);
     }
 
-both_by : (v : Kept) (role : Role) (source : Endpoint) (octets : List ℕ) (answer : CreateSessionResponse) (asked : CreateBearerRequest) (came : Came) (half : Half) (log : Log) (late : Bool) (new : Kept) → AreInputs role source octets answer asked (half_in v role) came half → log ≡ log_of_came v.log role came late → new ≡ record (with_half v role half) { log = log } → TakesBoth v role source octets answer asked late new
+both_by : (v : WorldRecord) (role : Role) (source : Endpoint) (octets : List ℕ) (answer : CreateSessionResponse) (asked : CreateBearerRequest) (came : Came) (half : GatewayRecord) (log : Log) (late : Bool) (new : WorldRecord) → AreInputs role source octets answer asked (gateway_in v role) came half → log ≡ log_of_came v.log role came late → new ≡ record (with_gateway v role half) { log = log } → TakesBoth v role source octets answer asked late new
 both_by v role source octets answer asked came half log late new t is becomes =
-    let logs = is ∙ both_log v.log role source octets answer asked (half_in v role) came half late t in
+    let logs = is ∙ both_log v.log role source octets answer asked (gateway_in v role) came half late t in
     record {
       first = t.first;
       step = t.step;
@@ -74,22 +74,22 @@ both_by v role source octets answer asked came half log late new t is becomes =
       second = t.second;
       follows = t.follows;
       readable = t.readable;
-      station = half.station;
+      state = half.state;
       node = t.node;
       role_stays = t.role_stays;
       lowest = t.lowest;
       timed = t.timed;
-      becomes = becomes ∙ (λ i. record (with_half v role (t.becomes i)) { log = logs i });
+      becomes = becomes ∙ (λ i. record (with_gateway v role (t.becomes i)) { log = logs i });
     }
 
 -- a datagram of a plane
-brought_by : (v : Kept) (role : Role) (plane : Plane) (source : Endpoint) (octets : List ℕ) (came : Came) (half : Half) (log : Log) (late : Bool) (new : Kept) → IsBrought role plane source octets (half_in v role) came half → log ≡ log_of_came v.log role came late → new ≡ record (with_half v role half) { log = log } → TakesOn v role plane source octets late new
+brought_by : (v : WorldRecord) (role : Role) (plane : Plane) (source : Endpoint) (octets : List ℕ) (came : Came) (half : GatewayRecord) (log : Log) (late : Bool) (new : WorldRecord) → IsBrought role plane source octets (gateway_in v role) came half → log ≡ log_of_came v.log role came late → new ≡ record (with_gateway v role half) { log = log } → TakesOn v role plane source octets late new
 brought_by v role Control source octets came half log late new (inl (none, t)) is becomes = inl (none, takes_by v role _ _ came half log late new t is becomes)
 brought_by v role Control source octets came half log late new (inr (pair, t)) is becomes = inr (pair, both_by v role source octets pair.answer pair.asked came half log late new t is becomes)
 brought_by v role User source octets came half log late new t is becomes = takes_by v role _ _ came half log late new t is becomes
 
 -- the log, after a tick
-tick_log : (log : Log) (role : Role) (old : Half) (ticked : Tick) (new : Half) (t : IsTick old ticked new) → log_of_tick log role ticked ≡ log_after log role t.out (sent_at old t.out) Ticked false
+tick_log : (log : Log) (role : Role) (old : GatewayRecord) (ticked : Tick) (new : GatewayRecord) (t : IsTick old ticked new) → log_of_tick log role ticked ≡ log_after log role t.out (sent_at old t.out) Ticked false
 tick_log log role old ticked new t =
     let handed = sym (append-nil log.handed) ∙ ap (λ (o : Out). log.handed ++ signed role o.handed) (sym t.all) in
     let accepted = sym (append-nil log.accepted) ∙ ap (λ (o : Out). log.accepted ++ signed role o.accepted) (sym t.all) in
@@ -103,43 +103,43 @@ tick_log log role old ticked new t =
       notes = log.notes ++ (record { outcome = Ticked; second = None; learned = learned i; sent = sent i; gave_up = t.gave_up i; forgot = t.forgot i } ∷ []);
     }
 
-pub ticks_by : (v : Kept) (role : Role) (ticked : Tick) (half : Half) (log : Log) (new : Kept) → IsTick (half_in v role) ticked half → log ≡ log_of_tick v.log role ticked → new ≡ record (with_half v role half) { log = log } → TicksBy v role new
+pub ticks_by : (v : WorldRecord) (role : Role) (ticked : Tick) (half : GatewayRecord) (log : Log) (new : WorldRecord) → IsTick (gateway_in v role) ticked half → log ≡ log_of_tick v.log role ticked → new ≡ record (with_gateway v role half) { log = log } → TicksBy v role new
 ticks_by v role ticked half log new t is becomes =
-    let logs = is ∙ tick_log v.log role (half_in v role) ticked half t in
+    let logs = is ∙ tick_log v.log role (gateway_in v role) ticked half t in
     record {
       out = t.out;
-      station = half.station;
+      state = half.state;
       ticks = t.ticks;
       readable = t.readable;
       role_stays = t.role_stays;
       counts = t.counts;
-      becomes = becomes ∙ (λ i. record (with_half v role (t.becomes i)) { log = logs i });
+      becomes = becomes ∙ (λ i. record (with_gateway v role (t.becomes i)) { log = logs i });
     }
 
 -- One gateway of both took what came to it, and stands as this; the other is as before, and there is room in the log.
-pub record IsAt (old : Sides) (role : Role) (before after : Half) (mid : Sides) : Type 0 where
-  pub was : before ≡ half_in (kept_of old) role
-  pub sides : (settled : Records) → kept_of (record mid { records = settled }) ≡ record (with_half (kept_of old) role after) { log = log_of settled }
+pub record IsAt (old : Sides) (role : Role) (before after : GatewayRecord) (mid : Sides) : Type 0 where
+  pub was : before ≡ gateway_in (world_record_of old) role
+  pub sides : (settled : Records) → world_record_of (record mid { records = settled }) ≡ record (with_gateway (world_record_of old) role after) { log = log_of settled }
   pub log : log_of mid.records ≡ log_of old.records
 
-pub at_serving : (old mid : Sides) (role : Role) (side : Side) (room : Records) → role ≡ Serving → mid ≡ record { serving = side; packet = old.packet; records = room } → log_of room ≡ log_of old.records → IsAt old role (half_of old.serving) (half_of side) mid
+pub at_serving : (old mid : Sides) (role : Role) (side : Side) (room : Records) → role ≡ Serving → mid ≡ record { serving = side; packet = old.packet; records = room } → log_of room ≡ log_of old.records → IsAt old role (gateway_record_of old.serving) (gateway_record_of side) mid
 at_serving old mid role side room is stands same =
-    subst (λ r. IsAt old r (half_of old.serving) (half_of side) mid) (sym is)
-    (record { was = refl; sides = λ settled. ap (λ (m : Sides). kept_of (record m { records = settled })) stands; log = ap (λ (m : Sides). log_of m.records) stands ∙ same })
+    subst (λ r. IsAt old r (gateway_record_of old.serving) (gateway_record_of side) mid) (sym is)
+    (record { was = refl; sides = λ settled. ap (λ (m : Sides). world_record_of (record m { records = settled })) stands; log = ap (λ (m : Sides). log_of m.records) stands ∙ same })
 
-pub at_packet : (old mid : Sides) (role : Role) (side : Side) (room : Records) → role ≡ Packet → mid ≡ record { serving = old.serving; packet = side; records = room } → log_of room ≡ log_of old.records → IsAt old role (half_of old.packet) (half_of side) mid
+pub at_packet : (old mid : Sides) (role : Role) (side : Side) (room : Records) → role ≡ Packet → mid ≡ record { serving = old.serving; packet = side; records = room } → log_of room ≡ log_of old.records → IsAt old role (gateway_record_of old.packet) (gateway_record_of side) mid
 at_packet old mid role side room is stands same =
-    subst (λ r. IsAt old r (half_of old.packet) (half_of side) mid) (sym is)
-    (record { was = refl; sides = λ settled. ap (λ (m : Sides). kept_of (record m { records = settled })) stands; log = ap (λ (m : Sides). log_of m.records) stands ∙ same })
+    subst (λ r. IsAt old r (gateway_record_of old.packet) (gateway_record_of side) mid) (sym is)
+    (record { was = refl; sides = λ settled. ap (λ (m : Sides). world_record_of (record m { records = settled })) stands; log = ap (λ (m : Sides). log_of m.records) stands ∙ same })
 
-pub takes_at : (old mid : Sides) (role : Role) (input : Input) (Timed : List Datagram → EventOutcome → GatewayState → GatewayState → Type 0) (before after : Half) (came : Came) (settled : Records) (late : Bool) → IsAt old role before after mid → IsInput role input Timed before came after → log_of settled ≡ log_of_came (log_of mid.records) role came late → Takes (kept_of old) role input Timed late (kept_of (record mid { records = settled }))
+pub takes_at : (old mid : Sides) (role : Role) (input : Input) (Timed : List Datagram → EventOutcome → GatewayState → GatewayState → Type 0) (before after : GatewayRecord) (came : Came) (settled : Records) (late : Bool) → IsAt old role before after mid → IsInput role input Timed before came after → log_of settled ≡ log_of_came (log_of mid.records) role came late → StepsOn (world_record_of old) role input Timed late (world_record_of (record mid { records = settled }))
 takes_at old mid role input Timed before after came settled late at t logs =
-    takes_by (kept_of old) role input Timed came after (log_of settled) late _ (subst (λ h. IsInput role input Timed h came after) at.was t) (logs ∙ ap (λ l. log_of_came l role came late) at.log) (at.sides settled)
+    takes_by (world_record_of old) role input Timed came after (log_of settled) late _ (subst (λ h. IsInput role input Timed h came after) at.was t) (logs ∙ ap (λ l. log_of_came l role came late) at.log) (at.sides settled)
 
-pub brought_at : (old mid : Sides) (role : Role) (plane : Plane) (source : Endpoint) (octets : List ℕ) (before after : Half) (came : Came) (settled : Records) (late : Bool) → IsAt old role before after mid → IsBrought role plane source octets before came after → log_of settled ≡ log_of_came (log_of mid.records) role came late → TakesOn (kept_of old) role plane source octets late (kept_of (record mid { records = settled }))
+pub brought_at : (old mid : Sides) (role : Role) (plane : Plane) (source : Endpoint) (octets : List ℕ) (before after : GatewayRecord) (came : Came) (settled : Records) (late : Bool) → IsAt old role before after mid → IsBrought role plane source octets before came after → log_of settled ≡ log_of_came (log_of mid.records) role came late → TakesOn (world_record_of old) role plane source octets late (world_record_of (record mid { records = settled }))
 brought_at old mid role plane source octets before after came settled late at t logs =
-    brought_by (kept_of old) role plane source octets came after (log_of settled) late _ (subst (λ h. IsBrought role plane source octets h came after) at.was t) (logs ∙ ap (λ l. log_of_came l role came late) at.log) (at.sides settled)
+    brought_by (world_record_of old) role plane source octets came after (log_of settled) late _ (subst (λ h. IsBrought role plane source octets h came after) at.was t) (logs ∙ ap (λ l. log_of_came l role came late) at.log) (at.sides settled)
 
-pub ticks_at : (old mid : Sides) (role : Role) (before after : Half) (ticked : Tick) (settled : Records) → IsAt old role before after mid → IsTick before ticked after → log_of settled ≡ log_of_tick (log_of mid.records) role ticked → TicksBy (kept_of old) role (kept_of (record mid { records = settled }))
+pub ticks_at : (old mid : Sides) (role : Role) (before after : GatewayRecord) (ticked : Tick) (settled : Records) → IsAt old role before after mid → IsTick before ticked after → log_of settled ≡ log_of_tick (log_of mid.records) role ticked → TicksBy (world_record_of old) role (world_record_of (record mid { records = settled }))
 ticks_at old mid role before after ticked settled at t logs =
-    ticks_by (kept_of old) role ticked after (log_of settled) _ (subst (λ h. IsTick h ticked after) at.was t) (logs ∙ ap (λ l. log_of_tick l role ticked) at.log) (at.sides settled)
+    ticks_by (world_record_of old) role ticked after (log_of settled) _ (subst (λ h. IsTick h ticked after) at.was t) (logs ∙ ap (λ l. log_of_tick l role ticked) at.log) (at.sides settled)

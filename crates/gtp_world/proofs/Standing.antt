@@ -10,13 +10,13 @@ use Rattle.gtp_machine.specs.Step.{Done}
 use Rattle.gtp_machine.specs.World as machine
 use Rattle.gtp_machine.specs.World.{By, World, Side, EventOutcome, Restarted, Note, note_of, note_of_both, outcome_in, quiet_note, noted, moved, stepped, with_heard, logged, with_steps, with_side, marked_late, side_of, restarted, next_counter, signed}
 use Rattle.gtp_gateway.specs.GatewayState.{GatewayState}
-use Rattle.gtp_world.specs.Kept.{oldest_first, Half, Told, Kept, half_in, with_half, counted}
+use Rattle.gtp_world.specs.Record.{oldest_first, GatewayRecord, EventRecord, WorldRecord, gateway_in, with_gateway, counted}
 use Rattle.gtp_world.specs.Runs.{Setup, config_in, AreFor, told_in, HalfStands, StandsFor}
-use Rattle.gtp_world.specs.Stepped.{half_after, told_of, told_of_both, log_moved, log_with, kept_after, kept_after_both, sent_at, AreReadable, passed_over, counter_after, half_restarted}
+use Rattle.gtp_world.specs.Stepped.{gateway_after, told_of, told_of_both, log_moved, log_with, kept_after, kept_after_both, sent_at, AreReadable, passed_over, counter_after, gateway_restarted}
 use Rattle.gtp_world.proofs.Lists.{oldest_append, as_many, for_append, sent_for}
 
 -- the half of a role
-pub half_stands : (setup : Setup) (v : Kept) (w : World) → StandsFor setup v w → (role : Role) → HalfStands (config_in setup role) role (half_in v role) (side_of w role)
+pub half_stands : (setup : Setup) (v : WorldRecord) (w : World) → StandsFor setup v w → (role : Role) → HalfStands (config_in setup role) role (gateway_in v role) (side_of w role)
 half_stands setup v w stands Serving = stands.serving
 half_stands setup v w stands Packet = stands.packet
 
@@ -24,8 +24,8 @@ heard_after : (heard : Option ℕ) (half side : List ℕ) → half ≡ oldest_fi
 heard_after None half side is = append-nil half ∙ is
 heard_after (Some counter) half side is = ap (λ k. k ++ (counter ∷ [])) is
 
-half_stepped : (config : Config) (role : Role) (half : Half) (side : Side) (station : GatewayState) (e : Effect) → HalfStands config role half side → station.node ≡ e.node → station.role ≡ half.station.role → HalfStands config role (half_after half station e.out) (stepped side e)
-half_stepped config role half side station e stands node stays = record {
+half_stepped : (config : Config) (role : Role) (half : GatewayRecord) (side : Side) (state : GatewayState) (e : Effect) → HalfStands config role half side → state.node ≡ e.node → state.role ≡ half.state.role → HalfStands config role (gateway_after half state e.out) (stepped side e)
+half_stepped config role half side state e stands node stays = record {
   set_up = stands.set_up;
   role = stays ∙ stands.role;
   node = node;
@@ -36,10 +36,10 @@ half_stepped config role half side station e stands node stays = record {
   made = ap (λ k. k ++ oldest_first e.out.made) stands.made ∙ sym (oldest_append e.out.made side.made);
 }
 
-counted_so : (config : Config) (role : Role) (half : Half) (side : Side) → HalfStands config role half side → counter_after half ≡ next_counter side
+counted_so : (config : Config) (role : Role) (half : GatewayRecord) (side : Side) → HalfStands config role half side → counter_after half ≡ next_counter side
 counted_so config role half side stands = ap (λ n. (n + (half.restarts + 1)) % 256) stands.first ∙ ap (λ n. (side.first + (n + 1)) % 256) stands.restarts
 
-half_begins : (config : Config) (role : Role) (half : Half) (side : Side) → HalfStands config role half side → side.node.config ≡ config → HalfStands config role (half_restarted role half) (restarted side)
+half_begins : (config : Config) (role : Role) (half : GatewayRecord) (side : Side) → HalfStands config role half side → side.node.config ≡ config → HalfStands config role (gateway_restarted role half) (restarted side)
 half_begins config role half side stands same = record {
   set_up = stands.set_up;
   role = refl;
@@ -75,14 +75,14 @@ both_many config first more =
 told_both_so : (first second : Effect) (config : Config) → told_of_both first second (map (datagram_of config) first.out.sent ++ map (datagram_of config) second.out.sent) ≡ told_in (note_of_both first second)
 told_both_so first second config = λ i. record { outcome = first.outcome; second = outcome_in second.outcome; learned = first.out.learned; sent = both_many config first.out.sent second.out.sent i; gave_up = first.out.gave_up; forgot = first.out.forgot }
 
-notes_after : (notes : List Told) (before : List Note) (told : Told) (note : Note) → notes ≡ oldest_first (map told_in before) → told ≡ told_in note → notes ++ (told ∷ []) ≡ oldest_first (map told_in (note ∷ before))
+notes_after : (notes : List EventRecord) (before : List Note) (told : EventRecord) (note : Note) → notes ≡ oldest_first (map told_in before) → told ≡ told_in note → notes ++ (told ∷ []) ≡ oldest_first (map told_in (note ∷ before))
 notes_after notes before told note is same = λ i. is i ++ (same i ∷ [])
 
 datagrams_after : (setup : Setup) (role : Role) (config : Config) (log : List (By Datagram)) (all : List machine.SentDatagram) (out : Out) → config ≡ config_in setup role → AreFor setup log all → AreReadable out → AreFor setup (log ++ signed role (map (datagram_of config) out.sent)) (all ++ signed role (datagrams out.sent))
 datagrams_after setup role config log all out same are read = for_append setup log all _ _ are (sent_for setup role config out.sent same read)
 
 -- where one more delivery was late, or none
-late_stands : (setup : Setup) (v : Kept) (w : World) (role : Role) (a : Arrival) (late : Bool) → StandsFor setup v w → StandsFor setup (record v { log = record v.log { late = counted late v.log.late } }) (lates late w role a)
+late_stands : (setup : Setup) (v : WorldRecord) (w : World) (role : Role) (a : Arrival) (late : Bool) → StandsFor setup v w → StandsFor setup (record v { log = record v.log { late = counted late v.log.late } }) (lates late w role a)
 late_stands setup v w role a false stands = stands
 late_stands setup v w Serving a true stands = record {
   serving = record { set_up = stands.serving.set_up; role = stands.serving.role; node = stands.serving.node; first = stands.serving.first; restarts = stands.serving.restarts; seen = stands.serving.seen; forgotten = stands.serving.forgotten; made = stands.serving.made };
@@ -104,12 +104,12 @@ late_stands setup v w Packet a true stands = record {
 }
 
 -- what a step sends, hands in and accepts
-abbrev moved_kept : Kept → Role → GatewayState → Config → Out → Kept
-moved_kept v role station config out = record (with_half v role (half_after (half_in v role) station out)) { log = log_moved v.log role out (map (datagram_of config) out.sent) }
+abbrev moved_kept : WorldRecord → Role → GatewayState → Config → Out → WorldRecord
+moved_kept v role state config out = record (with_gateway v role (gateway_after (gateway_in v role) state out)) { log = log_moved v.log role out (map (datagram_of config) out.sent) }
 
-moved_stands : (setup : Setup) (v : Kept) (w : World) (role : Role) (station : GatewayState) (config : Config) (e : Effect) → config ≡ config_in setup role → StandsFor setup v w → AreReadable e.out → station.node ≡ e.node → station.role ≡ (half_in v role).station.role → StandsFor setup (moved_kept v role station config e.out) (moved w role e)
-moved_stands setup v w Serving station config e same stands read node stays = record {
-  serving = half_stepped setup.serving.config Serving v.serving w.serving station e stands.serving node stays;
+moved_stands : (setup : Setup) (v : WorldRecord) (w : World) (role : Role) (state : GatewayState) (config : Config) (e : Effect) → config ≡ config_in setup role → StandsFor setup v w → AreReadable e.out → state.node ≡ e.node → state.role ≡ (gateway_in v role).state.role → StandsFor setup (moved_kept v role state config e.out) (moved w role e)
+moved_stands setup v w Serving state config e same stands read node stays = record {
+  serving = half_stepped setup.serving.config Serving v.serving w.serving state e stands.serving node stays;
   packet = stands.packet;
   datagrams = datagrams_after setup Serving config v.log.datagrams w.datagrams e.out same stands.datagrams read;
   handed = ap (λ k. k ++ signed Serving e.out.handed) stands.handed;
@@ -117,9 +117,9 @@ moved_stands setup v w Serving station config e same stands read node stays = re
   late = stands.late;
   notes = stands.notes;
 }
-moved_stands setup v w Packet station config e same stands read node stays = record {
+moved_stands setup v w Packet state config e same stands read node stays = record {
   serving = stands.serving;
-  packet = half_stepped setup.packet.config Packet v.packet w.packet station e stands.packet node stays;
+  packet = half_stepped setup.packet.config Packet v.packet w.packet state e stands.packet node stays;
   datagrams = datagrams_after setup Packet config v.log.datagrams w.datagrams e.out same stands.datagrams read;
   handed = ap (λ k. k ++ signed Packet e.out.handed) stands.handed;
   accepted = ap (λ k. k ++ signed Packet e.out.accepted) stands.accepted;
@@ -128,50 +128,50 @@ moved_stands setup v w Packet station config e same stands read node stays = rec
 }
 
 -- what is told, and the steps that are logged
-noted_stands : (setup : Setup) (v : Kept) (w : World) (role : Role) (told : Told) (note : Note) (steps : List Done) → told ≡ told_in note → StandsFor setup v w → StandsFor setup (record v { log = record v.log { notes = v.log.notes ++ (told ∷ []) } }) (logged (noted w note) role steps)
+noted_stands : (setup : Setup) (v : WorldRecord) (w : World) (role : Role) (told : EventRecord) (note : Note) (steps : List Done) → told ≡ told_in note → StandsFor setup v w → StandsFor setup (record v { log = record v.log { notes = v.log.notes ++ (told ∷ []) } }) (logged (noted w note) role steps)
 noted_stands setup v w Serving told note steps same stands = record { serving = stands.serving; packet = stands.packet; datagrams = stands.datagrams; handed = stands.handed; accepted = stands.accepted; late = stands.late; notes = notes_after v.log.notes w.notes told note stands.notes same }
 noted_stands setup v w Packet told note steps same stands = record { serving = stands.serving; packet = stands.packet; datagrams = stands.datagrams; handed = stands.handed; accepted = stands.accepted; late = stands.late; notes = notes_after v.log.notes w.notes told note stands.notes same }
 
 -- how the gateway of what is kept is set up
-kept_config : (setup : Setup) (v : Kept) (w : World) (role : Role) → (side_of w role).node.config ≡ config_in setup role → StandsFor setup v w → (half_in v role).station.node.config ≡ config_in setup role
+kept_config : (setup : Setup) (v : WorldRecord) (w : World) (role : Role) → (side_of w role).node.config ≡ config_in setup role → StandsFor setup v w → (gateway_in v role).state.node.config ≡ config_in setup role
 kept_config setup v w role same stands = ap (λ (n : Node). n.config) (half_stands setup v w stands role).node ∙ same
 
 -- after a step of a gateway
-pub after_step : (setup : Setup) (v : Kept) (w : World) (role : Role) (station : GatewayState) (e : Effect) (outcome : EventOutcome) (late : Bool) (a : Arrival) (steps : List Done) → (side_of w role).node.config ≡ config_in setup role → StandsFor setup v w → AreReadable e.out → station.node ≡ e.node → station.role ≡ (half_in v role).station.role → StandsFor setup (kept_after v role station e.out (sent_at (half_in v role) e.out) outcome late) (world_after (lates late w role a) role e outcome steps)
-after_step setup v w Serving station e outcome late a steps same stands read node stays =
-    let config = v.serving.station.node.config in
+pub after_step : (setup : Setup) (v : WorldRecord) (w : World) (role : Role) (state : GatewayState) (e : Effect) (outcome : EventOutcome) (late : Bool) (a : Arrival) (steps : List Done) → (side_of w role).node.config ≡ config_in setup role → StandsFor setup v w → AreReadable e.out → state.node ≡ e.node → state.role ≡ (gateway_in v role).state.role → StandsFor setup (kept_after v role state e.out (sent_at (gateway_in v role) e.out) outcome late) (world_after (lates late w role a) role e outcome steps)
+after_step setup v w Serving state e outcome late a steps same stands read node stays =
+    let config = v.serving.state.node.config in
     let was = late_stands setup v w Serving a late stands in
     noted_stands setup _ _ Serving _ (note_of outcome e.out) steps (told_so outcome e.out config)
-    (moved_stands setup _ (lates late w Serving a) Serving station config e (kept_config setup v w Serving same stands) was read node stays)
-after_step setup v w Packet station e outcome late a steps same stands read node stays =
-    let config = v.packet.station.node.config in
+    (moved_stands setup _ (lates late w Serving a) Serving state config e (kept_config setup v w Serving same stands) was read node stays)
+after_step setup v w Packet state e outcome late a steps same stands read node stays =
+    let config = v.packet.state.node.config in
     let was = late_stands setup v w Packet a late stands in
     noted_stands setup _ _ Packet _ (note_of outcome e.out) steps (told_so outcome e.out config)
-    (moved_stands setup _ (lates late w Packet a) Packet station config e (kept_config setup v w Packet same stands) was read node stays)
+    (moved_stands setup _ (lates late w Packet a) Packet state config e (kept_config setup v w Packet same stands) was read node stays)
 
 -- a gateway between two steps
 abbrev between : GatewayState → Effect → GatewayState
-between station e = record station { node = e.node }
+between state e = record state { node = e.node }
 
 -- after a step of a gateway for each of two messages
-pub after_both : (setup : Setup) (v : Kept) (w : World) (role : Role) (station : GatewayState) (first second : Effect) (late : Bool) (a : Arrival) (steps : List Done) → (side_of w role).node.config ≡ config_in setup role → StandsFor setup v w → AreReadable first.out → AreReadable second.out → station.node ≡ second.node → station.role ≡ (half_in v role).station.role → StandsFor setup (kept_after_both v role station first second (sent_at (half_in v role) first.out) (sent_at (half_in v role) second.out) late) (world_after_both (lates late w role a) role first second steps)
-after_both setup v w Serving station first second late a steps same stands read read_too node stays =
-    let config = v.serving.station.node.config in
+pub after_both : (setup : Setup) (v : WorldRecord) (w : World) (role : Role) (state : GatewayState) (first second : Effect) (late : Bool) (a : Arrival) (steps : List Done) → (side_of w role).node.config ≡ config_in setup role → StandsFor setup v w → AreReadable first.out → AreReadable second.out → state.node ≡ second.node → state.role ≡ (gateway_in v role).state.role → StandsFor setup (kept_after_both v role state first second (sent_at (gateway_in v role) first.out) (sent_at (gateway_in v role) second.out) late) (world_after_both (lates late w role a) role first second steps)
+after_both setup v w Serving state first second late a steps same stands read read_too node stays =
+    let config = v.serving.state.node.config in
     let config_is = kept_config setup v w Serving same stands in
     let was = late_stands setup v w Serving a late stands in
-    let mid = moved_stands setup _ (lates late w Serving a) Serving (between station first) config first config_is was read refl stays in
+    let mid = moved_stands setup _ (lates late w Serving a) Serving (between state first) config first config_is was read refl stays in
     noted_stands setup _ _ Serving _ (note_of_both first second) steps (told_both_so first second config)
-    (moved_stands setup _ (moved (lates late w Serving a) Serving first) Serving station config second config_is mid read_too node refl)
-after_both setup v w Packet station first second late a steps same stands read read_too node stays =
-    let config = v.packet.station.node.config in
+    (moved_stands setup _ (moved (lates late w Serving a) Serving first) Serving state config second config_is mid read_too node refl)
+after_both setup v w Packet state first second late a steps same stands read read_too node stays =
+    let config = v.packet.state.node.config in
     let config_is = kept_config setup v w Packet same stands in
     let was = late_stands setup v w Packet a late stands in
-    let mid = moved_stands setup _ (lates late w Packet a) Packet (between station first) config first config_is was read refl stays in
+    let mid = moved_stands setup _ (lates late w Packet a) Packet (between state first) config first config_is was read refl stays in
     noted_stands setup _ _ Packet _ (note_of_both first second) steps (told_both_so first second config)
-    (moved_stands setup _ (moved (lates late w Packet a) Packet first) Packet station config second config_is mid read_too node refl)
+    (moved_stands setup _ (moved (lates late w Packet a) Packet first) Packet state config second config_is mid read_too node refl)
 
 -- an event that is passed over
-pub after_none : (setup : Setup) (v : Kept) (w : World) (outcome : EventOutcome) → StandsFor setup v w → StandsFor setup (passed_over v outcome) (noted w (quiet_note outcome))
+pub after_none : (setup : Setup) (v : WorldRecord) (w : World) (outcome : EventOutcome) → StandsFor setup v w → StandsFor setup (passed_over v outcome) (noted w (quiet_note outcome))
 after_none setup v w outcome stands = record {
   serving = stands.serving;
   packet = stands.packet;
@@ -183,7 +183,7 @@ after_none setup v w outcome stands = record {
 }
 
 -- a restart
-pub after_restart : (setup : Setup) (v : Kept) (w : World) (role : Role) → (side_of w role).node.config ≡ config_in setup role → StandsFor setup v w → StandsFor setup (record (with_half v role (half_restarted role (half_in v role))) { log = log_with v.log (Restarted (counter_after (half_in v role))) }) (with_steps (noted (with_side w role (restarted (side_of w role))) (quiet_note (Restarted (next_counter (side_of w role))))) role [])
+pub after_restart : (setup : Setup) (v : WorldRecord) (w : World) (role : Role) → (side_of w role).node.config ≡ config_in setup role → StandsFor setup v w → StandsFor setup (record (with_gateway v role (gateway_restarted role (gateway_in v role))) { log = log_with v.log (Restarted (counter_after (gateway_in v role))) }) (with_steps (noted (with_side w role (restarted (side_of w role))) (quiet_note (Restarted (next_counter (side_of w role))))) role [])
 after_restart setup v w Serving same stands = record {
   serving = half_begins setup.serving.config Serving v.serving w.serving stands.serving same;
   packet = stands.packet;

@@ -4,7 +4,6 @@ use Rattle.std.specs.Prelude.{IsSome}
 use Rattle.std.proofs.lemmas.List.{map-append}
 use Rattle.gtp_values.specs.declared.counter.Counter.{Counter}
 use Rattle.gtp_values.specs.declared.address.Endpoint.{Endpoint}
-use Rattle.gtp_values.specs.declared.identifiers.Teid.{Teid}
 use Rattle.gtp_machine.specs.declared.role.Role.{Role}
 use Rattle.gtp_machine.specs.Command.{CommandStep}
 use Rattle.gtp_machine.specs.Input.{Command, Create_session, Delete_session, Create_bearer, Delete_bearer, Release_session, Mark_end, Send_echo, Send_user, Commanded, Effect, Entry, Out, nothing, refused}
@@ -27,10 +26,10 @@ use Rattle.gtp_gateway.specs.receive.Taken.{made_for}
 use Rattle.gtp_gateway.specs.user.Receive.{AreEntries}
 use Rattle.gtp_gateway.specs.declared.sent.Begun.{Begun}
 use Rattle.gtp_gateway.specs.declared.step.Step.{Step}
-use Rattle.gtp_gateway.specs.declared.step.Accepted.{Accepted}
+use Rattle.gtp_gateway.specs.user.Accepted.{Accepted}
 use Rattle.gtp_gateway.proofs.SentBack.{none_sent}
 use Rattle.gtp_world.specs.Commands.{IsTimed}
-use Rattle.gtp_world.specs.Kept.{oldest_first, Half}
+use Rattle.gtp_world.specs.Record.{oldest_first, GatewayRecord}
 use Rattle.gtp_world.specs.Last.{last_octets}
 use Rattle.gtp_world.specs.Sides.{entries, IsHanded, IsAccepted, IsInput, AreInputs, IsBrought}
 use Rattle.gtp_world.specs.Stepped.{AsksFor, KeepsOn, TakesLowest, sent_at}
@@ -56,12 +55,12 @@ told node role (Send_user bearer payload) old teid entry e (inl refusal) outcome
 told node role (Send_user bearer payload) old teid entry e (inr hands) outcome is = is hands.at hands.sends.of ∙ ap (λ (k : Effect). signed node k.out.handed) (sym hands.sends.gives)
 
 -- nothing was heard, forgotten or made
-as_before : (old : Half) (station : GatewayState) (out : Out) → out.heard ≡ None → out.forgot ≡ [] → out.made ≡ [] → record old { station = station } ≡ record old { station = station; seen = old.seen ++ option_to_list out.heard; forgotten = old.forgotten ++ out.forgot; made = old.made ++ oldest_first out.made }
-as_before old station out heard forgot made =
+as_before : (old : GatewayRecord) (state : GatewayState) (out : Out) → out.heard ≡ None → out.forgot ≡ [] → out.made ≡ [] → record old { state = state } ≡ record old { state = state; seen = old.seen ++ option_to_list out.heard; forgotten = old.forgotten ++ out.forgot; made = old.made ++ oldest_first out.made }
+as_before old state out heard forgot made =
     let seen = sym (append-nil old.seen) ∙ ap (λ h. old.seen ++ option_to_list h) (sym heard) in
     let forgotten = sym (append-nil old.forgotten) ∙ ap (λ l. old.forgotten ++ l) (sym forgot) in
     let makes = sym (append-nil old.made) ∙ ap (λ l. old.made ++ oldest_first l) (sym made) in
-    λ i. record old { station = station; seen = seen i; forgotten = forgotten i; made = makes i }
+    λ i. record old { state = state; seen = seen i; forgotten = forgotten i; made = makes i }
 
 -- a request was begun, and waits
 asked : (old new : GatewayState) (begun : Begun) (teid : Option ℕ) (sent : List Datagram) (outcome : EventOutcome) → outcome ≡ Came_to (Asked teid) → (datagram_by begun.out ∷ []) ≡ sent → SendsRequestNext old begun new → AsksFor sent outcome old new
@@ -91,11 +90,11 @@ asks_for (Send_user bearer payload) old new begun teid sent outcome is out same 
 
 -- what a command that was carried out came to
 abbrev pub came_of_begun : Command → Begun → Option (By Entry) → Came
-came_of_begun command begun handed = record { outcome = outcome_by command (option_map (λ (t : Teid). t.0) begun.teid); second = None; restart = None; out = Some begun.out; handed = handed; accepted = None }
+came_of_begun command begun handed = record { outcome = outcome_by command begun.teid; second = None; restart = None; out = Some begun.out; handed = handed; accepted = None }
 
-pub done : (node : Role) (command : Command) (old : Half) (begun : Begun) (station : GatewayState) (handed : Option (By Entry)) → IsCarriedOut command old.station begun station → IsTimed command old.station begun station → IsHanded node old.station.node command handed → IsInput node (Commanded command) AsksFor old (came_of_begun command begun handed) (record old { station = station })
-done node command old begun station handed d times is =
-    let plain = plainly old.station.role command old.station.node d.effect d.step in
+pub done : (node : Role) (command : Command) (old : GatewayRecord) (begun : Begun) (state : GatewayState) (handed : Option (By Entry)) → IsCarriedOut command old.state begun state → IsTimed command old.state begun state → IsHanded node old.state.node command handed → IsInput node (Commanded command) AsksFor old (came_of_begun command begun handed) (record old { state = state })
+done node command old begun state handed d times is =
+    let plain = plainly old.state.role command old.state.node d.effect d.step in
     record {
       effect = d.effect;
       step = d.step;
@@ -103,14 +102,14 @@ done node command old begun station handed d times is =
       node = d.becomes;
       role_stays = d.role;
       lowest = λ makes. absurd (makes (ap (λ (o : Out). o.made) plain));
-      timed = asks_for command old.station station begun (option_map (λ (t : Teid). t.0) begun.teid) (sent_at old d.effect.out) d.effect.outcome d.outcome d.sent.octets times;
-      becomes = as_before old station d.effect.out (ap (λ (o : Out). o.heard) plain) (ap (λ (o : Out). o.forgot) plain) (ap (λ (o : Out). o.made) plain);
+      timed = asks_for command old.state state begun begun.teid (sent_at old d.effect.out) d.effect.outcome d.outcome d.sent.octets times;
+      becomes = as_before old state d.effect.out (ap (λ (o : Out). o.heard) plain) (ap (λ (o : Out). o.forgot) plain) (ap (λ (o : Out). o.made) plain);
       tells = record {
         sent = d.sent.octets;
         outcome = sym d.outcome;
         alone = refl;
         learned = sym (ap (λ (o : Out). o.learned) plain);
-        handed = told node old.station.role command old.station.node (option_map (λ (t : Teid). t.0) begun.teid) handed d.effect (handing old.station.role command old.station.node d.effect d.step) d.outcome is;
+        handed = told node old.state.role command old.state.node begun.teid handed d.effect (handing old.state.role command old.state.node d.effect d.step) d.outcome is;
         accepted = ap (λ (o : Out). signed node o.accepted) (sym plain);
         gave_up = ap (λ (o : Out). o.gave_up) plain;
         forgot = ap (λ (o : Out). o.forgot) plain;
@@ -121,17 +120,17 @@ done node command old begun station handed d times is =
 abbrev pub came_of_refused : Refusal → Came
 came_of_refused why = record { outcome = Refused why; second = None; restart = None; out = None; handed = None; accepted = None }
 
-pub turned_down : (node : Role) (command : Command) (old : Half) (why : Refusal) → CommandStep old.station.role command old.station.node (refused old.station.node why) → IsInput node (Commanded command) AsksFor old (came_of_refused why) old
+pub turned_down : (node : Role) (command : Command) (old : GatewayRecord) (why : Refusal) → CommandStep old.state.role command old.state.node (refused old.state.node why) → IsInput node (Commanded command) AsksFor old (came_of_refused why) old
 turned_down node command old why step =
     record {
-      effect = refused old.station.node why;
+      effect = refused old.state.node why;
       step = step;
-      readable = (none_sent old.station.node.config).read;
+      readable = (none_sent old.state.node.config).read;
       node = refl;
       role_stays = refl;
       lowest = λ makes. absurd (makes refl);
-      timed = unasked old.station old.station [] (Came_to (Refused why)) (λ teid is. cc is) refl;
-      becomes = as_before old old.station nothing refl refl refl;
+      timed = unasked old.state old.state [] (Came_to (Refused why)) (λ teid is. cc is) refl;
+      becomes = as_before old old.state nothing refl refl refl;
       tells = record { sent = refl; outcome = refl; alone = refl; learned = refl; handed = refl; accepted = refl; gave_up = refl; forgot = refl };
     }
 
@@ -158,12 +157,12 @@ abbrev pub came_of_step : Step → Option LoggedEntry → Came
 came_of_step step accepted = record { outcome = step.report.outcome; second = step.report.second; restart = step.report.restart; out = step.out; handed = None; accepted = accepted }
 
 -- a gateway, after a datagram of which this was told
-abbrev pub half_told : Half → GatewayState → Step → Arrival → Half
-half_told old station step request = record old { station = station; seen = old.seen ++ option_to_list (option_map (λ (c : Counter). c.0) step.report.heard); made = old.made ++ made_for request step.report.made }
+abbrev pub half_told : GatewayRecord → GatewayState → Step → Arrival → GatewayRecord
+half_told old state step request = record old { state = state; seen = old.seen ++ option_to_list (option_map (λ (c : Counter). c.0) step.report.heard); made = old.made ++ made_for request step.report.made }
 
 -- a datagram was taken as a whole
-taken_whole : (node : Role) (plane : Plane) (source : Endpoint) (octets : List ℕ) (old : Half) (step : Step) (station : GatewayState) (entry : Option LoggedEntry) (request : Arrival) (r : IsReceivedOnce plane source octets old.station step station) → made_for request step.report.made ≡ r.effect.out.made → KeepsOn plane source octets (sent_at old r.effect.out) r.effect.outcome old.station station → ChoosesLowest step.report.made old.station.role old.station.node station.node → (IsSome step.accepted → station ≡ old.station) → IsAccepted node station.node step.accepted entry → IsInput node (coming plane source octets) (KeepsOn plane source octets) old (came_of_step step entry) (half_told old station step request)
-taken_whole node plane source octets old step station entry request r told keeps lowest stays is =
+taken_whole : (node : Role) (plane : Plane) (source : Endpoint) (octets : List ℕ) (old : GatewayRecord) (step : Step) (state : GatewayState) (entry : Option LoggedEntry) (request : Arrival) (r : IsReceivedOnce plane source octets old.state step state) → made_for request step.report.made ≡ r.effect.out.made → KeepsOn plane source octets (sent_at old r.effect.out) r.effect.outcome old.state state → ChoosesLowest step.report.made old.state.role old.state.node state.node → (IsSome step.accepted → state ≡ old.state) → IsAccepted node state.node step.accepted entry → IsInput node (coming plane source octets) (KeepsOn plane source octets) old (came_of_step step entry) (half_told old state step request)
+taken_whole node plane source octets old step state entry request r told keeps lowest stays is =
     let out = r.effect.out in
     let forgot = ap (λ (o : Out). o.forgot) r.tells.all in
     let seen = ap (λ h. old.seen ++ option_to_list h) r.tells.heard in
@@ -175,16 +174,16 @@ taken_whole node plane source octets old step station entry request r told keeps
       readable = r.tells.sent.read;
       node = r.becomes;
       role_stays = r.role;
-      lowest = lowest_made request step.report.made station.role out old.station.node station.node told (subst (λ role. ChoosesLowest step.report.made role old.station.node station.node) (sym r.role) lowest);
+      lowest = lowest_made request step.report.made state.role out old.state.node state.node told (subst (λ role. ChoosesLowest step.report.made role old.state.node state.node) (sym r.role) lowest);
       timed = keeps;
-      becomes = λ i. record old { station = station; seen = seen i; forgotten = forgotten i; made = made i };
+      becomes = λ i. record old { state = state; seen = seen i; forgotten = forgotten i; made = made i };
       tells = record {
         sent = r.tells.sent.octets;
         outcome = r.tells.outcome;
         alone = r.tells.alone;
         learned = r.tells.restart;
         handed = ap (λ (o : Out). signed node o.handed) (sym r.tells.all);
-        accepted = is out.accepted (entries_now old.station.node station.node step.accepted out.accepted (λ some. ap (λ (s : GatewayState). s.node) (stays some)) r.tells.accepted);
+        accepted = is out.accepted (entries_now old.state.node state.node step.accepted out.accepted (λ some. ap (λ (s : GatewayState). s.node) (stays some)) r.tells.accepted);
         gave_up = ap (λ (o : Out). o.gave_up) r.tells.all;
         forgot = forgot;
       };
@@ -200,8 +199,8 @@ none_accepted : (node : Role) (at : Node) (accepted : Option Accepted) (entry : 
 none_accepted node at accepted entry none is = is [] (subst (λ a. AreEntries at a []) (sym none) refl)
 
 -- its two messages were taken, one after the other
-taken_both : (node : Role) (source : Endpoint) (octets : List ℕ) (answer : CreateSessionResponse) (asked : CreateBearerRequest) (old : Half) (step : Step) (station : GatewayState) (entry : Option LoggedEntry) (request : Arrival) → AreReceived source octets answer asked old.station step station → request ≡ arrival_of source (second_part octets) → QueuesAfterMessage source (second_part octets) old.station station → ChoosesLowest step.report.made old.station.role old.station.node station.node → IsAccepted node station.node step.accepted entry → AreInputs node source octets answer asked old (came_of_step step entry) (half_told old station step request)
-taken_both node source octets answer asked old step station entry request r same keeps lowest is =
+taken_both : (node : Role) (source : Endpoint) (octets : List ℕ) (answer : CreateSessionResponse) (asked : CreateBearerRequest) (old : GatewayRecord) (step : Step) (state : GatewayState) (entry : Option LoggedEntry) (request : Arrival) → AreReceived source octets answer asked old.state step state → request ≡ arrival_of source (second_part octets) → QueuesAfterMessage source (second_part octets) old.state state → ChoosesLowest step.report.made old.state.role old.state.node state.node → IsAccepted node state.node step.accepted entry → AreInputs node source octets answer asked old (came_of_step step entry) (half_told old state step request)
+taken_both node source octets answer asked old step state entry request r same keeps lowest is =
     let first = r.first.out in
     let second = r.second.out in
     let t = r.tells in
@@ -221,27 +220,27 @@ taken_both node source octets answer asked old step station entry request r same
       readable = t.sent.read;
       node = r.becomes;
       role_stays = r.role;
-      lowest = lowest_made request step.report.made station.role second old.station.node station.node told (subst (λ role. ChoosesLowest step.report.made role old.station.node station.node) (sym r.role) lowest);
+      lowest = lowest_made request step.report.made state.role second old.state.node state.node told (subst (λ role. ChoosesLowest step.report.made role old.state.node state.node) (sym r.role) lowest);
       timed = keeps;
-      becomes = λ i. record old { station = station; seen = seen i; forgotten = forgotten i; made = made i };
+      becomes = λ i. record old { state = state; seen = seen i; forgotten = forgotten i; made = made i };
       tells = record {
-        sent = t.sent.octets ∙ ap (λ l. map (datagram_of old.station.node.config) l ++ sent_at old second) (sym silent);
+        sent = t.sent.octets ∙ ap (λ l. map (datagram_of old.state.node.config) l ++ sent_at old second) (sym silent);
         outcome = t.outcome;
         next = second_told step.report.second r.second.outcome t.next;
         learned = t.restart;
         handed = λ i. signed node (sym t.all_first i).handed ++ signed node (sym t.all_second i).handed;
-        accepted = none_accepted node station.node step.accepted entry t.accepted is ∙ (λ i. signed node (sym t.all_first i).accepted ++ signed node (sym t.all_second i).accepted);
+        accepted = none_accepted node state.node step.accepted entry t.accepted is ∙ (λ i. signed node (sym t.all_first i).accepted ++ signed node (sym t.all_second i).accepted);
         gave_up = ap (λ (o : Out). o.gave_up) t.all_first;
         forgot = ap (λ (o : Out). o.forgot) t.all_first;
       };
     }
 
 -- a datagram was taken
-pub taken : (node : Role) (plane : Plane) (source : Endpoint) (octets : List ℕ) (old : Half) (step : Step) (station : GatewayState) (entry : Option LoggedEntry) → IsReceived plane source octets old.station step station → QueuesAfterReceive plane source octets step old.station station → ChoosesLowest step.report.made old.station.role old.station.node station.node → (IsSome step.accepted → station ≡ old.station) → IsAccepted node station.node step.accepted entry → IsBrought node plane source octets old (came_of_step step entry) (half_told old station step (arrival_of source (last_octets octets)))
-taken node Control source octets old step station entry (inl (none, r)) (inl (alone, keeps)) lowest stays is = inl (none, taken_whole node Control source octets old step station entry (arrival_of source (last_octets octets)) r (made_last Control source octets old.station step station r) keeps lowest stays is)
-taken node Control source octets old step station entry (inl (none, r)) (inr (pair, keeps)) lowest stays is = absurd (none pair)
-taken node Control source octets old step station entry (inr (pair, r)) (inl (none, keeps)) lowest stays is = absurd (none pair)
-taken node Control source octets old step station entry (inr (pair, r)) (inr (too, keeps)) lowest stays is = inr (pair, taken_both node source octets pair.answer pair.asked old step station entry (arrival_of source (last_octets octets)) r (ap (λ o. arrival_of source o) (last_two octets _ _ pair.is)) keeps lowest is)
-taken node User source octets old step station entry r keeps lowest stays is =
-    taken_whole node User source octets old step station entry (arrival_of source (last_octets octets)) r (made_last User source octets old.station step station r)
+pub taken : (node : Role) (plane : Plane) (source : Endpoint) (octets : List ℕ) (old : GatewayRecord) (step : Step) (state : GatewayState) (entry : Option LoggedEntry) → IsReceived plane source octets old.state step state → QueuesAfterReceive plane source octets step old.state state → ChoosesLowest step.report.made old.state.role old.state.node state.node → (IsSome step.accepted → state ≡ old.state) → IsAccepted node state.node step.accepted entry → IsBrought node plane source octets old (came_of_step step entry) (half_told old state step (arrival_of source (last_octets octets)))
+taken node Control source octets old step state entry (inl (none, r)) (inl (alone, keeps)) lowest stays is = inl (none, taken_whole node Control source octets old step state entry (arrival_of source (last_octets octets)) r (made_last Control source octets old.state step state r) keeps lowest stays is)
+taken node Control source octets old step state entry (inl (none, r)) (inr (pair, keeps)) lowest stays is = absurd (none pair)
+taken node Control source octets old step state entry (inr (pair, r)) (inl (none, keeps)) lowest stays is = absurd (none pair)
+taken node Control source octets old step state entry (inr (pair, r)) (inr (too, keeps)) lowest stays is = inr (pair, taken_both node source octets pair.answer pair.asked old step state entry (arrival_of source (last_octets octets)) r (ap (λ o. arrival_of source o) (last_two octets _ _ pair.is)) keeps lowest is)
+taken node User source octets old step state entry r keeps lowest stays is =
+    taken_whole node User source octets old step state entry (arrival_of source (last_octets octets)) r (made_last User source octets old.state step state r)
     ((λ apart. keeps.0 (λ broken. apart (sym r.tells.outcome ∙ ap (λ o. Came_to o) broken))), keeps.1, keeps.2) lowest stays is

@@ -2,15 +2,15 @@
 use Rattle.std.specs.Prelude.{◌≡◌, List}
 use Rattle.gtp_machine.specs.World.{Event}
 use Rattle.gtp_gateway.specs.Determined.{AreLeftAlike}
-use Rattle.gtp_world.specs.Kept.{Half, Kept}
+use Rattle.gtp_world.specs.Record.{GatewayRecord, WorldRecord}
 use Rattle.gtp_world.specs.Runs.{Setup, begun}
-use Rattle.gtp_world.specs.Stepped.{Follows}
+use Rattle.gtp_world.specs.Stepped.{EventsLeave}
 
 -- the same is kept of a gateway: its role, its node and what its ticks go by, how it is set up and how often it was restarted, and what it has heard, given up
 -- and made
-pub record HalvesAlike (one other : Half) : Type 0 where
+pub record HalvesAlike (one other : GatewayRecord) : Type 0 where
   pub settings : one.settings ≡ other.settings
-  pub station : AreLeftAlike one.station other.station
+  pub state : AreLeftAlike one.state other.state
   pub first : one.first ≡ other.first
   pub restarts : one.restarts ≡ other.restarts
   pub seen : one.seen ≡ other.seen
@@ -19,7 +19,7 @@ pub record HalvesAlike (one other : Half) : Type 0 where
 
 -- the same is kept of both gateways, and the logs are one: each datagram, octet for octet, each packet that was handed in and that was accepted, how many deliveries
 -- were late, and what came of each event
-pub record WorldsAlike (one other : Kept) : Type 0 where
+pub record WorldsAlike (one other : WorldRecord) : Type 0 where
   pub serving : HalvesAlike one.serving other.serving
   pub packet : HalvesAlike one.packet other.packet
   pub log : one.log ≡ other.log
@@ -27,7 +27,7 @@ pub record WorldsAlike (one other : Kept) : Type 0 where
 -- Whatever happens from whatever setup, it leaves one world: one log, and the same of both gateways.
 abbrev pub EventsLeaveOneWorld : Type 0
 EventsLeaveOneWorld =
-    (setup : Setup) (events : List Event) (one other : Kept)
-    → Follows (begun setup) events one
-    → Follows (begun setup) events other
+    (setup : Setup) (events : List Event) (one other : WorldRecord)
+    → EventsLeave (begun setup) events one
+    → EventsLeave (begun setup) events other
     → WorldsAlike one other

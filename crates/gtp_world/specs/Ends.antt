@@ -1,9 +1,9 @@
 -- Runs that end early.
 use Rattle.std.specs.Prelude.{◌<◌, List, length, take}
 use Rattle.gtp_machine.specs.World.{Event}
-use Rattle.gtp_world.specs.Kept.{Kept}
-use Rattle.gtp_world.specs.Runs.{Setup, RunsOn, IsWhole}
-use Rattle.gtp_world.specs.Stepped.{Follows}
+use Rattle.gtp_world.specs.Record.{WorldRecord}
+use Rattle.gtp_world.specs.Runs.{Setup, ContinuesRun, RanWhole}
+use Rattle.gtp_world.specs.Stepped.{EventsLeave}
 use Rattle.gtp_world.specs.declared.run.RunFault.{RunFault}
 use Rattle.gtp_world.specs.declared.run.RunFault.TheVariants.{Start, At}
 
@@ -11,14 +11,14 @@ use Rattle.gtp_world.specs.declared.run.RunFault.TheVariants.{Start, At}
 -- Before the gateways were made: nothing is said.
 abbrev pub IsCutShort : Setup → List Event → RunFault → Type 0
 IsCutShort setup events Start = Unit {0}
-IsCutShort setup events (At count world) = (count < length events) × IsWhole setup (take count events) world
+IsCutShort setup events (At count world) = (count < length events) × RanWhole setup (take count events) world
 
 -- what `resume` promises of a world after these events
-pub record HasGone (old : Kept) (events : List Event) (new : Kept) : Type 0 where
-  pub comes : Follows old events new
-  pub run : RunsOn old events new
+pub record HasGone (old : WorldRecord) (events : List Event) (new : WorldRecord) : Type 0 where
+  pub comes : EventsLeave old events new
+  pub run : ContinuesRun old events new
 
 -- Memory ran out at one of these events. The count of those before it is below that of all, and what `resume` promises holds of those before.
-abbrev pub IsStoppedIn : Kept → List Event → RunFault → Type 0
+abbrev pub IsStoppedIn : WorldRecord → List Event → RunFault → Type 0
 IsStoppedIn old events Start = ⊥
 IsStoppedIn old events (At count world) = (count < length events) × HasGone old (take count events) world

@@ -28,7 +28,7 @@ abbrev pub asked : Asked → Arrival
 asked a = arrival_of a.source a.octets.items
 
 abbrev pub packet_in : Entry → Packet
-packet_in e = record { target = e.teid.0; payload = e.payload.items; imsi = e.imsi; access_point = e.apn; identity = e.ebi }
+packet_in e = record { target = e.teid; payload = e.payload.items; imsi = e.imsi; access_point = e.apn; identity = e.ebi }
 
 -- a packet, and the gateway
 abbrev pub entry_by : Entry → By Packet

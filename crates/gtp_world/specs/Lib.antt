@@ -1,5 +1,5 @@
 pub mod Indexes
-pub mod Kept
+pub mod Record
 pub mod Last
 pub mod Stepped
 pub mod Commands

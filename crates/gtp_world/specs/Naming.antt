@@ -6,7 +6,7 @@ use Rattle.gtp_values.specs.FiniteMap.{FiniteMap}
 use Rattle.gtp_tables.specs.declared.context.State.{State}
 use Rattle.gtp_machine.specs.Node.{Node, Session, Bearer, Active}
 use Rattle.gtp_machine.specs.Safety.{MutualSessions, MutualBearers, Agree}
-use Rattle.gtp_world.specs.Kept.{Kept}
+use Rattle.gtp_world.specs.Record.{WorldRecord}
 use Rattle.gtp_world.specs.declared.mutual.Mutual.{Mutual}
 use Rattle.gtp_world.specs.declared.mutual.Mutual.TheVariants as kinds
 
@@ -16,8 +16,8 @@ pub data Pair : Type 0 where
   Bearers : ℕ → ℕ → Pair
 
 abbrev pub pair_of : Mutual → Pair
-pair_of (kinds.Session serving packet) = Sessions serving.0 packet.0
-pair_of (kinds.Bearer serving packet) = Bearers serving.0 packet.0
+pair_of (kinds.Session serving packet) = Sessions serving packet
+pair_of (kinds.Bearer serving packet) = Bearers serving packet
 
 -- the TEID that an active context has for its peer's
 abbrev pub leads_to : State → Option ℕ → Option ℕ
@@ -50,13 +50,13 @@ abbrev pub bearer_pairs : FiniteMap Bearer → List (ℕ × Bearer) → List Pai
 bearer_pairs others bearers = pairs_of bearer_leads Bearers others bearers
 
 -- sessions before bearers, each in order of the serving gateway's TEIDs
-abbrev pub mutual_pairs : Kept → List Pair
-mutual_pairs v = session_pairs v.packet.station.node.sessions (entries v.serving.station.node.sessions) ++ bearer_pairs v.packet.station.node.bearers (entries v.serving.station.node.bearers)
+abbrev pub mutual_pairs : WorldRecord → List Pair
+mutual_pairs v = session_pairs v.packet.state.node.sessions (entries v.serving.state.node.sessions) ++ bearer_pairs v.packet.state.node.bearers (entries v.serving.state.node.bearers)
 
 -- the contexts are there, active, and name each other
-abbrev pub NameEachOther : Kept → Pair → Type 0
-NameEachOther v (Sessions c d) = (s p : Session) × MutualSessions v.serving.station.node v.packet.station.node c d s p
-NameEachOther v (Bearers c d) = (s p : Bearer) × MutualBearers v.serving.station.node v.packet.station.node c d s p
+abbrev pub NameEachOther : WorldRecord → Pair → Type 0
+NameEachOther v (Sessions c d) = (s p : Session) × MutualSessions v.serving.state.node v.packet.state.node c d s p
+NameEachOther v (Bearers c d) = (s p : Bearer) × MutualBearers v.serving.state.node v.packet.state.node c d s p
 
 -- a session of each gateway, with the same subscriber, access point, default identity and address
 pub record AgreeingSessions (serving packet : Node) (c d : ℕ) : Type 0 where
@@ -80,5 +80,5 @@ abbrev pub AgreeAt : Node → Node → Pair → Type 0
 AgreeAt serving packet (Sessions c d) = AgreeingSessions serving packet c d
 AgreeAt serving packet (Bearers c d) = AgreeingBearers serving packet c d
 
-abbrev pub DoAgree : Kept → Pair → Type 0
-DoAgree v pair = AgreeAt v.serving.station.node v.packet.station.node pair
+abbrev pub DoAgree : WorldRecord → Pair → Type 0
+DoAgree v pair = AgreeAt v.serving.state.node v.packet.state.node pair

@@ -6,7 +6,7 @@ use Rattle.gtp_gateway.specs.messages.Sent.{datagram_by}
 use Rattle.gtp_gateway.specs.receive.Taken.{datagrams}
 use Rattle.gtp_gateway.specs.Tick.{arrivals_of}
 use Rattle.gtp_gateway.specs.declared.tick.Ticked.{Ticked as Tick}
-use Rattle.gtp_world.specs.Kept.{Log, counted}
+use Rattle.gtp_world.specs.Record.{Log, counted}
 use Rattle.gtp_world.specs.Sides.{entries}
 use Rattle.gtp_world.specs.declared.records.Records.{Records}
 use Rattle.gtp_world.specs.declared.side.Came.{Came}

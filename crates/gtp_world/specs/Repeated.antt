@@ -8,10 +8,10 @@ use Rattle.gtp_machine.specs.Reading.{DatagramReading, Alone, Both, datagram_rea
 use Rattle.gtp_machine.specs.Spelling.{Datagram}
 use Rattle.gtp_machine.specs.World.{By, Event, Deliver, Restart, other}
 use Rattle.gtp_machine.specs.declared.role.Role.{Role}
-use Rattle.gtp_world.specs.Kept.{Kept, half_in}
-use Rattle.gtp_world.specs.Runs.{Setup, IsRunOf}
+use Rattle.gtp_world.specs.Record.{WorldRecord, gateway_in}
+use Rattle.gtp_world.specs.Runs.{Setup, LeftByRun}
 use Rattle.gtp_world.specs.Last.{last_octets}
-use Rattle.gtp_world.specs.Stepped.{Comes, Follows, IsThere, IsLate}
+use Rattle.gtp_world.specs.Stepped.{EventLeaves, EventsLeave, IsThere, IsLate}
 
 -- octets that read so hold this message, by itself or as the second of two
 abbrev pub HoldLast : DatagramReading → Message → Type 0
@@ -34,32 +34,32 @@ pub record AreRepeats (one other : By Datagram) : Type 0 where
   pub octets : last_octets one.what.octets ≡ last_octets other.what.octets
 
 -- The datagram with the first number is delivered, then these events happen, and then the datagram with the second number is delivered.
-pub record AreDelivered (number second_number : ℕ) (between : List Event) (first answered second again : Kept) : Type 0 where
-  pub comes : Comes first (Deliver number) answered
-  pub goes_on : Follows answered between second
-  pub comes_again : Comes second (Deliver second_number) again
+pub record AreDelivered (number second_number : ℕ) (between : List Event) (first answered second again : WorldRecord) : Type 0 where
+  pub comes : EventLeaves first (Deliver number) answered
+  pub goes_on : EventsLeave answered between second
+  pub comes_again : EventLeaves second (Deliver second_number) again
 
 -- none of the events restarts the gateway
 abbrev pub NeverRestarts : Role → List Event → Type 0
 NeverRestarts role events = Among (Restart role) events → ⊥
 
 -- the datagram was sent between these two worlds
-pub record IsSentBetween (old new : Kept) (d : By Datagram) : Type 0 where
+pub record IsSentBetween (old new : WorldRecord) (d : By Datagram) : Type 0 where
   pub sent : List (By Datagram)
   pub are : new.log.datagrams ≡ old.log.datagrams ++ sent
   pub among : Among d sent
 
 -- At each time in a run: if a create request is delivered from then on, and after some events it is delivered again, in the same datagram or in one that was sent
 -- again, then all that is sent at both deliveries has the same octets. The second delivery is not late, and the receiver is not restarted between the two.
-abbrev pub IsAnsweredAgainAlike : Kept → Type 0
+abbrev pub IsAnsweredAgainAlike : WorldRecord → Type 0
 IsAnsweredAgainAlike first =
-    (setup : Setup) (events : List Event) (r : IsRunOf setup events first)
-    → (number second_number : ℕ) (between : List Event) (answered second again : Kept)
+    (setup : Setup) (events : List Event) (r : LeftByRun setup events first)
+    → (number second_number : ℕ) (between : List Event) (answered second again : WorldRecord)
     → AreDelivered number second_number between first answered second again
     → (found : IsThere first.log.datagrams number) (found_again : IsThere second.log.datagrams second_number)
     → AreRepeats found_again.sent found.sent
     → IsCreateRequest found.sent
-    → (IsLate (half_in second (other found.sent.role)) found.sent.what → ⊥)
+    → (IsLate (gateway_in second (other found.sent.role)) found.sent.what → ⊥)
     → NeverRestarts (other found.sent.role) between
     → (answer second_answer : By Datagram) → IsSentBetween first answered answer → IsSentBetween second again second_answer
     → answer.what.octets ≡ second_answer.what.octets

@@ -7,11 +7,11 @@ use Rattle.gtp_machine.specs.Spelling.{Datagram, datagram_plane, spelled_all}
 use Rattle.gtp_machine.specs.World as machine
 use Rattle.gtp_machine.specs.World.{By, SentDatagram, Side, World, Event, Run, start}
 use Rattle.gtp_machine.specs.Safety.{SessionsAgree, BearersAgree, EachOwed, NoneOutlivesRestart}
-use Rattle.gtp_world.specs.Kept.{oldest_first, Half, Told, Kept, half_in}
+use Rattle.gtp_world.specs.Record.{oldest_first, GatewayRecord, EventRecord, WorldRecord, gateway_in}
 use Rattle.gtp_gateway.specs.messages.Sent.{ReadsBack}
 use Rattle.gtp_gateway.specs.Settings.{Settings}
 use Rattle.gtp_world.specs.Recorded.{empty_log}
-use Rattle.gtp_world.specs.Stepped.{half_begun, Follows}
+use Rattle.gtp_world.specs.Stepped.{gateway_begun, EventsLeave}
 
 -- both gateways as they are set up, and the counters that they begin with
 pub record Setup : Type 0 where
@@ -32,8 +32,8 @@ pub record AreFacing (serving packet : Settings) : Type 0 where
   pub user_back : packet.config.own.user ≡ serving.config.peer.user
 
 -- both gateways, just started
-abbrev pub begun : Setup → Kept
-begun setup = record { serving = half_begun Serving setup.serving setup.serving_counter; packet = half_begun Packet setup.packet setup.packet_counter; log = empty_log }
+abbrev pub begun : Setup → WorldRecord
+begun setup = record { serving = gateway_begun Serving setup.serving setup.serving_counter; packet = gateway_begun Packet setup.packet setup.packet_counter; log = empty_log }
 
 -- the datagram is the one that its gateway sends for these messages, whoever it goes to; and it reads as them
 pub record IsFor (setup : Setup) (d : By Datagram) (sent : SentDatagram) : Type 0 where
@@ -50,14 +50,14 @@ AreFor setup (d ∷ datagrams) (s ∷ sent) = IsFor setup d s × AreFor setup da
 AreFor setup datagrams sent = ⊥
 
 -- what is told of an event, by the machine's note of it
-abbrev pub told_in : machine.Note → Told
+abbrev pub told_in : machine.Note → EventRecord
 told_in n = record { outcome = n.outcome; second = n.second; learned = n.learned; sent = length n.sent; gave_up = n.gave_up; forgot = n.forgot }
 
 -- what is kept of a gateway is what the machine's world has of it
-pub record HalfStands (config : Config) (which : Role) (half : Half) (side : Side) : Type 0 where
+pub record HalfStands (config : Config) (which : Role) (half : GatewayRecord) (side : Side) : Type 0 where
   pub set_up : half.settings.config ≡ config
-  pub role : half.station.role ≡ which
-  pub node : half.station.node ≡ side.node
+  pub role : half.state.role ≡ which
+  pub node : half.state.node ≡ side.node
   pub first : half.first ≡ side.first
   pub restarts : half.restarts ≡ side.restarts
   pub seen : half.seen ≡ oldest_first side.seen
@@ -65,7 +65,7 @@ pub record HalfStands (config : Config) (which : Role) (half : Half) (side : Sid
   pub made : half.made ≡ oldest_first side.made
 
 -- What is kept stands for a world of the machine: its gateways, and all that they have sent, as octets; its logs and its notes.
-pub record StandsFor (setup : Setup) (v : Kept) (w : World) : Type 0 where
+pub record StandsFor (setup : Setup) (v : WorldRecord) (w : World) : Type 0 where
   pub serving : HalfStands setup.serving.config Serving v.serving w.serving
   pub packet : HalfStands setup.packet.config Packet v.packet w.packet
   pub datagrams : AreFor setup v.log.datagrams w.datagrams
@@ -75,38 +75,38 @@ pub record StandsFor (setup : Setup) (v : Kept) (w : World) : Type 0 where
   pub notes : v.log.notes ≡ oldest_first (map told_in w.notes)
 
 -- It is what a run of these events leaves, from two gateways that have just started.
-pub record IsRunOf (setup : Setup) (events : List Event) (v : Kept) : Type 0 where
+pub record LeftByRun (setup : Setup) (events : List Event) (v : WorldRecord) : Type 0 where
   pub world : World
   pub run : Run (start setup.serving.config setup.packet.config setup.serving_counter setup.packet_counter) events world
   pub stands : StandsFor setup v world
 
 -- some run of gateways that face each other leaves it
-pub record IsReached (v : Kept) : Type 0 where
+pub record LeftBySomeRun (v : WorldRecord) : Type 0 where
   pub setup : Setup
   pub facing : AreFacing setup.serving setup.packet
   pub events : List Event
-  pub run : IsRunOf setup events v
+  pub run : LeftByRun setup events v
 
 -- Tunnel safety. Contexts that name each other agree on subscriber, access point, bearer identity and address; where no delivery was late, each packet that
 -- was accepted was handed in at the other gateway, octet for octet, for that subscriber, access point and bearer; and no session outlives a restart of the
 -- peer that its gateway has heard of.
-pub record IsSafe (v : Kept) : Type 0 where
-  pub sessions : SessionsAgree v.serving.station.node v.packet.station.node
-  pub bearers : BearersAgree v.serving.station.node v.packet.station.node
+pub record IsSafe (v : WorldRecord) : Type 0 where
+  pub sessions : SessionsAgree v.serving.state.node v.packet.state.node
+  pub bearers : BearersAgree v.serving.state.node v.packet.state.node
   pub owed : EachOwed v.log.late v.log.handed v.log.accepted
-  pub none_over : (role : Role) → NoneOutlivesRestart (half_in v role).station.node (half_in v role).seen
+  pub none_over : (role : Role) → NoneOutlivesRestart (gateway_in v role).state.node (gateway_in v role).seen
 
 -- The run of these events that was at this world of the machine goes on from there by more events, and leaves this.
-pub record Continues (setup : Setup) (events : List Event) (world : World) (more : List Event) (v : Kept) : Type 0 where
-  pub whole : IsRunOf setup (events ++ more) v
+pub record Continues (setup : Setup) (events : List Event) (world : World) (more : List Event) (v : WorldRecord) : Type 0 where
+  pub whole : LeftByRun setup (events ++ more) v
   pub on : Run world more whole.world
 
 -- Each run that leaves the one goes on by these events, from the very world of the machine that it has reached, and then leaves the other.
-abbrev pub RunsOn : Kept → List Event → Kept → Type 0
-RunsOn old more new = (setup : Setup) (events : List Event) (r : IsRunOf setup events old) → Continues setup events r.world more new
+abbrev pub ContinuesRun : WorldRecord → List Event → WorldRecord → Type 0
+ContinuesRun old more new = (setup : Setup) (events : List Event) (r : LeftByRun setup events old) → Continues setup events r.world more new
 
 -- these events have come to what they come to: that is a run of the machine, and safe
-pub record IsWhole (setup : Setup) (events : List Event) (v : Kept) : Type 0 where
-  pub comes : Follows (begun setup) events v
-  pub run : IsRunOf setup events v
+pub record RanWhole (setup : Setup) (events : List Event) (v : WorldRecord) : Type 0 where
+  pub comes : EventsLeave (begun setup) events v
+  pub run : LeftByRun setup events v
   pub safe : IsSafe v

@@ -19,10 +19,10 @@ use Rattle.gtp_gateway.specs.receive.Taken.{datagrams}
 use Rattle.gtp_gateway.specs.GatewayState.{GatewayState}
 use Rattle.gtp_gateway.specs.Tick.{due_in, arrivals_of, QueuesAfterTick}
 use Rattle.gtp_gateway.specs.declared.tick.Ticked.{Ticked}
-use Rattle.gtp_gateway.specs.declared.step.Accepted.{Accepted}
+use Rattle.gtp_gateway.specs.user.Accepted.{Accepted}
 use Rattle.gtp_gateway.specs.user.Receive.{AreEntries}
-use Rattle.gtp_world.specs.Kept.{Half, entry_by}
-use Rattle.gtp_world.specs.Stepped.{half_after, sent_at, AreReadable, TakesLowest, KeepsOn}
+use Rattle.gtp_world.specs.Record.{GatewayRecord, entry_by}
+use Rattle.gtp_world.specs.Stepped.{gateway_after, sent_at, AreReadable, TakesLowest, KeepsOn}
 use Rattle.gtp_world.specs.declared.log.Entry.{Entry as LoggedEntry}
 use Rattle.gtp_world.specs.declared.side.Came.{Came}
 
@@ -31,7 +31,7 @@ abbrev pub entries : Option LoggedEntry → List (By Entry)
 entries entry = option_to_list (option_map entry_by entry)
 
 -- what came of an input tells what its effect has, and nothing of a second message
-pub record TellsCame (role : Role) (old : Half) (came : Came) (e : Effect) : Type 0 where
+pub record TellsCame (role : Role) (old : GatewayRecord) (came : Came) (e : Effect) : Type 0 where
   pub sent : datagrams came.out ≡ sent_at old e.out
   pub outcome : Came_to came.outcome ≡ e.outcome
   pub alone : came.second ≡ None
@@ -42,19 +42,19 @@ pub record TellsCame (role : Role) (old : Half) (came : Came) (e : Effect) : Typ
   pub forgot : e.out.forgot ≡ []
 
 -- The gateway took an input, of what is free it took the lowest, and what its ticks go by is as this says.
-pub record IsInput (role : Role) (input : Input) (Timed : List Datagram → EventOutcome → GatewayState → GatewayState → Type 0) (old : Half) (came : Came) (new : Half) : Type 0 where
+pub record IsInput (role : Role) (input : Input) (Timed : List Datagram → EventOutcome → GatewayState → GatewayState → Type 0) (old : GatewayRecord) (came : Came) (new : GatewayRecord) : Type 0 where
   pub effect : Effect
-  pub step : Step old.station.role old.station.node input effect
+  pub step : Step old.state.role old.state.node input effect
   pub readable : AreReadable effect.out
-  pub node : new.station.node ≡ effect.node
-  pub role_stays : new.station.role ≡ old.station.role
-  pub lowest : TakesLowest new.station.role effect.out old.station.node new.station.node
-  pub timed : Timed (sent_at old effect.out) effect.outcome old.station new.station
-  pub becomes : new ≡ half_after old new.station effect.out
+  pub node : new.state.node ≡ effect.node
+  pub role_stays : new.state.role ≡ old.state.role
+  pub lowest : TakesLowest new.state.role effect.out old.state.node new.state.node
+  pub timed : Timed (sent_at old effect.out) effect.outcome old.state new.state
+  pub becomes : new ≡ gateway_after old new.state effect.out
   pub tells : TellsCame role old came effect
 
 -- what came of two messages of one datagram tells what their effects have
-pub record TellsCameBoth (role : Role) (old : Half) (came : Came) (first second : Effect) : Type 0 where
+pub record TellsCameBoth (role : Role) (old : GatewayRecord) (came : Came) (first second : Effect) : Type 0 where
   pub sent : datagrams came.out ≡ sent_at old first.out ++ sent_at old second.out
   pub outcome : Came_to came.outcome ≡ first.outcome
   pub next : came.second ≡ outcome_in second.outcome
@@ -66,33 +66,33 @@ pub record TellsCameBoth (role : Role) (old : Half) (came : Came) (first second 
 
 -- The gateway took the two messages of a datagram, one after the other. Nothing was sent for the first; of what is free it took the lowest; and what its ticks go
 -- by is as after a datagram, but an answer is held by the octets of the second message.
-pub record AreInputs (role : Role) (source : Endpoint) (octets : List ℕ) (answer : CreateSessionResponse) (asked : CreateBearerRequest) (old : Half) (came : Came) (new : Half) : Type 0 where
+pub record AreInputs (role : Role) (source : Endpoint) (octets : List ℕ) (answer : CreateSessionResponse) (asked : CreateBearerRequest) (old : GatewayRecord) (came : Came) (new : GatewayRecord) : Type 0 where
   pub first : Effect
-  pub step : Step old.station.role old.station.node (first_comes source octets answer) first
+  pub step : Step old.state.role old.state.node (first_comes source octets answer) first
   pub silent : first.out.sent ≡ []
   pub second : Effect
-  pub follows : Step old.station.role first.node (second_comes source octets asked) second
+  pub follows : Step old.state.role first.node (second_comes source octets asked) second
   pub readable : AreReadable second.out
-  pub node : new.station.node ≡ second.node
-  pub role_stays : new.station.role ≡ old.station.role
-  pub lowest : TakesLowest new.station.role second.out old.station.node new.station.node
-  pub timed : QueuesAfterMessage source (second_part octets) old.station new.station
-  pub becomes : new ≡ half_after (half_after old new.station first.out) new.station second.out
+  pub node : new.state.node ≡ second.node
+  pub role_stays : new.state.role ≡ old.state.role
+  pub lowest : TakesLowest new.state.role second.out old.state.node new.state.node
+  pub timed : QueuesAfterMessage source (second_part octets) old.state new.state
+  pub becomes : new ≡ gateway_after (gateway_after old new.state first.out) new.state second.out
   pub tells : TellsCameBoth role old came first second
 
 -- The gateway took a datagram of a plane: of the control plane a pair that it takes message by message, and any other as a whole.
-abbrev pub IsBrought : Role → Plane → Endpoint → List ℕ → Half → Came → Half → Type 0
-IsBrought role Control source octets old came new = ByPair source octets old.station (IsInput role (coming Control source octets) (KeepsOn Control source octets) old came new) (λ answer asked. AreInputs role source octets answer asked old came new)
+abbrev pub IsBrought : Role → Plane → Endpoint → List ℕ → GatewayRecord → Came → GatewayRecord → Type 0
+IsBrought role Control source octets old came new = ByPair source octets old.state (IsInput role (coming Control source octets) (KeepsOn Control source octets) old came new) (λ answer asked. AreInputs role source octets answer asked old came new)
 IsBrought role User source octets old came new = IsInput role (coming User source octets) (KeepsOn User source octets) old came new
 
 -- The gateway ticked.
-pub record IsTick (old : Half) (ticked : Ticked) (new : Half) : Type 0 where
+pub record IsTick (old : GatewayRecord) (ticked : Ticked) (new : GatewayRecord) : Type 0 where
   pub out : Out
-  pub ticks : Ticks old.station.node (due_in old.station.queues) out new.station.node
+  pub ticks : Ticks old.state.node (due_in old.state.queues) out new.state.node
   pub readable : AreReadable out
-  pub role_stays : new.station.role ≡ old.station.role
-  pub counts : QueuesAfterTick old.station new.station
-  pub becomes : new ≡ half_after old new.station out
+  pub role_stays : new.state.role ≡ old.state.role
+  pub counts : QueuesAfterTick old.state new.state
+  pub becomes : new ≡ gateway_after old new.state out
   pub sent : map datagram_by ticked.resent.items ≡ sent_at old out
   pub gave_up : ticked.gave_up.items ≡ out.gave_up
   pub forgot : arrivals_of ticked.forgotten.items ≡ out.forgot
@@ -101,7 +101,7 @@ pub record IsTick (old : Half) (ticked : Ticked) (new : Half) : Type 0 where
 -- the TEID that a packet names: this one, or else the bearer's remote
 abbrev pub named_or : Option Teid → Option ℕ → ℕ
 named_or None remote = written remote
-named_or (Some teid) remote = teid.0
+named_or (Some teid) remote = teid
 
 -- the entry of a packet on a bearer, where that and its session stand
 abbrev pub IsEntryAt : Role → Node → ℕ → Option Teid → List ℕ → Option (By Entry) → Type 0

@@ -12,9 +12,9 @@ use Rattle.gtp_machine.specs.Step.{Done}
 use Rattle.gtp_machine.specs.World.{By, Event, other, side_of, steps_of}
 use Rattle.gtp_machine.specs.declared.role.Role.{Role}
 use Rattle.gtp_gateway.specs.Parts.{arrival_of}
-use Rattle.gtp_world.specs.Kept.{Kept, half_in}
+use Rattle.gtp_world.specs.Record.{WorldRecord, gateway_in}
 use Rattle.gtp_world.specs.Last.{last_octets}
-use Rattle.gtp_world.specs.Runs.{Setup, IsRunOf}
+use Rattle.gtp_world.specs.Runs.{Setup, LeftByRun}
 use Rattle.gtp_world.specs.Stepped.{IsThere}
 
 -- so many of the list are this
@@ -27,13 +27,13 @@ abbrev pub as_it_came : By Datagram → Arrival
 as_it_came d = arrival_of d.what.from (last_octets d.what.octets)
 
 -- the gateway that did not send the datagram made so many contexts for its last message since it started
-pub record IsMade (v : Kept) (number count : ℕ) : Type 0 where
+pub record IsMade (v : WorldRecord) (number count : ℕ) : Type 0 where
   pub found : IsThere v.log.datagrams number
-  pub counts : IsCount (as_it_came found.sent) (half_in v (other found.sent.role)).made count
+  pub counts : IsCount (as_it_came found.sent) (gateway_in v (other found.sent.role)).made count
 
 -- at the end of a run in which no delivery of the datagram was late, since its receiver started, at most one context was made for it
-abbrev pub IsMadeOnce : Kept → ℕ → ℕ → Type 0
-IsMadeOnce v number count = (setup : Setup) (events : List Event) (r : IsRunOf setup events v) (found : IsThere v.log.datagrams number) → (Among (as_it_came found.sent) (side_of r.world (other found.sent.role)).late_requests → ⊥) → count ≤ 1
+abbrev pub IsMadeOnce : WorldRecord → ℕ → ℕ → Type 0
+IsMadeOnce v number count = (setup : Setup) (events : List Event) (r : LeftByRun setup events v) (found : IsThere v.log.datagrams number) → (Among (as_it_came found.sent) (side_of r.world (other found.sent.role)).late_requests → ⊥) → count ≤ 1
 
 -- a step of a gateway that took the last message of the datagram, as a create request, and the messages of a datagram that was sent in answer to it
 pub record IsAnswer (receiver : Role) (d : By Datagram) (request : Message) (done : Done) (answer : List Message) : Type 0 where
@@ -42,8 +42,8 @@ pub record IsAnswer (receiver : Role) (d : By Datagram) (request : Message) (don
   pub sends : Among answer (datagrams done.effect.out.sent)
 
 -- at the end of a run in which no delivery of the datagram was late, since its receiver started, all that was sent in answer to it since then is the same octets
-abbrev pub IsAnsweredAlike : Kept → ℕ → Type 0
+abbrev pub IsAnsweredAlike : WorldRecord → ℕ → Type 0
 IsAnsweredAlike v number =
-    (setup : Setup) (events : List Event) (r : IsRunOf setup events v) (found : IsThere v.log.datagrams number) → (Among (as_it_came found.sent) (side_of r.world (other found.sent.role)).late_requests → ⊥)
+    (setup : Setup) (events : List Event) (r : LeftByRun setup events v) (found : IsThere v.log.datagrams number) → (Among (as_it_came found.sent) (side_of r.world (other found.sent.role)).late_requests → ⊥)
     → (first second : Done) → Follow (steps_of r.world (other found.sent.role)) first second
     → (request : Message) (a b : List Message) → IsAnswer (other found.sent.role) found.sent request first a → IsAnswer (other found.sent.role) found.sent request second b → spelled_all a ≡ spelled_all b

@@ -42,7 +42,7 @@ pub fn tell(gateway: &mut Gateway, alloc: Global, event: &Event) -> Result<Begun
 /// What a command comes to where it is carried out, for this context.
 pub fn outcome_of(event: &Event, teid: Option<Teid>) -> Outcome
     requires { is_command event.now ≡ true }
-    ensures { result ≡ outcome_by (command_of event.now) (option_map (λ t. t.0) teid) }
+    ensures { result ≡ outcome_by (command_of event.now) teid }
 {
     match event {
         Event::EndMarker(_) | Event::SendUser { .. } => Outcome::GoneOut,

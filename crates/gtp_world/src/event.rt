@@ -1,5 +1,8 @@
 //! Events of a world, and their outcomes.
 
+ghost use Rattle.std.specs.Prelude.{◌≡◌};
+ghost use Rattle.gtp_world.specs.Commands.{role_of};
+
 use gtp_gateway::{Counter, Ebi, Outcome, Qos, Role, SessionSpec, Teid, Tft};
 
 /// An event of a world. A session is named by its control plane TEID at the gateway of the command, a bearer by its
@@ -46,6 +49,23 @@ pub enum Event {
     /// A gateway restarts: it loses all contexts, and its restart counter is one higher, modulo 256. N2 after 127
     /// restarts.
     Restart(Role),
+}
+
+impl Event {
+    /// The gateway of a command. Other events have none.
+    pub fn role(&self) -> Option<Role>
+        ensures { result ≡ role_of self.now }
+    {
+        match self {
+            Event::CreateSession(_) | Event::DeleteSession(_) => Some(Role::Serving),
+            Event::CreateBearer { .. }
+            | Event::DeleteBearer { .. }
+            | Event::ReleaseSession(_)
+            | Event::EndMarker(_) => Some(Role::Packet),
+            Event::Echo(node) | Event::SendUser { node, .. } => Some(*node),
+            Event::Tick(_) | Event::Deliver(_) | Event::Cut { .. } | Event::Restart(_) => None,
+        }
+    }
 }
 
 /// The outcome of an event.

@@ -22,11 +22,11 @@ pub struct HandedIn {
 
 impl Model for HandedIn {
     ghost use Rattle.std.specs.Prelude.{◌≡◌};
-    ghost use Rattle.gtp_machine.specs.Input.{Entry as Packet};
+    ghost use Rattle.gtp_machine.specs.Input.{Entry as UserPacket};
     ghost use Rattle.gtp_machine.specs.World.{By};
     ghost use Rattle.gtp_world.specs.Indexes.{entry_by, owed_by};
 
-    ghost Value = { By Packet };
+    ghost Value = { By UserPacket };
 
     ghost view = { λ a. entry_by a.entry };
 

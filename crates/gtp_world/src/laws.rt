@@ -2,7 +2,7 @@
 //! nothing: each contract is a law.
 
 ghost use Rattle.gtp_world.specs.Determined.{EventsLeaveOneWorld};
-ghost use Rattle.gtp_world.specs.Kept.{Kept};
+ghost use Rattle.gtp_world.specs.Record.{WorldRecord};
 ghost use Rattle.gtp_world.specs.Repeated.{IsAnsweredAgainAlike};
 
 pub use gtp_machine::laws::{
@@ -26,5 +26,5 @@ pub fn worlds_are_determined()
 /// octets.
 pub fn repeats_are_answered_alike()
     // At each time in a run.
-    ensures { (first : Kept) → IsAnsweredAgainAlike first }
+    ensures { (first : WorldRecord) → IsAnsweredAgainAlike first }
 {}

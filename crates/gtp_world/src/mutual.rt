@@ -16,19 +16,19 @@ pub enum Mutual {
 }
 
 /// The TEID that an active context has for its peer's.
-fn leads_to(state: State, remote: Option<u32>) -> Option<Teid>
-    ensures { option_map (λ t. t.0) result ≡ leads_to state remote }
+fn leads_to(state: State, remote: Option<Teid>) -> Option<Teid>
+    ensures { result ≡ leads_to state remote }
 {
     match state {
-        State::Active => Some(Teid(remote?)),
+        State::Active => remote,
         State::Pending | State::Closing => None,
     }
 }
 
 /// The session of the other gateway that a session names, and that names it.
 fn session_partner(others: &Gateway, own: Teid, session: &Session) -> Option<Teid>
-    ensures { option_map (λ t. t.0) result
-        ≡ partner session_leads others.now.node.sessions own.0 session.now }
+    ensures { result
+        ≡ partner session_leads others.now.node.sessions own session.now }
 {
     let there = leads_to(session.state, session.remote)?;
     match others.session(there) {
@@ -39,8 +39,8 @@ fn session_partner(others: &Gateway, own: Teid, session: &Session) -> Option<Tei
 
 /// The bearer of the other gateway that a bearer names, and that names it.
 fn bearer_partner(others: &Gateway, own: Teid, bearer: &Bearer) -> Option<Teid>
-    ensures { option_map (λ t. t.0) result
-        ≡ partner bearer_leads others.now.node.bearers own.0 bearer.now }
+    ensures { result
+        ≡ partner bearer_leads others.now.node.bearers own bearer.now }
 {
     let there = leads_to(bearer.state, bearer.remote)?;
     match others.bearer(there) {
@@ -182,7 +182,7 @@ fn have_same(serving: &Session, packet: &Session) -> bool
 
 /// Whether there are both sessions, and they agree.
 fn sessions_agree(serving: &Gateway, packet: &Gateway, own: Teid, other: Teid) -> bool
-    ensures { IsTrue result ↔ AgreeingSessions serving.now.node packet.now.node own.0 other.0 }
+    ensures { IsTrue result ↔ AgreeingSessions serving.now.node packet.now.node own other }
 {
     match (serving.session(own), packet.session(other)) {
         (Some(own), Some(other)) => have_same(&own, &other),
@@ -192,29 +192,29 @@ fn sessions_agree(serving: &Gateway, packet: &Gateway, own: Teid, other: Teid) -
 
 /// Whether there are both bearers, and they agree.
 fn bearers_agree(serving: &Gateway, packet: &Gateway, own: Teid, other: Teid) -> bool
-    ensures { IsTrue result ↔ AgreeingBearers serving.now.node packet.now.node own.0 other.0 }
+    ensures { IsTrue result ↔ AgreeingBearers serving.now.node packet.now.node own other }
 {
     match (serving.bearer(own), packet.bearer(other)) {
         (Some(own), Some(other)) => {
             own.identity == other.identity
-                && sessions_agree(serving, packet, Teid(own.session), Teid(other.session))
+                && sessions_agree(serving, packet, own.session, other.session)
         }
         _ => false,
     }
 }
 
 /// Whether there are both contexts, and they agree.
-pub fn do_agree(serving: &Gateway, packet: &Gateway, pair: Mutual) -> bool
-    ensures { IsTrue result ↔ AgreeAt serving.now.node packet.now.node (pair_of pair) }
+pub fn do_agree(serving: &Gateway, packet: &Gateway, pair: &Mutual) -> bool
+    ensures { IsTrue result ↔ AgreeAt serving.now.node packet.now.node (pair_of pair.now) }
 {
     match pair {
         Mutual::Session {
             serving: own,
             packet: other,
-        } => sessions_agree(serving, packet, own, other),
+        } => sessions_agree(serving, packet, *own, *other),
         Mutual::Bearer {
             serving: own,
             packet: other,
-        } => bearers_agree(serving, packet, own, other),
+        } => bearers_agree(serving, packet, *own, *other),
     }
 }

@@ -6,7 +6,7 @@ ghost use Rattle.gtp_machine.specs.Input.{nothing};
 ghost use Rattle.gtp_machine.specs.World.{signed, other, HasBy};
 ghost use Rattle.gtp_gateway.specs.messages.Sent.{datagram_by};
 ghost use Rattle.gtp_gateway.specs.receive.Taken.{datagrams};
-ghost use Rattle.gtp_world.specs.Kept.{log_of, told_by, entry_by, outcome_of, outcomes_in, sent_by};
+ghost use Rattle.gtp_world.specs.Record.{log_of, told_by, entry_by, outcome_of, outcomes_in, sent_by};
 ghost use Rattle.gtp_world.specs.Recorded.{HasRoom, empty_log, log_of_came, log_of_tick};
 ghost use Rattle.gtp_world.specs.Stepped.{log_with, told_of};
 
@@ -35,10 +35,7 @@ pub struct Records {
 fn count_of(out: &Option<Sent>) -> usize
     ensures { result ≡ length (datagrams out.now) }
 {
-    match out {
-        Some(_) => 1,
-        None => 0,
-    }
+    usize::from(out.is_some())
 }
 
 impl Note {
@@ -184,15 +181,10 @@ impl Records {
     }
 
     /// How many deliveries were late.
+    #[tactic(auto, using(crate::proofs::Logs::late_are))]
     pub fn late(&self) -> usize
         ensures { result ≡ (log_of self.now).late }
     {
-        let mut count = 0usize;
-        for note in self.notes.as_slice() {
-            if note.late {
-                count += 1;
-            }
-        }
-        count
+        self.notes.iter().filter(|note| note.late).count()
     }
 }

@@ -10,11 +10,11 @@ ghost use Rattle.gtp_gateway.specs.receive.Taken.{made_for};
 ghost use Rattle.gtp_reliable.specs.Forgotten.{question_of};
 ghost use Rattle.gtp_gateway.specs.Tick.{asked_by, arrivals_of};
 ghost use Rattle.gtp_world.specs.Commands.{command_of, is_command};
-ghost use Rattle.gtp_world.specs.Kept.{half_of, entry_by};
+ghost use Rattle.gtp_world.specs.Record.{gateway_record_of, entry_by};
 ghost use Rattle.gtp_world.specs.Last.{last_octets};
 ghost use Rattle.gtp_world.specs.Sides.{IsInput, IsBrought, IsTick, IsEntryAt, IsHanded, IsAccepted};
 ghost use Rattle.gtp_world.specs.Views.{IsCount};
-ghost use Rattle.gtp_world.specs.Stepped.{AsksFor, IsGivenUp, counter_after, half_begun, half_restarted};
+ghost use Rattle.gtp_world.specs.Stepped.{AsksFor, IsGivenUp, counter_after, gateway_begun, gateway_restarted};
 
 use crate::asked::Asked;
 use crate::command::{outcome_of, tell};
@@ -69,7 +69,7 @@ fn is_from(request: &Request, source: Endpoint, octets: &[u8]) -> bool
 impl Side {
     /// A gateway that starts, and began with this counter.
     pub fn start(alloc: Global, role: Role, config: &Config, first: Counter) -> Result<Side, Memory>
-        ensures { IfOk result (λ side. half_of side ≡ half_begun role config.now first.0) }
+        ensures { IfOk result (λ side. gateway_record_of side ≡ gateway_begun role config.now first.0) }
     {
         Ok(Side {
             config: config.copy(alloc)?,
@@ -85,7 +85,7 @@ impl Side {
     /// The subscriber of a session that stands.
     fn subscriber(&self, session: Teid) -> Option<Subscriber>
         ensures { result
-            ≡ option_map (λ s. s.subscriber) (get self.now.gateway.node.sessions session.0) }
+            ≡ option_map (λ s. s.subscriber) (get self.now.gateway.node.sessions session) }
     {
         match self.gateway.session(session) {
             Some(found) => Some(found.subscriber),
@@ -102,14 +102,14 @@ impl Side {
         names: Option<Teid>,
         payload: Vec<u8>,
     ) -> Option<Entry>
-        ensures { IsEntryAt node self.now.gateway.node bearer.0 names payload.items
+        ensures { IsEntryAt node self.now.gateway.node bearer names payload.items
             (option_map entry_by result) }
     {
         let at = self.gateway.bearer(bearer)?;
-        let of = self.subscriber(Teid(at.session))?;
+        let of = self.subscriber(at.session)?;
         Some(Entry {
             node,
-            teid: names.unwrap_or(Teid(at.remote.unwrap_or(0))),
+            teid: names.or(at.remote).unwrap_or(Teid(0)),
             payload,
             imsi: of.imsi,
             apn: of.access_point,
@@ -139,11 +139,11 @@ impl Side {
         &self,
         alloc: Global,
         node: Role,
-        accepted: Option<Accepted<'_>>,
+        accepted: &Option<Accepted<'_>>,
     ) -> Result<Option<Entry>, Memory>
         ensures accepted { IfOk result (λ entry.
-            IsAccepted node self.now.gateway.node accepted.entry entry) }
-        ensures memory { IfErr result (λ _. IsSome accepted.entry) }
+            IsAccepted node self.now.gateway.node accepted.now entry) }
+        ensures memory { IfErr result (λ _. IsSome accepted.now) }
     {
         let Some(accepted) = accepted else {
             return Ok(None);
@@ -156,8 +156,8 @@ impl Side {
     pub fn does(&mut self, alloc: Global, node: Role, event: &Event) -> Result<Came, Memory>
         requires command { is_command event.now ≡ true }
         ensures done { IfOk result (λ came. IsInput node (Commanded (command_of event.now)) AsksFor
-            (half_of self.old) came (half_of self.new)) }
-        ensures err { OnErr result (half_of self.new ≡ half_of self.old) }
+            (gateway_record_of self.old) came (gateway_record_of self.new)) }
+        ensures err { OnErr result (gateway_record_of self.new ≡ gateway_record_of self.old) }
     {
         let handed = self.handing(alloc, node, event)?;
         match tell(&mut self.gateway, alloc, event) {
@@ -206,8 +206,8 @@ impl Side {
     ) -> Result<Came, Memory>
         requires last { last.now ≡ last_octets octets.now }
         ensures taken { IfOk result (λ came. IsBrought node plane source octets.now
-            (half_of self.old) came (half_of self.new)) }
-        ensures err { OnErr result (half_of self.new ≡ half_of self.old) }
+            (gateway_record_of self.old) came (gateway_record_of self.new)) }
+        ensures err { OnErr result (gateway_record_of self.new ≡ gateway_record_of self.old) }
     {
         self.seen.try_reserve(1)?;
         self.made.try_reserve(1)?;
@@ -216,7 +216,7 @@ impl Side {
             octets: Vec::from_slice(alloc, last)?,
         };
         let step = self.gateway.receive(alloc, source, plane, octets)?;
-        let accepted = self.accepting(alloc, node, step.accepted)?;
+        let accepted = self.accepting(alloc, node, &step.accepted)?;
         self.hear(step.report.heard);
         self.make(step.report.made, request);
         Ok(Came {
@@ -238,7 +238,7 @@ impl Side {
         octets: &[u8],
     ) -> Result<bool, Memory>
         ensures { IfOk result (λ is. IsTrue is
-            ↔ IsGivenUp (half_of self.now) plane (arrival_of source octets.now)) }
+            ↔ IsGivenUp (gateway_record_of self.now) plane (arrival_of source octets.now)) }
     {
         match plane {
             Plane::Control => {
@@ -251,7 +251,7 @@ impl Side {
 
     /// How many contexts the gateway has made for this request.
     pub fn contexts_made(&self, source: Endpoint, octets: &[u8]) -> usize
-        ensures { IsCount (arrival_of source octets.now) (half_of self.now).made result }
+        ensures { IsCount (arrival_of source octets.now) (gateway_record_of self.now).made result }
     {
         let mut count = 0usize;
         for request in self.made.as_slice() {
@@ -265,9 +265,9 @@ impl Side {
     /// A tick passes.
     pub fn ticks(&mut self, alloc: Global) -> Result<Ticked, Memory>
         ensures ticked { IfOk result (λ ticked.
-            IsTick (half_of self.old) ticked (half_of self.new)) }
+            IsTick (gateway_record_of self.old) ticked (gateway_record_of self.new)) }
         ensures few { IfOk result (λ ticked. length ticked.resent.items ≤ 256) }
-        ensures err { OnErr result (half_of self.new ≡ half_of self.old) }
+        ensures err { OnErr result (gateway_record_of self.new ≡ gateway_record_of self.old) }
     {
         let forgotten = Remembered::of(alloc, self.gateway.forgets()?)?;
         self.forgotten.make_room_for(&forgotten)?;
@@ -278,7 +278,7 @@ impl Side {
 
     /// The counter of the next start.
     fn next_counter(&self) -> Counter
-        ensures { result.0 ≡ counter_after (half_of self.now) }
+        ensures { result.0 ≡ counter_after (gateway_record_of self.now) }
     {
         let number = (u32::from(self.first.0) + u32::from(self.restarts) + 1) % 256;
         Counter(number as u8)
@@ -287,10 +287,10 @@ impl Side {
     /// Starts afresh with the next counter.
     pub fn restart(&mut self, alloc: Global, node: Role) -> Result<Counter, Memory>
         requires { self.old.restarts < 127 }
-        ensures counter { IfOk result (λ counter. counter.0 ≡ counter_after (half_of self.old)) }
+        ensures counter { IfOk result (λ counter. counter.0 ≡ counter_after (gateway_record_of self.old)) }
         ensures restarted { OnOk result
-            (half_of self.new ≡ half_restarted node (half_of self.old)) }
-        ensures err { OnErr result (half_of self.new ≡ half_of self.old) }
+            (gateway_record_of self.new ≡ gateway_restarted node (gateway_record_of self.old)) }
+        ensures err { OnErr result (gateway_record_of self.new ≡ gateway_record_of self.old) }
     {
         let counter = self.next_counter();
         self.gateway = Gateway::start(alloc, node, &self.config, counter)?;

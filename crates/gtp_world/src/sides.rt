@@ -5,11 +5,11 @@ ghost use Rattle.gtp_machine.specs.Input.{Commanded};
 ghost use Rattle.gtp_machine.specs.World.{other, Restart, Tick, Deliver, Cut};
 ghost use Rattle.gtp_world.specs.Commands.{command_of, is_command};
 ghost use Rattle.gtp_world.specs.Events.{event_of};
-ghost use Rattle.gtp_world.specs.Kept.{kept_of, half_of, half_in, outcome_of, outcomes_in};
+ghost use Rattle.gtp_world.specs.Record.{world_record_of, gateway_record_of, gateway_in, outcome_of, outcomes_in};
 ghost use Rattle.gtp_world.specs.Recorded.{HasRoom};
 ghost use Rattle.gtp_world.specs.Runs.{begun, AreFacing};
 ghost use Rattle.gtp_world.specs.Views.{IsMade};
-ghost use Rattle.gtp_world.specs.Stepped.{Comes, Takes, AsksFor, BringsFirst, TicksBy, IsThere};
+ghost use Rattle.gtp_world.specs.Stepped.{EventLeaves, StepsOn, AsksFor, BringsFirst, TicksBy, IsThere};
 
 use crate::config::WorldConfig;
 use crate::event::{Event, EventOutcome};
@@ -33,7 +33,7 @@ const MOST_RESENT: usize = 256;
 impl Sides {
     /// Both gateways, just started, which have sent nothing.
     pub fn start(alloc: Global, config: &WorldConfig) -> Result<Sides, Memory>
-        ensures begun { IfOk result (λ sides. kept_of sides ≡ begun config.now) }
+        ensures begun { IfOk result (λ sides. world_record_of sides ≡ begun config.now) }
         ensures facing { OnOk result (AreFacing config.now.serving config.now.packet) }
         ensures serving { OnOk result (config.now.serving_counter < 256) }
         ensures packet { OnOk result (config.now.packet_counter < 256) }
@@ -57,7 +57,7 @@ impl Sides {
 
     /// One of the gateways.
     pub fn side(&self, role: Role) -> &Side
-        ensures { half_of result.now ≡ half_in (kept_of self.now) role }
+        ensures { gateway_record_of result.now ≡ gateway_in (world_record_of self.now) role }
     {
         match role {
             Role::Serving => &self.serving,
@@ -68,8 +68,8 @@ impl Sides {
     /// How many contexts were made for the last message of the datagram of this number, if there is
     /// one, by the gateway that did not send it, since that started.
     pub fn made(&self, number: u64) -> Option<usize>
-        ensures some { IfSome result (λ count. IsMade (kept_of self.now) number count) }
-        ensures none { IfNone result (length (kept_of self.now).log.datagrams ≤ number) }
+        ensures some { IfSome result (λ count. IsMade (world_record_of self.now) number count) }
+        ensures none { IfNone result (length (world_record_of self.now).log.datagrams ≤ number) }
     {
         let index = self.records.find(number)?;
         let datagram = &self.records.datagrams[index];
@@ -82,11 +82,11 @@ impl Sides {
     /// A gateway carries a command out, or refuses it.
     fn does(&mut self, alloc: Global, node: Role, event: &Event) -> Result<EventOutcome, Memory>
         requires command { is_command event.now ≡ true }
-        ensures takes { OnOk result (Takes (kept_of self.old) node
-            (Commanded (command_of event.now)) AsksFor false (kept_of self.new)) }
-        ensures outcome { IfOk result (λ outcome. outcomes_in (kept_of self.new).log
-            ≡ outcomes_in (kept_of self.old).log ++ outcome_of outcome ∷ []) }
-        ensures err { OnErr result (kept_of self.new ≡ kept_of self.old) }
+        ensures takes { OnOk result (StepsOn (world_record_of self.old) node
+            (Commanded (command_of event.now)) AsksFor false (world_record_of self.new)) }
+        ensures outcome { IfOk result (λ outcome. outcomes_in (world_record_of self.new).log
+            ≡ outcomes_in (world_record_of self.old).log ++ outcome_of outcome ∷ []) }
+        ensures err { OnErr result (world_record_of self.new ≡ world_record_of self.old) }
     {
         self.records.make_room(1)?;
         let came = match node {
@@ -107,11 +107,11 @@ impl Sides {
     ) -> Result<EventOutcome, Memory>
         requires room { HasRoom 1 self.old.records }
         requires there { index < length self.old.records.datagrams.items }
-        ensures brings { OnOk result ((found : IsThere (kept_of self.old).log.datagrams index)
-            → BringsFirst (kept_of self.old) found.sent count whole (kept_of self.new)) }
-        ensures outcome { IfOk result (λ outcome. outcomes_in (kept_of self.new).log
-            ≡ outcomes_in (kept_of self.old).log ++ outcome_of outcome ∷ []) }
-        ensures err { OnErr result (kept_of self.new ≡ kept_of self.old) }
+        ensures brings { OnOk result ((found : IsThere (world_record_of self.old).log.datagrams index)
+            → BringsFirst (world_record_of self.old) found.sent count whole (world_record_of self.new)) }
+        ensures outcome { IfOk result (λ outcome. outcomes_in (world_record_of self.new).log
+            ≡ outcomes_in (world_record_of self.old).log ++ outcome_of outcome ∷ []) }
+        ensures err { OnErr result (world_record_of self.new ≡ world_record_of self.old) }
     {
         let datagram = &self.records.datagrams[index];
         let node = datagram.node.other();
@@ -146,10 +146,10 @@ impl Sides {
 
     /// A datagram comes to the gateway that did not send it.
     fn deliver(&mut self, alloc: Global, number: u64) -> Result<EventOutcome, Memory>
-        ensures comes { OnOk result (Comes (kept_of self.old) (Deliver number) (kept_of self.new)) }
-        ensures outcome { IfOk result (λ outcome. outcomes_in (kept_of self.new).log
-            ≡ outcomes_in (kept_of self.old).log ++ outcome_of outcome ∷ []) }
-        ensures err { OnErr result (kept_of self.new ≡ kept_of self.old) }
+        ensures comes { OnOk result (EventLeaves (world_record_of self.old) (Deliver number) (world_record_of self.new)) }
+        ensures outcome { IfOk result (λ outcome. outcomes_in (world_record_of self.new).log
+            ≡ outcomes_in (world_record_of self.old).log ++ outcome_of outcome ∷ []) }
+        ensures err { OnErr result (world_record_of self.new ≡ world_record_of self.old) }
     {
         self.records.make_room(1)?;
         let Some(index) = self.records.find(number) else {
@@ -162,10 +162,10 @@ impl Sides {
     /// The first octets of a datagram come to the gateway that did not send it.
     fn cut(&mut self, alloc: Global, number: u64, count: u64) -> Result<EventOutcome, Memory>
         ensures comes { OnOk result
-            (Comes (kept_of self.old) (Cut number count) (kept_of self.new)) }
-        ensures outcome { IfOk result (λ outcome. outcomes_in (kept_of self.new).log
-            ≡ outcomes_in (kept_of self.old).log ++ outcome_of outcome ∷ []) }
-        ensures err { OnErr result (kept_of self.new ≡ kept_of self.old) }
+            (EventLeaves (world_record_of self.old) (Cut number count) (world_record_of self.new)) }
+        ensures outcome { IfOk result (λ outcome. outcomes_in (world_record_of self.new).log
+            ≡ outcomes_in (world_record_of self.old).log ++ outcome_of outcome ∷ []) }
+        ensures err { OnErr result (world_record_of self.new ≡ world_record_of self.old) }
     {
         self.records.make_room(1)?;
         let Some(index) = self.records.find(number) else {
@@ -180,10 +180,10 @@ impl Sides {
 
     /// A tick passes at a gateway.
     fn tick(&mut self, alloc: Global, node: Role) -> Result<EventOutcome, Memory>
-        ensures ticks { OnOk result (TicksBy (kept_of self.old) node (kept_of self.new)) }
-        ensures outcome { IfOk result (λ outcome. outcomes_in (kept_of self.new).log
-            ≡ outcomes_in (kept_of self.old).log ++ outcome_of outcome ∷ []) }
-        ensures err { OnErr result (kept_of self.new ≡ kept_of self.old) }
+        ensures ticks { OnOk result (TicksBy (world_record_of self.old) node (world_record_of self.new)) }
+        ensures outcome { IfOk result (λ outcome. outcomes_in (world_record_of self.new).log
+            ≡ outcomes_in (world_record_of self.old).log ++ outcome_of outcome ∷ []) }
+        ensures err { OnErr result (world_record_of self.new ≡ world_record_of self.old) }
     {
         self.records.make_room(MOST_RESENT)?;
         let ticked = match node {
@@ -195,10 +195,10 @@ impl Sides {
 
     /// A gateway starts afresh, unless it was restarted 127 times.
     fn restart(&mut self, alloc: Global, node: Role) -> Result<EventOutcome, Memory>
-        ensures comes { OnOk result (Comes (kept_of self.old) (Restart node) (kept_of self.new)) }
-        ensures outcome { IfOk result (λ outcome. outcomes_in (kept_of self.new).log
-            ≡ outcomes_in (kept_of self.old).log ++ outcome_of outcome ∷ []) }
-        ensures err { OnErr result (kept_of self.new ≡ kept_of self.old) }
+        ensures comes { OnOk result (EventLeaves (world_record_of self.old) (Restart node) (world_record_of self.new)) }
+        ensures outcome { IfOk result (λ outcome. outcomes_in (world_record_of self.new).log
+            ≡ outcomes_in (world_record_of self.old).log ++ outcome_of outcome ∷ []) }
+        ensures err { OnErr result (world_record_of self.new ≡ world_record_of self.old) }
     {
         self.records.make_room(1)?;
         let restarts = match node {
@@ -221,24 +221,20 @@ impl Sides {
     /// An event happens.
     pub fn step(&mut self, alloc: Global, event: &Event) -> Result<EventOutcome, Memory>
         ensures comes { OnOk result
-            (Comes (kept_of self.old) (event_of event.now) (kept_of self.new)) }
-        ensures outcome { IfOk result (λ outcome. outcomes_in (kept_of self.new).log
-            ≡ outcomes_in (kept_of self.old).log ++ outcome_of outcome ∷ []) }
-        ensures err { OnErr result (kept_of self.new ≡ kept_of self.old) }
+            (EventLeaves (world_record_of self.old) (event_of event.now) (world_record_of self.new)) }
+        ensures outcome { IfOk result (λ outcome. outcomes_in (world_record_of self.new).log
+            ≡ outcomes_in (world_record_of self.old).log ++ outcome_of outcome ∷ []) }
+        ensures err { OnErr result (world_record_of self.new ≡ world_record_of self.old) }
     {
+        if let Some(node) = event.role() {
+            return self.does(alloc, node, event);
+        }
         match event {
-            Event::CreateSession(_) | Event::DeleteSession(_) => {
-                self.does(alloc, Role::Serving, event)
-            }
-            Event::CreateBearer { .. }
-            | Event::DeleteBearer { .. }
-            | Event::ReleaseSession(_)
-            | Event::EndMarker(_) => self.does(alloc, Role::Packet, event),
-            Event::Echo(node) | Event::SendUser { node, .. } => self.does(alloc, *node, event),
             Event::Tick(node) => self.tick(alloc, *node),
             Event::Deliver(number) => self.deliver(alloc, *number),
             Event::Cut { datagram, length } => self.cut(alloc, *datagram, *length),
             Event::Restart(node) => self.restart(alloc, *node),
+            _ => unreachable!(),
         }
     }
 }

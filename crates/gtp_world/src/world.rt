@@ -3,19 +3,19 @@
 ghost use Rattle.std.specs.Prelude.{◌≡◌, ◌↔◌, ◌≤◌, ◌++◌, [], ◌∷◌, Some, map, length, slice_get};
 ghost use Rattle.std.specs.Prelude.{IsTrue, IfOk, IfErr, IfSome, IfNone, OnOk, OnErr};
 ghost use Rattle.gtp_values.specs.FiniteMap.{Among};
-ghost use Rattle.gtp_machine.specs.Input.{Entry as Packet};
+ghost use Rattle.gtp_machine.specs.Input.{Entry as UserPacket};
 ghost use Rattle.gtp_machine.specs.Exchange.{CanExchange};
 ghost use Rattle.gtp_machine.specs.Safety.{IsOwed};
 ghost use Rattle.gtp_machine.specs.World.{By};
 ghost use Rattle.gtp_gateway.specs.command.CreateSession.{specification};
-ghost use Rattle.gtp_world.specs.Kept.{half_in, outcome_of, outcomes_in, sent_by, entry_by, told_by};
+ghost use Rattle.gtp_world.specs.Record.{gateway_in, outcome_of, outcomes_in, sent_by, entry_by, told_by};
 ghost use Rattle.gtp_world.specs.Events.{event_of};
 ghost use Rattle.gtp_world.specs.Naming.{Pair, pair_of, mutual_pairs, NameEachOther, DoAgree};
-ghost use Rattle.gtp_world.specs.Stepped.{Comes, Follows};
+ghost use Rattle.gtp_world.specs.Stepped.{EventLeaves, EventsLeave};
 ghost use Rattle.gtp_world.specs.Views.{IsMade, IsMadeOnce, IsAnsweredAlike};
 ghost use Rattle.gtp_world.specs.Ends.{IsCutShort, IsStoppedIn};
 ghost use Rattle.gtp_world.specs.Exchange.{exchange_events, CameSoFar, IsExchanged};
-ghost use Rattle.gtp_world.specs.Runs.{begun, IsReached, IsRunOf, RunsOn, IsSafe};
+ghost use Rattle.gtp_world.specs.Runs.{begun, LeftBySomeRun, LeftByRun, ContinuesRun, IsSafe};
 
 use crate::config::WorldConfig;
 use crate::event::{Event, EventOutcome};
@@ -39,23 +39,23 @@ impl Model for World {
     ghost use Rattle.gtp_gateway.specs.tables.Codes.{table_code};
     ghost use Rattle.gtp_tables.specs.contracts.context.Session as session;
     ghost use Rattle.gtp_tables.specs.contracts.context.Bearer as bearer;
-    ghost use Rattle.gtp_world.specs.Kept.{Kept, kept_of};
-    ghost use Rattle.gtp_world.specs.Runs.{IsReached};
+    ghost use Rattle.gtp_world.specs.Record.{WorldRecord, world_record_of};
+    ghost use Rattle.gtp_world.specs.Runs.{LeftBySomeRun};
 
-    ghost Value = { Kept };
+    ghost Value = { WorldRecord };
 
     ghost coded = { Prim.hlevel (codes, table_code, session.the_row.coded, bearer.the_row.coded) };
 
-    ghost view = { λ w. kept_of w.sides };
+    ghost view = { λ w. world_record_of w.sides };
 
-    ghost invariant = { λ w. ∥ IsReached (kept_of w.sides) ∥₁ };
+    ghost invariant = { λ w. ∥ LeftBySomeRun (world_record_of w.sides) ∥₁ };
 }
 
 impl World {
     /// Both gateways, just started; nothing was sent. `Memory` if an allocation was refused.
     pub fn start(alloc: Global, config: &WorldConfig) -> Result<World, Memory>
         ensures begun { IfOk result (λ world. world ≡ begun config.now) }
-        ensures run { IfOk result (λ world. IsRunOf config.now [] world) }
+        ensures run { IfOk result (λ world. LeftByRun config.now [] world) }
     {
         Ok(World {
             sides: Sides::start(alloc, config)?,
@@ -66,11 +66,11 @@ impl World {
     pub fn run(alloc: Global, config: &WorldConfig, events: &[Event]) -> Result<World, RunFault>
         // Exactly: each event leaves what the definitions say, gateway by gateway and octet by octet.
         ensures comes { IfOk result (λ world.
-            Follows (begun config.now) (map event_of events.now) world) }
+            EventsLeave (begun config.now) (map event_of events.now) world) }
         // Faithfully: it is a run of the machine. Each event is a step or a tick of its gateway, and the datagrams
         // are those that these steps send, octet for octet.
         ensures run { IfOk result (λ world.
-            IsRunOf config.now (map event_of events.now) world) }
+            LeftByRun config.now (map event_of events.now) world) }
         // Tunnel safety: contexts that name each other agree; if no delivery was late, each accepted packet
         // was handed in at the other gateway; no session outlives a restart of the peer of which its gateway has
         // received the counter.
@@ -89,9 +89,9 @@ impl World {
     /// error is `At`, with the number of these events that have happened and the world after them; it is never `Start`.
     pub fn resume(self, alloc: Global, events: &[Event]) -> Result<World, RunFault>
         // Each event leaves what the definitions say, gateway by gateway and octet by octet.
-        ensures comes { IfOk result (λ world. Follows self (map event_of events.now) world) }
+        ensures comes { IfOk result (λ world. EventsLeave self (map event_of events.now) world) }
         // They continue each run of the machine that leaves the world before.
-        ensures run { IfOk result (λ world. RunsOn self (map event_of events.now) world) }
+        ensures run { IfOk result (λ world. ContinuesRun self (map event_of events.now) world) }
         // If an allocation was refused, all of this holds for the events before.
         ensures fault { IfErr result (λ fault. IsStoppedIn self (map event_of events.now) fault) }
     {
@@ -109,12 +109,12 @@ impl World {
     /// record of events. `Memory` if an allocation was refused; the world is then as before.
     pub fn step(&mut self, alloc: Global, event: &Event) -> Result<EventOutcome, Memory>
         // It leaves what the definitions say, gateway by gateway and octet by octet.
-        ensures comes { OnOk result (Comes self.old (event_of event.now) self.new) }
+        ensures comes { OnOk result (EventLeaves self.old (event_of event.now) self.new) }
         // Its outcome is the last one recorded.
         ensures outcome { IfOk result (λ outcome. outcomes_in self.new.log
             ≡ outcomes_in self.old.log ++ outcome_of outcome ∷ []) }
         // It continues each run of the machine that leaves the world before.
-        ensures run { OnOk result (RunsOn self.old (event_of event.now ∷ []) self.new) }
+        ensures run { OnOk result (ContinuesRun self.old (event_of event.now ∷ []) self.new) }
         ensures err { OnErr result (self.new ≡ self.old) }
     {
         self.sides.step(alloc, event)
@@ -129,17 +129,17 @@ impl World {
         spec: &SessionSpec,
     ) -> Result<[EventOutcome; 3], Memory>
         // The three events leave what the definitions say.
-        ensures comes { OnOk result (Follows self.old
+        ensures comes { OnOk result (EventsLeave self.old
             (exchange_events (specification spec.now) (length self.old.log.datagrams)) self.new) }
         // They continue each run of the machine that leaves the world before.
-        ensures run { OnOk result (RunsOn self.old
+        ensures run { OnOk result (ContinuesRun self.old
             (exchange_events (specification spec.now) (length self.old.log.datagrams)) self.new) }
         // Their outcomes are the last ones recorded.
         ensures outcomes { IfOk result (λ outcomes. outcomes_in self.new.log
             ≡ outcomes_in self.old.log ++ map outcome_of outcomes) }
         // After a run, if nothing prevents it, they make a new session at both gateways, which carries packets in
         // both directions.
-        ensures fair { (reached : IsReached self.old)
+        ensures fair { (reached : LeftBySomeRun self.old)
             → CanExchange reached.run.world (specification spec.now)
             → IfOk result (λ outcomes. IsExchanged (specification spec.now) self.old reached
             (map outcome_of outcomes) self.new) }
@@ -183,7 +183,7 @@ impl World {
 
     /// The gateway with this role. Allocates nothing.
     pub fn gateway(&self, role: Role) -> &Gateway
-        ensures { result.now ≡ (half_in self.now role).station }
+        ensures { result.now ≡ (gateway_in self.now role).state }
     {
         &self.sides.side(role).gateway
     }
@@ -218,8 +218,8 @@ impl World {
 
     /// Whether two contexts agree: sessions on subscriber, access point, default bearer identity and address; bearers
     /// on their identity, if also their sessions agree. False if a context does not exist. Allocates nothing.
-    pub fn agrees(&self, pair: Mutual) -> bool
-        ensures { IsTrue result ↔ DoAgree self.now (pair_of pair) }
+    pub fn agrees(&self, pair: &Mutual) -> bool
+        ensures { IsTrue result ↔ DoAgree self.now (pair_of pair.now) }
     {
         do_agree(
             self.gateway(Role::Serving),
@@ -240,13 +240,13 @@ impl World {
         let serving = &self.sides.serving.gateway;
         let packet = &self.sides.packet.gateway;
         let pair = Mutuals::of(serving, packet).nth(index)?;
-        Some(do_agree(serving, packet, pair))
+        Some(do_agree(serving, packet, &pair))
     }
 
     /// Whether the packet at this place of `accepted`, counted from 0, was handed in at the other gateway: octet for
     /// octet, for the same TEID, subscriber, access point and bearer. `None` past the end. Allocates nothing.
     pub fn owed(&self, index: usize) -> Option<bool>
-        ensures some { IfSome result (λ owed. (entry : By Packet)
+        ensures some { IfSome result (λ owed. (entry : By UserPacket)
             × (slice_get self.now.log.accepted index ≡ Some entry)
             × (IsTrue owed ↔ IsOwed self.now.log.handed entry.role entry.what)) }
         ensures none { IfNone result (length self.now.log.accepted ≤ index) }

@@ -1,5 +1,5 @@
 -- Commands that were carried out, and commands that were refused.
-use Rattle.std.specs.Prelude.{◌≡◌, ◌↔◌, ℕ, [], ◌∷◌, Option, Some, None, option_map, Result, Err}
+use Rattle.std.specs.Prelude.{◌≡◌, ◌↔◌, ℕ, [], ◌∷◌, Option, Some, None, Result, Err}
 use Rattle.std.specs.FinMap.{get}
 use Rattle.gtp_reliable.specs.Pending.{IsNextFree}
 use Rattle.gtp_machine.specs.declared.role.Role.{Role}
@@ -34,7 +34,7 @@ pub record IsCarriedOut (command : Command) (old : GatewayState) (begun : Begun)
   pub effect : Effect
   pub step : Step old.role old.node (Commanded command) effect
   pub sent : AreSent old.node.config (datagram_by begun.out ∷ []) effect.out.sent
-  pub outcome : effect.outcome ≡ Came_to (outcome_by command (option_map (λ t. t.0) begun.teid))
+  pub outcome : effect.outcome ≡ Came_to (outcome_by command begun.teid)
   pub becomes : new.node ≡ effect.node
   pub role : new.role ≡ old.role
 
@@ -84,6 +84,6 @@ pub record IsAsked (Asks : Effect → Type 0) (old : GatewayState) (begun : Begu
   pub room : HasPendingRoom old.node
   pub asks : Asks effect
   pub sent : AreSent old.node.config (datagram_by begun.out ∷ []) effect.out.sent
-  pub outcome : effect.outcome ≡ Came_to (outcomes.Begun (option_map (λ t. t.0) begun.teid))
+  pub outcome : effect.outcome ≡ Came_to (outcomes.Begun begun.teid)
   pub becomes : new.node ≡ effect.node
   pub role : new.role ≡ old.role

@@ -15,7 +15,7 @@ abbrev pub request_to_create_bearer : OneDrawn → Teid → Session → List ℕ
 request_to_create_bearer drawn session at tft qos number node =
     record {
       purpose = record { asked = CreateBearer; session = Some session; bearer = Some drawn.teid; is_named = not (written at.remote == 0) };
-      change = MakesBearer drawn.draws drawn.teid (pending_dedicated session.0);
-      teid = Some drawn.teid.0;
-      message = Create_bearer_request (bearer_request node at tft qos drawn.teid.0 number);
+      change = MakesBearer drawn.draws drawn.teid (pending_dedicated session);
+      teid = Some drawn.teid;
+      message = Create_bearer_request (bearer_request node at tft qos drawn.teid number);
     }

@@ -50,7 +50,7 @@ abbrev pub request_to_create_session : TwoDrawn → SessionSpec → ℕ → Node
 request_to_create_session drawn s number node =
     record {
       purpose = record { asked = CreateSession drawn.user; session = Some drawn.control; bearer = None; is_named = false };
-      change = MakesSession drawn.draws drawn.control (pending_session_of s) drawn.user (pending_default_of drawn.control.0 s);
-      teid = Some drawn.control.0;
-      message = Create_session_request (session_request node (specification s) drawn.control.0 drawn.user.0 number);
+      change = MakesSession drawn.draws drawn.control (pending_session_of s) drawn.user (pending_default_of drawn.control s);
+      teid = Some drawn.control;
+      message = Create_session_request (session_request node (specification s) drawn.control drawn.user number);
     }

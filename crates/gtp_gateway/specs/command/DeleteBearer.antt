@@ -2,7 +2,7 @@
 use Rattle.std.specs.Prelude.{◌≡◌, ℕ, ◌==◌, not, Some}
 use Rattle.std.specs.FinMap.{get}
 use Rattle.gtp_values.specs.declared.identifiers.Teid.{Teid}
-use Rattle.gtp_machine.specs.Command.{removal_request}
+use Rattle.gtp_machine.specs.Command.{delete_bearer_request_of_bearer}
 use Rattle.gtp_machine.specs.Message.{Delete_bearer_request}
 use Rattle.gtp_machine.specs.Node as nodes
 use Rattle.gtp_machine.specs.Node.{Closing, Session, written}
@@ -13,7 +13,7 @@ use Rattle.gtp_gateway.specs.command.Request.{Request}
 
 -- it is the session's dedicated bearer with the identity
 pub record IsDedicated (node : nodes.Node) (session identity : ℕ) (d : Dedicated) : Type 0 where
-  pub stands : get node.bearers d.teid.0 ≡ Some d.bearer
+  pub stands : get node.bearers d.teid ≡ Some d.bearer
   pub of : d.bearer.session ≡ session
   pub dedicated : d.bearer.kind ≡ nodes.Dedicated
   pub has : d.bearer.identity ≡ Some identity
@@ -24,6 +24,6 @@ request_to_delete_bearer d session at identity number =
     record {
       purpose = record { asked = DeleteBearer; session = Some session; bearer = Some d.teid; is_named = not (written at.remote == 0) };
       change = Replaces d.teid (record d.bearer { state = Closing });
-      teid = Some d.teid.0;
-      message = Delete_bearer_request (removal_request at number identity);
+      teid = Some d.teid;
+      message = Delete_bearer_request (delete_bearer_request_of_bearer at number identity);
     }

@@ -1,7 +1,7 @@
 -- The request to delete a session.
 use Rattle.std.specs.Prelude.{ℕ, ◌==◌, not, Some, None}
 use Rattle.gtp_values.specs.declared.identifiers.Teid.{Teid}
-use Rattle.gtp_machine.specs.Command.{deletion_request}
+use Rattle.gtp_machine.specs.Command.{delete_session_request_of}
 use Rattle.gtp_machine.specs.Message.{Delete_session_request}
 use Rattle.gtp_machine.specs.Node.{Session, written}
 use Rattle.gtp_gateway.specs.declared.command.purpose.Asked.TheVariants.{DeleteSession}
@@ -14,6 +14,6 @@ request_to_delete_session teid session number =
     record {
       purpose = record { asked = DeleteSession; session = Some teid; bearer = None; is_named = not (written session.remote == 0) };
       change = ClosesSession teid session;
-      teid = Some teid.0;
-      message = Delete_session_request (deletion_request session number);
+      teid = Some teid;
+      message = Delete_session_request (delete_session_request_of session number);
     }

@@ -1,7 +1,7 @@
 -- The request to delete a session by its default bearer.
 use Rattle.std.specs.Prelude.{ℕ, ◌==◌, not, Some, None}
 use Rattle.gtp_values.specs.declared.identifiers.Teid.{Teid}
-use Rattle.gtp_machine.specs.Command.{release_request}
+use Rattle.gtp_machine.specs.Command.{delete_bearer_request_of_session}
 use Rattle.gtp_machine.specs.Message.{Delete_bearer_request}
 use Rattle.gtp_machine.specs.Node.{Session, written}
 use Rattle.gtp_gateway.specs.declared.command.purpose.Asked.TheVariants.{DeleteBearer}
@@ -14,6 +14,6 @@ request_to_release_session teid session number =
     record {
       purpose = record { asked = DeleteBearer; session = Some teid; bearer = None; is_named = not (written session.remote == 0) };
       change = ClosesSession teid session;
-      teid = Some teid.0;
-      message = Delete_bearer_request (release_request session number);
+      teid = Some teid;
+      message = Delete_bearer_request (delete_bearer_request_of_session session number);
     }

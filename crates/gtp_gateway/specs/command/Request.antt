@@ -1,5 +1,5 @@
 -- Requests that commands send.
-use Rattle.std.specs.Prelude.{◌≡◌, ℕ, true, Option, Some, option_map}
+use Rattle.std.specs.Prelude.{◌≡◌, ℕ, true, Option, Some}
 use Rattle.gtp_machine.specs.Choice.{IsFreeNumber}
 use Rattle.gtp_machine.specs.Command.{asks}
 use Rattle.gtp_machine.specs.Input.{Effect}
@@ -26,7 +26,7 @@ pub record Request : Type 0 where
 
 -- the request that was built, as its message reads
 abbrev pub request_by : RequestToSend → Request
-request_by r = record { purpose = r.purpose; change = r.change; teid = option_map (λ t. t.0) r.teid; message = control_message r.message }
+request_by r = record { purpose = r.purpose; change = r.change; teid = r.teid; message = control_message r.message }
 
 -- it can be sent with this number: a gateway sends such messages, it is for its purpose, and all other requests wait on
 pub record CanBeSent (number : ℕ) (r : RequestToSend) : Type 0 where

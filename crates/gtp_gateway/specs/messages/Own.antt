@@ -1,11 +1,10 @@
 -- Messages that a gateway sends.
-use Rattle.std.specs.Prelude.{◌≡◌, ◌+◌, ◌≤◌, [], None, length}
+use Rattle.std.specs.Prelude.{◌≡◌, ◌+◌, ◌≤◌, length}
 use Rattle.gtp_v2.specs.declared.message.Message as decoded
 use Rattle.gtp_v2.specs.Body.{message_value, OctetsOnlyWithoutTable}
 use Rattle.gtp_v2.specs.Priority.{PriorityNeedsTeid}
 use Rattle.gtp_v2.specs.Marks.{MeetsMarks}
 use Rattle.gtp_v2.specs.Room.{members}
-use Rattle.gtp_user.specs.declared.message.UserBody.{UserBody}
 use Rattle.gtp_user.specs.declared.message.UserMessage.{UserMessage}
 use Rattle.gtp_user.specs.Message as user_messages
 use Rattle.gtp_user.specs.Encoding as user_encodings
@@ -23,10 +22,6 @@ pub record IsOwn (m : decoded.Message) : Type 0 where
   pub control : plane_of (control_message m) ≡ Control
   pub own : IsOfOwnKind (control_message m)
   pub says : message_value m ≡ control_value (control_message m)
-
--- a message of the user plane with no sequence number, no N-PDU number and no extension headers
-abbrev pub plain_message : UserBody → UserMessage
-plain_message body = record { seq = None; npdu = None; ext = []; body = body }
 
 -- a message of the user plane that a gateway sends: it says just what the machine's message says, and has an encoding that two octets state the length of
 pub record IsUserOwn (m : UserMessage) : Type 0 where

@@ -65,7 +65,7 @@ pub record AreSpelledAll (octets : List ℕ) : Type 0 where
 abbrev pub is_asked : Asked → Purpose → Message → Bool
 is_asked Echo purpose (Echo_request q) = true
 is_asked (CreateSession default) purpose (Create_session_request q) =
-    on (λ t. q.control.teid == t) (session_of purpose) && ((q.context.user.teid == default.0) && ((q.header == 0) && not (is_some purpose.bearer)))
+    on (λ t. q.control.teid == t) (session_of purpose) && ((q.context.user.teid == default) && ((q.header == 0) && not (is_some purpose.bearer)))
 is_asked DeleteSession purpose (Delete_session_request d) = beq purpose.is_named (not (d.header == 0))
 is_asked CreateBearer purpose (Create_bearer_request r) =
     on (λ t. r.context.user.teid == t) (bearer_of purpose) && beq purpose.is_named (not (r.header == 0))

@@ -40,7 +40,7 @@ use Rattle.gtp_gateway.specs.GatewayState.{GatewayState}
 -- what was read of a message is what stands in its rows
 pub record ReadsCreateBearer (m : MessageValue) (r : BearerRequest) : Type 0 where
   pub number : r.seq ≡ m.seq
-  pub header : r.header.0 ≡ written m.teid
+  pub header : r.header ≡ written m.teid
   pub linked : row_of (number_of forms.Ebi) 0 m ≡ OfEbi r.linked ∷ []
   pub first : List (List Value)
   pub further : List (List (List Value))
@@ -51,7 +51,7 @@ pub record ReadsCreateBearer (m : MessageValue) (r : BearerRequest) : Type 0 whe
 -- the machine's message says what was read
 pub record SaysCreateBearer (r : BearerRequest) (q : messages.CreateBearerRequest) : Type 0 where
   pub number : q.number ≡ r.seq
-  pub header : q.header ≡ r.header.0
+  pub header : q.header ≡ r.header
   pub linked : q.linked ≡ r.linked
   pub user : q.context.user ≡ r.user
   pub alone : IsTrue r.is_alone ↔ (q.further ≡ [])
@@ -63,7 +63,7 @@ pub record IsGrant (session : ℕ) (g : BearerGrant) (node : Node) : Type 0 wher
 
 -- the bearer that is granted
 abbrev pub granted_to : BearerRequest → ℕ → Bearer
-granted_to r identity = record { remote = Some r.user.teid; session = r.header.0; identity = Some identity; kind = Dedicated; state = Active; ended = false }
+granted_to r identity = record { remote = Some r.user.teid; session = r.header; identity = Some identity; kind = Dedicated; state = Active; ended = false }
 
 -- the answer to a request, at this node
 abbrev pub bearer_answer : CreateBearerAnswer → ℕ → messages.CreateBearerRequest → Node → Message
@@ -77,7 +77,7 @@ bearer_answer (Granted g) header q old =
       contexts = record {
         identity = g.identity;
         cause = cause_of REQUEST_ACCEPTED;
-        serving_user = Some (tunnel_end 4 g.drawn.teid.0 old.config.own.user);
+        serving_user = Some (tunnel_end 4 g.drawn.teid old.config.own.user);
         packet_user = Some q.context.user;
       } ∷ [];
       recovery = Some old.counter;
@@ -107,7 +107,7 @@ IsChosen session (Granted g) node = IsGrant session g node
 -- the effect that a verdict stands for; without one the session is not active
 abbrev pub create_bearer_effect : Arrival → BearerRequest → messages.CreateBearerRequest → Option CreateBearerVerdict → Node → Effect
 create_bearer_effect request r q None old = dropped old ContextNotActive
-create_bearer_effect request r q (Some v) old = answering (is_granted v.answer) request (bearer_answer v.answer v.header.0 q old ∷ []) (cause_in v.answer) (changed_by (change_for r v.answer) old)
+create_bearer_effect request r q (Some v) old = answering (is_granted v.answer) request (bearer_answer v.answer v.header q old ∷ []) (cause_in v.answer) (changed_by (change_for r v.answer) old)
 
 -- what a verdict chooses
 abbrev pub ChoosesBearer : ℕ → Option CreateBearerVerdict → Node → Type 0
@@ -117,7 +117,7 @@ ChoosesBearer session (Some v) node = IsChosen session v.answer node
 -- the verdict is the machine's, and what it grants may be granted
 pub record JudgesCreateBearer (r : BearerRequest) (old : Node) (v : Option CreateBearerVerdict) : Type 0 where
   pub judged : (request : Arrival) (q : messages.CreateBearerRequest) → SaysCreateBearer r q → BearerJudged request q old (create_bearer_effect request r q v old)
-  pub chosen : ChoosesBearer r.header.0 v old
+  pub chosen : ChoosesBearer r.header v old
 
 -- the session under a TEID is the one that was found, and where there is one its bearers have the identities that they have among others; the draws are those of
 -- another node, and all bearers stand there
@@ -142,4 +142,6 @@ CanGive found (Granted g) node = (s : Session) × (found ≡ Some s) × (s.state
 
 -- a Create Bearer Request was taken
 abbrev pub TakesCreateBearerRequest : Endpoint → List ℕ → BearerRequest → GatewayState → ControlStep → GatewayState → Type 0
-TakesCreateBearerRequest source octets r old step new = (q : messages.CreateBearerRequest) → SaysCreateBearer r q → IsRow (CreateBearerAsked (arrival_of source octets) q) (arrival_of source octets) old.role old.node step new
+TakesCreateBearerRequest source octets r old step new =
+    (q : messages.CreateBearerRequest) → SaysCreateBearer r q
+    → IsRow (CreateBearerAsked (arrival_of source octets) q) (arrival_of source octets) old.role old.node step new

@@ -42,7 +42,7 @@ SaysOnlyGiven (Some c) contexts = (k : GivenBearer) × (contexts ≡ k ∷ []) �
 -- the machine's message says what was read
 pub record SaysCreateBearerResponse (r : BearerResponse) (x : messages.CreateBearerResponse) : Type 0 where
   pub number : x.number ≡ r.response.seq
-  pub header : x.header ≡ r.response.header.0
+  pub header : x.header ≡ r.response.header
   pub cause : x.cause ≡ r.response.cause
   pub contexts : SaysOnlyGiven r.context x.contexts
 
@@ -63,8 +63,8 @@ pub record FitsCreateBearerOf (purpose : Purpose) (r : Response) : Type 0 where
 pub record IsAskedBearer (purpose : Purpose) (r : Response) (k : AskedBearer) : Type 0 where
   pub asked : purpose.asked ≡ CreateBearer
   pub names : Names r purpose
-  pub session : session_of purpose ≡ Some k.session.0
-  pub bearer : bearer_of purpose ≡ Some k.bearer.0
+  pub session : session_of purpose ≡ Some k.session
+  pub bearer : bearer_of purpose ≡ Some k.bearer
 
 -- the identity is 5 to 15 and not in use in the session, which stands and is not closing
 pub record CanOpenIn (sessions : FiniteMap Session) (bearers : FiniteMap Bearer) (session identity : ℕ) : Type 0 where
@@ -81,4 +81,6 @@ pub record JudgesCreateBearerResponse (r : BearerResponse) (old : Node) (v : Res
 
 -- a Create Bearer Response was taken
 abbrev pub TakesCreateBearerResponse : BearerResponse → Heard → GatewayState → ControlStep → GatewayState → Type 0
-TakesCreateBearerResponse r heard old step new = (request : Arrival) (x : messages.CreateBearerResponse) → SaysCreateBearerResponse r x → IsRow (CreateBearerAnswered x) request old.role (node_heard heard old.node) step new
+TakesCreateBearerResponse r heard old step new =
+    (request : Arrival) (x : messages.CreateBearerResponse) → SaysCreateBearerResponse r x
+    → IsRow (CreateBearerAnswered x) request old.role (node_heard heard old.node) step new

@@ -100,7 +100,7 @@ session_granted r g = record { remote = Some r.control.teid; subscriber = record
 
 -- its default bearer
 abbrev pub bearer_granted : SessionRequest → SessionGrant → Bearer
-bearer_granted r g = record { remote = Some r.default.user.teid; session = g.drawn.control.0; identity = Some g.identity; kind = Default; state = Active; ended = false }
+bearer_granted r g = record { remote = Some r.default.user.teid; session = g.drawn.control; identity = Some g.identity; kind = Default; state = Active; ended = false }
 
 -- what changes
 abbrev pub change_of : SessionRequest → SessionGrant → Change
@@ -108,29 +108,39 @@ change_of r g = changes.MakesSession g.drawn.draws g.drawn.control (session_gran
 
 -- the answer that grants it
 abbrev pub grants : SessionRequest → SessionGrant → Node → Message
-grants r g node = Create_session_response (granted r (tunnel_end 7 g.drawn.control.0 node.config.own.control) (tunnel_end 5 g.drawn.user.0 node.config.own.user) g.address node.counter)
+grants r g node = Create_session_response (granted r (tunnel_end 7 g.drawn.control node.config.own.control) (tunnel_end 5 g.drawn.user node.config.own.user) g.address node.counter)
 
 -- the request of the template's bearer, at a node where its session was made
 abbrev pub asked_with : Session → AddedBearer → Node → messages.CreateBearerRequest
-asked_with s a made = bearer_request made s a.template.tft a.template.qos a.drawn.teid.0 a.seq
+asked_with s a made = bearer_request made s a.template.tft a.template.qos a.drawn.teid a.seq
 
 -- a session that was made is answered together with that request, which waits from now on
 abbrev pub with_bearer : Arrival → messages.CreateSessionResponse → ℕ → ℕ → Session → AddedBearer → Node → Effect
-with_bearer request answer cause session s a made = making request (Create_session_response answer ∷ Create_bearer_request (asked_with s a made) ∷ []) cause (create_bearer_asked made session (asked_with s a made) a.drawn.teid.0)
+with_bearer request answer cause session s a made =
+    making request (Create_session_response answer ∷ Create_bearer_request (asked_with s a made) ∷ []) cause
+    (create_bearer_asked made session (asked_with s a made) a.drawn.teid)
 
 -- bearers with the default bearer of a session that is granted, and the bearer of the template
 abbrev pub bearers_with : SessionRequest → SessionGrant → AddedBearer → FiniteMap Bearer → FiniteMap Bearer
-bearers_with r g a bearers = insert (insert bearers g.drawn.user.0 (bearer_granted r g)) a.drawn.teid.0 (pending_dedicated g.drawn.control.0)
+bearers_with r g a bearers = insert (insert bearers g.drawn.user (bearer_granted r g)) a.drawn.teid (pending_dedicated g.drawn.control)
 
 -- the node with the session and both, after three draws
 abbrev pub made_with : SessionRequest → SessionGrant → AddedBearer → Node → Node
-made_with r g a node = record node { drawn = a.drawn.teid.0 ∷ g.drawn.user.0 ∷ g.drawn.control.0 ∷ node.drawn; sessions = insert node.sessions g.drawn.control.0 (session_granted r g); bearers = bearers_with r g a node.bearers }
+made_with r g a node = record node {
+  drawn = a.drawn.teid ∷ g.drawn.user ∷ g.drawn.control ∷ node.drawn;
+  sessions = insert node.sessions g.drawn.control (session_granted r g);
+  bearers = bearers_with r g a node.bearers;
+}
 
 -- the effect that a verdict stands for, at a gateway that has heard the counter
 abbrev pub create_session_effect : Arrival → messages.CreateSessionRequest → CreateSessionVerdict → Node → Effect
 create_session_effect request q (Refused cause) n = session_refused request q cause n
-create_session_effect request q (Granted g) n = making request (Create_session_response (session_response n q g.drawn.control.0 g.drawn.user.0 g.address) ∷ []) (session_cause q.pdn g.address) (session_made n q g.drawn.control.0 g.drawn.user.0 g.address)
-create_session_effect request q (GrantedWith g a) n = with_bearer request (session_response n q g.drawn.control.0 g.drawn.user.0 g.address) (session_cause q.pdn g.address) g.drawn.control.0 (made_session q g.address) a (session_made n q g.drawn.control.0 g.drawn.user.0 g.address)
+create_session_effect request q (Granted g) n =
+    making request (Create_session_response (session_response n q g.drawn.control g.drawn.user g.address) ∷ []) (session_cause q.pdn g.address)
+    (session_made n q g.drawn.control g.drawn.user g.address)
+create_session_effect request q (GrantedWith g a) n =
+    with_bearer request (session_response n q g.drawn.control g.drawn.user g.address) (session_cause q.pdn g.address)
+    g.drawn.control (made_session q g.address) a (session_made n q g.drawn.control g.drawn.user g.address)
 
 -- the template's bearer can be begun besides: a third TEID may be drawn, and once the counter was heard fewer than 256 requests wait, and the number is the next
 -- that is free; no two that wait have one number
@@ -166,18 +176,22 @@ RoomJudged request q old e =
 -- the verdict is the machine's by the last rule, for a request of this access point
 pub record JudgesAdded (name : List ℕ) (g : SessionGrant) (heard : Heard) (s : GatewayState) (v : CreateSessionVerdict) : Type 0 where
   pub judged : (request : Arrival) (q : messages.CreateSessionRequest) → q.access_point ≡ name
-      → AnswersWith (template_for q.access_point (node_heard heard s.node).config.templates) request (session_response (node_heard heard s.node) q g.drawn.control.0 g.drawn.user.0 g.address) (session_cause q.pdn g.address) g.drawn.control.0 (made_session q g.address)
-      (session_made (node_heard heard s.node) q g.drawn.control.0 g.drawn.user.0 g.address) (create_session_effect request q v (node_heard heard s.node))
+      → AnswersWith (template_for q.access_point (node_heard heard s.node).config.templates) request
+      (session_response (node_heard heard s.node) q g.drawn.control g.drawn.user g.address) (session_cause q.pdn g.address)
+      g.drawn.control (made_session q g.address)
+      (session_made (node_heard heard s.node) q g.drawn.control g.drawn.user g.address) (create_session_effect request q v (node_heard heard s.node))
   pub is : (identity pdn : ℕ) → ChoosesSession identity pdn g heard s.node → IsVerdict identity pdn v heard s
 
 -- the verdict is the machine's by the last rules, for a request of this PDN type and this access point
 pub record JudgesRoom (identity pdn : ℕ) (name : List ℕ) (heard : Heard) (s : GatewayState) (v : CreateSessionVerdict) : Type 0 where
-  pub judged : (request : Arrival) (q : messages.CreateSessionRequest) → q.pdn ≡ pdn → q.access_point ≡ name → RoomJudged request q (node_heard heard s.node) (create_session_effect request q v (node_heard heard s.node))
+  pub judged : (request : Arrival) (q : messages.CreateSessionRequest) → q.pdn ≡ pdn → q.access_point ≡ name
+      → RoomJudged request q (node_heard heard s.node) (create_session_effect request q v (node_heard heard s.node))
   pub is : IsVerdict identity pdn v heard s
 
 -- the verdict is the machine's
 pub record JudgesCreateSession (r : SessionRequest) (heard : Heard) (s : GatewayState) (v : CreateSessionVerdict) : Type 0 where
-  pub judged : (request : Arrival) (q : messages.CreateSessionRequest) → SaysCreateSession r q → SessionJudged request q (node_heard heard s.node) (create_session_effect request q v (node_heard heard s.node))
+  pub judged : (request : Arrival) (q : messages.CreateSessionRequest) → SaysCreateSession r q
+      → SessionJudged request q (node_heard heard s.node) (create_session_effect request q v (node_heard heard s.node))
   pub is : IsVerdict r.default.identity r.pdn.0 v heard s
 
 -- a request was answered with a datagram of these messages, which is held, and left this node; a context was made for it, or not
@@ -191,11 +205,15 @@ pub record IsAnsweredSo (source : Endpoint) (octets : List ℕ) (answer : List M
 
 -- it was refused
 abbrev pub IsRefusedSession : Endpoint → List ℕ → SessionRequest → Cause → Heard → GatewayState → ControlStep → GatewayState → Type 0
-IsRefusedSession source octets r cause heard old step new = IsAnsweredSo source octets (refusing types.CreateSessionRequest r.control.teid r.seq cause old.node.counter ∷ []) cause.value false (node_heard heard old.node) old step new
+IsRefusedSession source octets r cause heard old step new =
+    IsAnsweredSo source octets (refusing types.CreateSessionRequest r.control.teid r.seq cause old.node.counter ∷ []) cause.value false
+    (node_heard heard old.node) old step new
 
 -- it was granted
 abbrev pub IsGrantedSession : Endpoint → List ℕ → SessionRequest → SessionGrant → Heard → GatewayState → ControlStep → GatewayState → Type 0
-IsGrantedSession source octets r g heard old step new = IsAnsweredSo source octets (grants r g old.node ∷ []) (session_cause r.pdn.0 g.address) true (changed_by (change_of r g) (node_heard heard old.node)) old step new
+IsGrantedSession source octets r g heard old step new =
+    IsAnsweredSo source octets (grants r g old.node ∷ []) (session_cause r.pdn.0 g.address) true
+    (changed_by (change_of r g) (node_heard heard old.node)) old step new
 
 -- the answer that grants it, and the request of the template's bearer
 abbrev pub grants_with : SessionRequest → SessionGrant → AddedBearer → Node → List Message
@@ -205,8 +223,10 @@ grants_with r g a node = grants r g node ∷ Create_bearer_request (asked_with (
 abbrev pub IsGrantedWith : Endpoint → List ℕ → SessionRequest → SessionGrant → AddedBearer → Heard → GatewayState → ControlStep → GatewayState → Type 0
 IsGrantedWith source octets r g a heard old step new =
     IsAnsweredSo source octets (grants_with r g a old.node) (session_cause r.pdn.0 g.address) true
-    (create_bearer_asked (changed_by (change_of r g) (node_heard heard old.node)) g.drawn.control.0 (asked_with (session_granted r g) a old.node) a.drawn.teid.0) old step new
+    (create_bearer_asked (changed_by (change_of r g) (node_heard heard old.node)) g.drawn.control (asked_with (session_granted r g) a old.node) a.drawn.teid) old step new
 
 -- a Create Session Request was taken
 abbrev pub TakesCreateSessionRequest : Endpoint → List ℕ → SessionRequest → Heard → GatewayState → ControlStep → GatewayState → Type 0
-TakesCreateSessionRequest source octets r heard old step new = (q : messages.CreateSessionRequest) → SaysCreateSession r q → IsRow (CreateSessionAsked (arrival_of source octets) q) (arrival_of source octets) old.role (node_heard heard old.node) step new
+TakesCreateSessionRequest source octets r heard old step new =
+    (q : messages.CreateSessionRequest) → SaysCreateSession r q
+    → IsRow (CreateSessionAsked (arrival_of source octets) q) (arrival_of source octets) old.role (node_heard heard old.node) step new

@@ -42,7 +42,7 @@ SaysOnlyCreated (Some c) contexts = (k : CreatedBearer) × (contexts ≡ k ∷ [
 -- the machine's message says what was read
 pub record SaysCreateSessionResponse (r : SessionResponse) (a : messages.CreateSessionResponse) : Type 0 where
   pub number : a.number ≡ r.response.seq
-  pub header : a.header ≡ r.response.header.0
+  pub header : a.header ≡ r.response.header
   pub cause : a.cause ≡ r.response.cause
   pub control : teid_in a.control ≡ r.control
   pub address : address_of a.address ≡ r.address
@@ -58,13 +58,13 @@ pub record ReadsCreateSessionResponse (m : MessageValue) (r : SessionResponse) :
 pub record FitsCreateSessionOf (purpose : Purpose) (r : Response) : Type 0 where
   pub default : Teid
   pub asked : purpose.asked ≡ CreateSession default
-  pub named : session_of purpose ≡ Some r.header.0
+  pub named : session_of purpose ≡ Some r.header
 
 -- the request asks for this session, which the response names
 pub record IsAskedSession (purpose : Purpose) (r : Response) (k : AskedSession) : Type 0 where
   pub asked : purpose.asked ≡ CreateSession k.bearer
-  pub session : session_of purpose ≡ Some k.session.0
-  pub named : k.session.0 ≡ r.header.0
+  pub session : session_of purpose ≡ Some k.session
+  pub named : k.session ≡ r.header
 
 -- the session stands, and the response has one bearer context, of its default identity, and an address
 pub record IsDescribed (sessions : FiniteMap Session) (session : ℕ) (r : SessionResponse) (d : DescribedSession) : Type 0 where
@@ -77,7 +77,7 @@ pub record IsDescribed (sessions : FiniteMap Session) (session : ℕ) (r : Sessi
 abbrev pub IsOfSession : ResponseVerdict → Node → Type 0
 IsOfSession (Drops why) node = Unit {0}
 IsOfSession (Finishes purpose outcome) node = bearer_of purpose ≡ None
-IsOfSession (OpensSession session opened teid bearer) node = (b : Bearer) → get node.bearers teid.0 ≡ Some b → bearer.identity ≡ b.identity
+IsOfSession (OpensSession session opened teid bearer) node = (b : Bearer) → get node.bearers teid ≡ Some b → bearer.identity ≡ b.identity
 IsOfSession (OpensBearer teid bearer) node = ⊥
 
 -- the verdict is the machine's, and can be carried out
@@ -89,10 +89,13 @@ pub record JudgesCreateSessionResponse (r : SessionResponse) (old : Node) (v : R
 -- the verdict is the machine's once the counter was heard, and can be carried out: with a counter of an earlier start the response is dropped
 pub record JudgesAnswer (r : SessionResponse) (heard : Heard) (old : Node) (v : ResponseVerdict) : Type 0 where
   pub early : IsEarlier heard → v ≡ Drops OldCounter
-  pub judged : (IsEarlier heard → ⊥) → (a : messages.CreateSessionResponse) → SaysCreateSessionResponse r a → CreateSessionAnswered a (node_heard heard old) (effect_by v a.number (node_heard heard old))
+  pub judged : (IsEarlier heard → ⊥) → (a : messages.CreateSessionResponse) → SaysCreateSessionResponse r a
+      → CreateSessionAnswered a (node_heard heard old) (effect_by v a.number (node_heard heard old))
   pub can : CanApply v (node_heard heard old)
   pub of : IsOfSession v (node_heard heard old)
 
 -- a Create Session Response was taken
 abbrev pub TakesCreateSessionResponse : SessionResponse → Heard → GatewayState → ControlStep → GatewayState → Type 0
-TakesCreateSessionResponse r heard old step new = (request : Arrival) (a : messages.CreateSessionResponse) → SaysCreateSessionResponse r a → IsRow (CreateSessionAnswered a) request old.role (node_heard heard old.node) step new
+TakesCreateSessionResponse r heard old step new =
+    (request : Arrival) (a : messages.CreateSessionResponse) → SaysCreateSessionResponse r a
+    → IsRow (CreateSessionAnswered a) request old.role (node_heard heard old.node) step new

@@ -35,7 +35,7 @@ use Rattle.gtp_gateway.specs.GatewayState.{GatewayState}
 
 -- the machine's Delete Bearer Request that was read, with these identities in its list
 abbrev pub delete_bearer_by : DeleteRequest → List ℕ → messages.DeleteBearerRequest
-delete_bearer_by r identities = record { header = r.header.0; number = r.seq; linked = r.linked; identities = identities }
+delete_bearer_by r identities = record { header = r.header; number = r.seq; linked = r.linked; identities = identities }
 
 -- the identities in the list of a message
 abbrev pub identities_of : MessageValue → List ℕ
@@ -49,7 +49,7 @@ number_in i = i.0
 -- the bearer that goes for it has this TEID
 abbrev pub is_at : ℕ → Option Teid → Bool
 is_at t None = false
-is_at t (Some teid) = t == teid.0
+is_at t (Some teid) = t == teid
 
 abbrev pub goes_for : ℕ → NamedBearer → Bool
 goes_for t n = is_at t n.teid
@@ -65,7 +65,7 @@ was_named t named = list_any (goes_for t) named
 -- the session's dedicated bearer with the identity goes for it, which goes for none before; where none goes, each that has the identity goes for one before
 abbrev pub NamesOne : Node → ℕ → List NamedBearer → ℕ → Option Teid → Type 0
 NamesOne old session before identity None = (named : NamesBearer old session identity) → was_named named.key before ≡ true
-NamesOne old session before identity (Some teid) = (named : NamesBearer old session identity) × (named.key ≡ teid.0) × (was_named teid.0 before ≡ false)
+NamesOne old session before identity (Some teid) = (named : NamesBearer old session identity) × (named.key ≡ teid) × (was_named teid before ≡ false)
 
 -- each of them in turn
 abbrev pub NamesEach : Node → ℕ → List NamedBearer → List NamedBearer → Type 0
@@ -89,7 +89,7 @@ context_by n = record { ebi = n.identity; cause = cause_of (cause_named n.teid) 
 -- the node without the bearer that goes, if one does
 abbrev pub without_named : Option Teid → Node → Node
 without_named None node = node
-without_named (Some teid) node = without_bearer node teid.0
+without_named (Some teid) node = without_bearer node teid
 
 -- the node without all that go
 abbrev pub without_each : List NamedBearer → Node → Node
@@ -100,12 +100,20 @@ without_each (n ∷ named) node = without_each named (without_named n.teid node)
 
 -- the effect that an answer without bearer contexts stands for, to a request with this number
 abbrev pub delete_bearer_effect : Arrival → ℕ → DeleteBearerAnswer → Node → Effect
-delete_bearer_effect request number a old = answered request (Delete_bearer_response (record { header = a.header.0; number = number; cause = cause_of a.cause; linked = a.linked; contexts = []; recovery = Some old.counter })) a.cause (changed_by a.change old)
+delete_bearer_effect request number a old =
+    answered request (Delete_bearer_response (record {
+      header = a.header;
+      number = number;
+      cause = cause_of a.cause;
+      linked = a.linked;
+      contexts = [];
+      recovery = Some old.counter;
+    })) a.cause (changed_by a.change old)
 
 -- the request names dedicated bearers of a session that was opened, whose remote goes into the header of the answer
 pub record IsForBearers (r : DeleteRequest) (header : ℕ) (old : Node) : Type 0 where
   pub session : Session
-  pub stands : get old.sessions r.header.0 ≡ Some session
+  pub stands : get old.sessions r.header ≡ Some session
   pub opened : session.state ≢ Pending
   pub unlinked : r.linked ≡ None
   pub named : header ≡ written session.remote
@@ -119,15 +127,17 @@ pub record JudgesAnswer (r : DeleteRequest) (old : Node) (a : DeleteBearerAnswer
 abbrev pub JudgesDeleteBearer : DeleteRequest → Node → DeleteBearerVerdict → Type 0
 JudgesDeleteBearer r old NotOpened = (request : Arrival) (identities : List ℕ) → DeleteBearerJudged request (delete_bearer_by r identities) old (dropped old ContextNotActive)
 JudgesDeleteBearer r old (Answered answer) = JudgesAnswer r old answer
-JudgesDeleteBearer r old (Bearers header) = IsForBearers r header.0 old
+JudgesDeleteBearer r old (Bearers header) = IsForBearers r header old
 
 -- a request with this number was answered so
 abbrev pub AnswersDeleteBearer : Endpoint → List ℕ → ℕ → DeleteBearerAnswer → GatewayState → ControlStep → GatewayState → Type 0
-AnswersDeleteBearer source octets number answer old step new = IsRow (λ node e. e ≡ delete_bearer_effect (arrival_of source octets) number answer node) (arrival_of source octets) old.role old.node step new
+AnswersDeleteBearer source octets number answer old step new =
+    IsRow (λ node e. e ≡ delete_bearer_effect (arrival_of source octets) number answer node) (arrival_of source octets) old.role old.node step new
 
 -- a Delete Bearer Request with these identities was taken
 abbrev pub EndsNamed : Endpoint → List ℕ → DeleteRequest → List EbiValue → GatewayState → ControlStep → GatewayState → Type 0
-EndsNamed source octets r identities old step new = IsRow (DeleteBearerJudged (arrival_of source octets) (delete_bearer_by r (map number_in identities))) (arrival_of source octets) old.role old.node step new
+EndsNamed source octets r identities old step new =
+    IsRow (DeleteBearerJudged (arrival_of source octets) (delete_bearer_by r (map number_in identities))) (arrival_of source octets) old.role old.node step new
 
 -- a Delete Bearer Request was taken, with the identities in the list of its message
 abbrev pub TakesDeleteBearerRequest : Endpoint → List ℕ → MessageValue → DeleteRequest → GatewayState → ControlStep → GatewayState → Type 0

@@ -11,5 +11,5 @@ use Rattle.gtp_gateway.specs.declared.receive.delete_request.DeleteRequest.{Dele
 -- what was read of a message is what stands in its rows
 pub record ReadsDelete (m : MessageValue) (r : DeleteRequest) : Type 0 where
   pub number : r.seq ≡ m.seq
-  pub header : r.header.0 ≡ written m.teid
+  pub header : r.header ≡ written m.teid
   pub linked : has_row m.kind (number_of forms.Ebi) 0 ≡ true → option_map (λ e. OfEbi e) r.linked ≡ front_value (row_of (number_of forms.Ebi) 0 m)

@@ -18,11 +18,13 @@ use Rattle.gtp_gateway.specs.GatewayState.{GatewayState}
 
 -- the machine's Delete Session Request that was read
 abbrev pub delete_session_by : DeleteRequest → messages.DeleteSessionRequest
-delete_session_by r = record { header = r.header.0; number = r.seq; linked = r.linked }
+delete_session_by r = record { header = r.header; number = r.seq; linked = r.linked }
 
 -- the effect that a verdict stands for
 abbrev pub delete_session_effect : Arrival → messages.DeleteSessionRequest → DeleteSessionVerdict → Node → Effect
-delete_session_effect request d v old = answered request (Delete_session_response (record { header = v.header.0; number = d.number; cause = cause_of v.cause; recovery = Some old.counter })) v.cause (changed_by v.change old)
+delete_session_effect request d v old =
+    answered request (Delete_session_response (record { header = v.header; number = d.number; cause = cause_of v.cause; recovery = Some old.counter })) v.cause
+    (changed_by v.change old)
 
 -- the verdict is the machine's, and what it changes can change
 pub record JudgesDeleteSession (r : DeleteRequest) (old : Node) (v : DeleteSessionVerdict) : Type 0 where

@@ -5,17 +5,11 @@ use Rattle.gtp_values.specs.declared.address.Endpoint.{Endpoint}
 use Rattle.gtp_machine.specs.Answer.{echoed}
 use Rattle.gtp_machine.specs.Response.{EchoAnswered}
 use Rattle.gtp_machine.specs.Node.{Arrival}
-use Rattle.gtp_gateway.specs.declared.command.purpose.Purpose.{Purpose}
-use Rattle.gtp_gateway.specs.declared.command.purpose.Asked.TheVariants.{Echo}
 use Rattle.gtp_gateway.specs.declared.step.ControlStep.{ControlStep}
 use Rattle.gtp_gateway.specs.declared.receive.restart_counter.Heard.{Heard}
 use Rattle.gtp_gateway.specs.receive.RestartCounter.{node_heard}
 use Rattle.gtp_gateway.specs.GatewayState.{GatewayState}
 use Rattle.gtp_gateway.specs.receive.Row.{IsRow}
-
--- the request is an Echo Request
-abbrev pub FitsEcho : Purpose → Type 0
-FitsEcho purpose = purpose.asked ≡ Echo
 
 -- an Echo Request was taken
 abbrev pub AnswersEcho : Endpoint → ℕ → Heard → GatewayState → ControlStep → GatewayState → Type 0

@@ -28,7 +28,7 @@ defect_of OutOfRange = Out_of_range
 abbrev pub fault_of : FaultyRequest → inputs.FaultyRequest
 fault_of f = record {
   kind = f.kind;
-  header = f.header.0;
+  header = f.header;
   number = f.seq;
   defect = defect_of f.defect;
   element = f.element;

@@ -35,7 +35,7 @@ node_after_first heard verdict number node = node_by verdict number (node_heard 
 abbrev pub session_left : ResponseVerdict → ℕ → Option Session → Option Session
 session_left (Drops why) teid before = before
 session_left (Finishes purpose outcome) teid before = if goes_with_session teid purpose then None else before
-session_left (OpensSession session opened at bearer) teid before = if session.0 == teid then Some opened else before
+session_left (OpensSession session opened at bearer) teid before = if session == teid then Some opened else before
 session_left (OpensBearer at bearer) teid before = before
 
 -- the session was not opened, where the peer has restarted
@@ -47,8 +47,8 @@ IsSpared heard session sessions = Unit {0}
 abbrev pub IsBeside : ResponseVerdict → ℕ → Bearer → Type 0
 IsBeside (Drops why) teid b = Unit {0}
 IsBeside (Finishes purpose outcome) teid b = (bearer_of purpose ≡ None) × ((session : ℕ) → session_of purpose ≡ Some session → b.session ≢ session)
-IsBeside (OpensSession session opened at bearer) teid b = teid ≢ at.0
-IsBeside (OpensBearer at bearer) teid b = teid ≢ at.0
+IsBeside (OpensSession session opened at bearer) teid b = teid ≢ at
+IsBeside (OpensBearer at bearer) teid b = teid ≢ at
 
 -- a bearer that is put in before the counter is heard and the response is applied stays as it is
 pub record MayStand (heard : Heard) (verdict : ResponseVerdict) (teid : ℕ) (b : Bearer) (old : Node) : Type 0 where

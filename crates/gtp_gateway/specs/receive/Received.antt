@@ -86,7 +86,8 @@ IsReceived User source octets old step new = IsReceivedOnce User source octets o
 -- whatever two steps there are on a pair, one of them sends or opens
 abbrev pub EitherSendsOrOpens : Endpoint → List ℕ → CreateSessionResponse → CreateBearerRequest → GatewayState → Type 0
 EitherSendsOrOpens source octets answer asked old =
-    (first second : Effect) → MachineStep old.role old.node (first_comes source octets answer) first → MachineStep old.role first.node (second_comes source octets asked) second → SendsOrOpens first ⊎ SendsOrOpens second
+    (first second : Effect) → MachineStep old.role old.node (first_comes source octets answer) first
+    → MachineStep old.role first.node (second_comes source octets asked) second → SendsOrOpens first ⊎ SendsOrOpens second
 
 -- where no memory could be had for a datagram of the control plane, something was to be sent for it, or a context was to be opened
 abbrev pub ControlMayRunOut : Endpoint → List ℕ → GatewayState → Type 0

@@ -12,11 +12,15 @@ use Rattle.gtp_gateway.specs.declared.tables.change.Change.TheVariants.{Stays, R
 -- the node after a change
 abbrev pub changed_by : Change → Node → Node
 changed_by Stays node = node
-changed_by (Replaces teid bearer) node = record node { bearers = insert node.bearers teid.0 bearer }
-changed_by (MakesBearer draws teid bearer) node = record node { drawn = teid.0 ∷ node.drawn; bearers = insert node.bearers teid.0 bearer }
-changed_by (MakesSession draws control session user bearer) node = record node { drawn = user.0 ∷ control.0 ∷ node.drawn; sessions = insert node.sessions control.0 session; bearers = insert node.bearers user.0 bearer }
-changed_by (ClosesSession teid session) node = session_closing node teid.0 session
-changed_by (RemovesSession session) node = without_session node session.0
+changed_by (Replaces teid bearer) node = record node { bearers = insert node.bearers teid bearer }
+changed_by (MakesBearer draws teid bearer) node = record node { drawn = teid ∷ node.drawn; bearers = insert node.bearers teid bearer }
+changed_by (MakesSession draws control session user bearer) node = record node {
+  drawn = user ∷ control ∷ node.drawn;
+  sessions = insert node.sessions control session;
+  bearers = insert node.bearers user bearer;
+}
+changed_by (ClosesSession teid session) node = session_closing node teid session
+changed_by (RemovesSession session) node = without_session node session
 
 -- whether all requests wait on after a change
 abbrev pub keeps_requests : Change → Bool
@@ -46,8 +50,8 @@ pub record CanMakeSession (draws : Drawn) (control user : ℕ) (node : Node) : T
 -- what a change needs: a bearer is put in the place of one with the same remote, and a session that closes stands
 abbrev pub CanChange : Change → Node → Type 0
 CanChange Stays node = Unit {0}
-CanChange (Replaces teid bearer) node = IsAt node.bearers teid.0 bearer.remote
-CanChange (MakesBearer draws teid bearer) node = AreDraws draws (teid.0 ∷ []) node × IsAbove node.bearers teid.0
-CanChange (MakesSession draws control session user bearer) node = CanMakeSession draws control.0 user.0 node
-CanChange (ClosesSession teid session) node = IsSome (get node.sessions teid.0)
+CanChange (Replaces teid bearer) node = IsAt node.bearers teid bearer.remote
+CanChange (MakesBearer draws teid bearer) node = AreDraws draws (teid ∷ []) node × IsAbove node.bearers teid
+CanChange (MakesSession draws control session user bearer) node = CanMakeSession draws control user node
+CanChange (ClosesSession teid session) node = IsSome (get node.sessions teid)
 CanChange (RemovesSession session) node = Unit {0}

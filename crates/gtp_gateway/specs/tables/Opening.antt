@@ -48,14 +48,18 @@ outcome_by (OpensBearer teid bearer) = Opened
 
 -- a node with this bearer
 abbrev pub with_bearer : Teid → Bearer → Node → Node
-with_bearer teid bearer node = record node { bearers = insert node.bearers teid.0 bearer }
+with_bearer teid bearer node = record node { bearers = insert node.bearers teid bearer }
 
 -- the node after a verdict on the response with the number
 abbrev pub node_by : ResponseVerdict → ℕ → Node → Node
 node_by (Drops why) number node = node
 node_by (Finishes purpose outcome) number node = finished_about node number (session_of purpose) (bearer_of purpose)
-node_by (OpensSession session opened teid bearer) number node = record node { sessions = insert node.sessions session.0 opened; bearers = insert node.bearers teid.0 bearer; pending = remove node.pending number }
-node_by (OpensBearer teid bearer) number node = record node { bearers = insert node.bearers teid.0 bearer; pending = remove node.pending number }
+node_by (OpensSession session opened teid bearer) number node = record node {
+  sessions = insert node.sessions session opened;
+  bearers = insert node.bearers teid bearer;
+  pending = remove node.pending number;
+}
+node_by (OpensBearer teid bearer) number node = record node { bearers = insert node.bearers teid bearer; pending = remove node.pending number }
 
 -- the effect that a verdict stands for
 abbrev pub effect_by : ResponseVerdict → ℕ → Node → Effect
@@ -72,5 +76,5 @@ pub record IsOpenedAt (bearers : FiniteMap Bearer) (teid : ℕ) (opened : Bearer
 abbrev pub CanApply : ResponseVerdict → Node → Type 0
 CanApply (Drops why) node = Unit {0}
 CanApply (Finishes purpose outcome) node = Unit {0}
-CanApply (OpensSession session opened teid bearer) node = IsSome (get node.sessions session.0) × IsOpenedAt node.bearers teid.0 bearer
-CanApply (OpensBearer teid bearer) node = IsOpenedAt node.bearers teid.0 bearer
+CanApply (OpensSession session opened teid bearer) node = IsSome (get node.sessions session) × IsOpenedAt node.bearers teid bearer
+CanApply (OpensBearer teid bearer) node = IsOpenedAt node.bearers teid bearer

@@ -11,7 +11,7 @@ use Rattle.gtp_machine.specs.declared.outcome.Outcome.TheVariants as outcomes
 use Rattle.gtp_machine.specs.Reading.{user_reading}
 use Rattle.gtp_machine.specs.Step.{Step as MachineStep}
 use Rattle.gtp_gateway.specs.declared.command.purpose.Purpose.{Purpose}
-use Rattle.gtp_gateway.specs.declared.step.Accepted.{Accepted}
+use Rattle.gtp_gateway.specs.user.Accepted.{Accepted}
 use Rattle.gtp_gateway.specs.declared.step.Step.{Step}
 use Rattle.gtp_gateway.specs.declared.user.receive.Judged.{Judged}
 use Rattle.gtp_gateway.specs.declared.user.receive.Judged.TheVariants as judged
@@ -39,7 +39,7 @@ pub record IsEntryOf (node : Node) (bearer : ℕ) (payload : List ℕ) (entry : 
 -- the packet that was accepted is the one entry; where there is none, there is no entry
 abbrev pub AreEntries : Node → Option Accepted → List Entry → Type 0
 AreEntries node None entries = entries ≡ []
-AreEntries node (Some accepted) entries = (entry : Entry) × IsEntryOf node accepted.bearer.0 accepted.payload.now entry × (entries ≡ entry ∷ [])
+AreEntries node (Some accepted) entries = (entry : Entry) × IsEntryOf node accepted.bearer accepted.payload entry × (entries ≡ entry ∷ [])
 
 -- the step tells what the effect has: what is sent, the outcome, and the packet that was accepted, which there is with that outcome alone; neither has
 -- anything else to tell

@@ -1,11 +1,10 @@
 -- What is sent for datagrams of the user plane.
-use Rattle.std.specs.Prelude.{◌≡◌, ℕ, [], ◌∷◌, Some, None}
-use Rattle.gtp_user.specs.declared.message.UserBody.{UserBody}
-use Rattle.gtp_user.specs.declared.message.UserMessage.{UserMessage}
+use Rattle.std.specs.Prelude.{◌≡◌, [], ◌∷◌, None}
 use Rattle.gtp_machine.specs.Message.{Error_indication, User_echo_response, Supported_extensions}
 use Rattle.gtp_machine.specs.Config.{Config, user_end}
 use Rattle.gtp_machine.specs.Node.{Node}
 use Rattle.gtp_machine.specs.Input.{Came_to, Sending, nothing, Effect}
+use Rattle.gtp_machine.specs.User.{udp_port}
 use Rattle.gtp_machine.specs.declared.outcome.DropReason.TheVariants.{UnknownContext, UnknownExtension}
 use Rattle.gtp_machine.specs.declared.outcome.Outcome.{Outcome}
 use Rattle.gtp_machine.specs.declared.outcome.Outcome.TheVariants.{Dropped, Echoed}
@@ -15,14 +14,10 @@ use Rattle.gtp_gateway.specs.declared.step.Step.{Step}
 use Rattle.gtp_gateway.specs.messages.Sent.{AreSent}
 use Rattle.gtp_gateway.specs.receive.Taken.{datagrams, plain_report}
 
--- a message of the user plane with this sequence number, no N-PDU number and no extension headers
-abbrev pub numbered_message : ℕ → UserBody → UserMessage
-numbered_message number body = record { seq = Some number; npdu = None; ext = []; body = body }
-
 -- what is sent: an Echo Response goes to where the request came from, all else to the peer
 abbrev pub sending_of : Reply → Config → Sending
-sending_of (ErrorIndication teid) config = record { destination = user_end config.peer.user; messages = Error_indication teid.0 config.own.user ∷ [] }
-sending_of Notification config = record { destination = user_end config.peer.user; messages = Supported_extensions (64 ∷ []) ∷ [] }
+sending_of (ErrorIndication teid) config = record { destination = user_end config.peer.user; messages = Error_indication teid config.own.user ∷ [] }
+sending_of Notification config = record { destination = user_end config.peer.user; messages = Supported_extensions (udp_port ∷ []) ∷ [] }
 sending_of (EchoResponse to number) config = record { destination = to; messages = User_echo_response number ∷ [] }
 
 -- what the datagram comes to

@@ -6,7 +6,6 @@ ghost use Rattle.gtp_gateway.specs.GatewayState.{state_of};
 
 use crate::fault::CommandFault;
 use crate::parts::Parts;
-use crate::tables::contexts::is_session_active;
 use gtp_machine::{Refusal, Role};
 use gtp_tables::Session;
 use gtp_values::Teid;
@@ -15,9 +14,9 @@ impl Parts {
     /// The active session under a TEID, at the gateway that the command is for.
     pub fn active_session(&self, only: Role, session: Teid) -> Result<Session, CommandFault>
         ensures active { IfOk result (λ at.
-            IsActiveSession only (state_of self.now) session.0 at) }
+            IsActiveSession only (state_of self.now) session at) }
         ensures refused { IfErr result (λ fault.
-            IsRefusedFirst only (state_of self.now) session.0 fault) }
+            IsRefusedFirst only (state_of self.now) session fault) }
     {
         if self.role != only {
             return Err(CommandFault::Refused(Refusal::WrongRole));
@@ -25,7 +24,7 @@ impl Parts {
         let Some(at) = self.sessions.get(session) else {
             return Err(CommandFault::Refused(Refusal::NoSuchContext));
         };
-        if !is_session_active(&at) {
+        if !at.is_active() {
             return Err(CommandFault::Refused(Refusal::NotActive));
         }
         Ok(at)

@@ -71,11 +71,11 @@ impl Parts {
         qos: &Qos,
     ) -> Result<Begun, CommandFault>
         requires whole { IsSoundState (state_of self.old) }
-        ensures done { IfOk result (λ begun. IsCarriedOut (Create_bearer session.0 tft.now qos.now)
+        ensures done { IfOk result (λ begun. IsCarriedOut (Create_bearer session tft.now qos.now)
             (state_of self.old) begun (state_of self.new)) }
         ensures next { IfOk result (λ begun.
             SendsRequestNext (state_of self.old) begun (state_of self.new)) }
-        ensures refused { IsRefusedWhere (Create_bearer session.0 tft.now qos.now)
+        ensures refused { IsRefusedWhere (Create_bearer session tft.now qos.now)
             (state_of self.old) result }
         ensures err { OnErr result (state_of self.new ≡ state_of self.old) }
     {

@@ -17,7 +17,7 @@ use crate::messages::elements::{is_there, written_teid};
 use crate::parts::Parts;
 use crate::sent::Begun;
 use crate::tables::change::Change;
-use crate::tables::contexts::{are_active, closing, is_dedicated};
+use crate::tables::contexts::{are_active, closing};
 use gtp_machine::{Refusal, Role};
 use gtp_tables::{Bearer, Session};
 use gtp_values::{Ebi, Memory, Seq, Teid};
@@ -64,12 +64,12 @@ impl Parts {
     /// The session's dedicated bearer with this identity.
     pub fn dedicated(&self, session: Teid, identity: Ebi) -> Option<Dedicated>
         requires whole { IsSoundState (state_of self.now) }
-        ensures some { IfSome result (IsDedicated (node_of self.now) session.0 identity) }
-        ensures none { IfNone result (NamesBearer (node_of self.now) session.0 identity → ⊥) }
+        ensures some { IfSome result (IsDedicated (node_of self.now) session identity) }
+        ensures none { IfNone result (NamesBearer (node_of self.now) session identity → ⊥) }
     {
         let teid = self.bearers.with_identity(session, identity)?;
         let bearer = self.bearers.get(teid)?;
-        if !is_dedicated(&bearer) {
+        if !bearer.is_dedicated() {
             return None;
         }
         Some(Dedicated { teid, bearer })
@@ -83,11 +83,11 @@ impl Parts {
         identity: Ebi,
     ) -> Result<Begun, CommandFault>
         requires whole { IsSoundState (state_of self.old) }
-        ensures done { IfOk result (λ begun. IsCarriedOut (Delete_bearer session.0 identity)
+        ensures done { IfOk result (λ begun. IsCarriedOut (Delete_bearer session identity)
             (state_of self.old) begun (state_of self.new)) }
         ensures next { IfOk result (λ begun.
             SendsRequestNext (state_of self.old) begun (state_of self.new)) }
-        ensures refused { IsRefusedWhere (Delete_bearer session.0 identity)
+        ensures refused { IsRefusedWhere (Delete_bearer session identity)
             (state_of self.old) result }
         ensures err { OnErr result (state_of self.new ≡ state_of self.old) }
     {

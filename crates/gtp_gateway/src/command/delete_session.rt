@@ -45,11 +45,11 @@ fn request_to_delete_session(teid: Teid, session: &Session, seq: Seq) -> Request
 impl Parts {
     /// Deletes an active session, at the serving gateway.
     pub fn delete_session(&mut self, alloc: Global, session: Teid) -> Result<Begun, CommandFault>
-        ensures done { IfOk result (λ begun. IsCarriedOut (Delete_session session.0)
+        ensures done { IfOk result (λ begun. IsCarriedOut (Delete_session session)
             (state_of self.old) begun (state_of self.new)) }
         ensures next { IfOk result (λ begun.
             SendsRequestNext (state_of self.old) begun (state_of self.new)) }
-        ensures refused { IsRefusedWhere (Delete_session session.0) (state_of self.old) result }
+        ensures refused { IsRefusedWhere (Delete_session session) (state_of self.old) result }
         ensures err { OnErr result (state_of self.new ≡ state_of self.old) }
     {
         let at = self.active_session(Role::Serving, session)?;

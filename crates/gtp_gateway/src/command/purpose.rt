@@ -3,7 +3,7 @@
 use gtp_values::Teid;
 
 /// What was asked of the peer.
-#[derive(Clone, Copy)]
+#[derive(Clone, Copy, PartialEq, Eq)]
 pub enum Asked {
     /// An answer, by an Echo Request (TS 29.274 7.1.1).
     Echo,
@@ -36,8 +36,8 @@ impl Purpose {
 
     /// Whether the request is about the session.
     pub fn is_of_session(&self, session: Teid) -> bool
-        ensures goes { result ≡ goes_with_session session.0 self.now }
-        ensures about { IsTrue result ↔ (session_of self.now ≡ Some session.0) }
+        ensures goes { result ≡ goes_with_session session self.now }
+        ensures about { IsTrue result ↔ (session_of self.now ≡ Some session) }
     {
         match self.session {
             Some(about) => about == session,
@@ -47,7 +47,7 @@ impl Purpose {
 
     /// Whether the request is about the bearer.
     pub fn is_of_bearer(&self, bearer: Teid) -> bool
-        ensures { result ≡ goes_with_bearer bearer.0 self.now }
+        ensures { result ≡ goes_with_bearer bearer self.now }
     {
         match self.bearer {
             Some(about) => about == bearer,

@@ -51,11 +51,11 @@ fn request_to_release_session(
 impl Parts {
     /// Deletes an active session, at the packet gateway.
     pub fn release_session(&mut self, alloc: Global, session: Teid) -> Result<Begun, CommandFault>
-        ensures done { IfOk result (λ begun. IsCarriedOut (Release_session session.0)
+        ensures done { IfOk result (λ begun. IsCarriedOut (Release_session session)
             (state_of self.old) begun (state_of self.new)) }
         ensures next { IfOk result (λ begun.
             SendsRequestNext (state_of self.old) begun (state_of self.new)) }
-        ensures refused { IsRefusedWhere (Release_session session.0) (state_of self.old) result }
+        ensures refused { IsRefusedWhere (Release_session session) (state_of self.old) result }
         ensures err { OnErr result (state_of self.new ≡ state_of self.old) }
     {
         let at = self.active_session(Role::Packet, session)?;

@@ -33,7 +33,7 @@ pub fn create_bearer_request(
 ) -> Result<Message, Memory>
     ensures says { IfOk result (λ message. control_message message
         ≡ Create_bearer_request (record {
-          header = header.0;
+          header = header;
           number = seq;
           transaction = None;
           linked = linked;
@@ -82,7 +82,7 @@ pub fn create_bearer_response(
 ) -> Result<Message, Memory>
     ensures says { IfOk result (λ message. control_message message
         ≡ Create_bearer_response (record {
-          header = header.0;
+          header = header;
           number = seq;
           cause = cause_of REQUEST_ACCEPTED;
           contexts = record {
@@ -126,7 +126,7 @@ pub fn no_resources_response(
 ) -> Result<Message, Memory>
     ensures says { IfOk result (λ message. control_message message
         ≡ Create_bearer_response (record {
-          header = header.0;
+          header = header;
           number = seq;
           cause = cause_of NO_RESOURCES_AVAILABLE;
           contexts = record {
@@ -168,7 +168,7 @@ pub fn create_bearer_refusal(
     counter: Counter,
 ) -> Message
     requires { is_accepting_value cause.value ≡ false }
-    ensures says { control_message result ≡ refusing types.CreateBearerRequest header.0 seq cause counter.0 }
+    ensures says { control_message result ≡ refusing types.CreateBearerRequest header seq cause counter.0 }
     ensures own { IsOwn result }
 {
     Message {

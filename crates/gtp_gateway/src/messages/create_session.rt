@@ -155,7 +155,7 @@ pub fn create_session_refusal(
 ) -> Result<Message, Memory>
     requires { is_accepting_value cause.value ≡ false }
     ensures says { IfOk result (λ message. control_message message
-        ≡ refusing types.CreateSessionRequest header.0 seq cause counter.0) }
+        ≡ refusing types.CreateSessionRequest header seq cause counter.0) }
     ensures own { IfOk result (λ message. IsOwn message) }
 {
     let response = Boxed::new(

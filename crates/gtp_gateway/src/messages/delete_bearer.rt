@@ -27,7 +27,7 @@ pub fn delete_bearer_request_for_session(
     identity: Ebi,
 ) -> Message
     ensures says { control_message result ≡ Delete_bearer_request (record {
-      header = header.0;
+      header = header;
       number = seq;
       linked = Some identity;
       identities = [];
@@ -55,7 +55,7 @@ pub fn delete_bearer_request(
 ) -> Result<Message, Memory>
     ensures says { IfOk result (λ message. control_message message
         ≡ Delete_bearer_request (record {
-          header = header.0;
+          header = header;
           number = seq;
           linked = None;
           identities = identity ∷ [];
@@ -86,7 +86,7 @@ pub fn delete_bearer_response(
 ) -> Message
     requires { length contexts.items ≤ 11 }
     ensures says { control_message result ≡ Delete_bearer_response (record {
-      header = header.0;
+      header = header;
       number = seq;
       cause = cause_of cause;
       linked = linked;
@@ -95,17 +95,13 @@ pub fn delete_bearer_response(
     }) }
     ensures own { IsOwn result }
 {
-    let linked_ebi = match linked {
-        Some(identity) => Some(EbiValue(identity)),
-        None => None,
-    };
     Message {
         teid: Some(header),
         seq,
         priority: None,
         body: Body::DeleteBearerResponse(DeleteBearerResponse {
             cause: plain_cause(cause),
-            linked_ebi,
+            linked_ebi: linked.map(EbiValue),
             contexts: Listed::of(contexts),
             recovery: Some(Recovery(counter)),
         }),
@@ -122,7 +118,7 @@ pub fn delete_bearer_refusal(
     counter: Counter,
 ) -> Message
     requires { is_accepting_value cause.value ≡ false }
-    ensures says { control_message result ≡ refusing types.DeleteBearerRequest header.0 seq cause counter.0 }
+    ensures says { control_message result ≡ refusing types.DeleteBearerRequest header seq cause counter.0 }
     ensures own { IsOwn result }
 {
     Message {

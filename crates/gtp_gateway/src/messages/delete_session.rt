@@ -1,15 +1,10 @@
 //! Delete Session Request and Delete Session Response (TS 29.274 7.2.9.1, 7.2.10.1).
 
-ghost use Rattle.gtp_machine.specs.declared.message_type.MessageType.TheVariants as types;
-ghost use Rattle.std.specs.Prelude.{◌≡◌, false, Some};
+ghost use Rattle.std.specs.Prelude.{◌≡◌, Some};
 ghost use Rattle.gtp_machine.specs.Message.{Delete_session_request, Delete_session_response};
-ghost use Rattle.gtp_machine.specs.Element.{cause_of};
-ghost use Rattle.gtp_machine.specs.Answer.{refusing};
-ghost use Rattle.gtp_values.specs.Cause.{is_accepting_value};
 ghost use Rattle.gtp_machine.specs.Reading.{control_message};
 ghost use Rattle.gtp_gateway.specs.messages.Own.{IsOwn};
 
-use crate::messages::elements::plain_cause;
 use gtp_v2::{Body, DeleteSessionRequest, DeleteSessionResponse, EbiValue, Message, Recovery};
 use gtp_values::{Cause, Counter, Ebi, Seq, Teid};
 
@@ -17,7 +12,7 @@ use gtp_values::{Cause, Counter, Ebi, Seq, Teid};
 #[tactic(auto, unfolding(gtp_machine::specs::Decoded::row_in, gtp_machine::specs::Decoded::list_in, gtp_machine::specs::Decoded::contexts_in))]
 pub fn delete_session_request(header: Teid, seq: Seq, identity: Ebi) -> Message
     ensures says { control_message result ≡ Delete_session_request (record {
-      header = header.0;
+      header = header;
       number = seq;
       linked = Some identity;
     }) }
@@ -35,32 +30,13 @@ pub fn delete_session_request(header: Teid, seq: Seq, identity: Ebi) -> Message
 
 /// A Delete Session Response (TS 29.274 7.2.10.1).
 #[tactic(auto, unfolding(gtp_machine::specs::Decoded::row_in, gtp_machine::specs::Decoded::list_in, gtp_machine::specs::Decoded::contexts_in))]
-pub fn delete_session_response(header: Teid, seq: Seq, cause: u8, counter: Counter) -> Message
+pub fn delete_session_response(header: Teid, seq: Seq, cause: Cause, counter: Counter) -> Message
     ensures says { control_message result ≡ Delete_session_response (record {
-      header = header.0;
+      header = header;
       number = seq;
-      cause = cause_of cause;
+      cause = cause;
       recovery = Some counter.0;
     }) }
-    ensures own { IsOwn result }
-{
-    Message {
-        teid: Some(header),
-        seq,
-        priority: None,
-        body: Body::DeleteSessionResponse(DeleteSessionResponse {
-            cause: plain_cause(cause),
-            recovery: Some(Recovery(counter)),
-        }),
-    }
-}
-
-/// A Delete Session Response that refuses.
-#[tactic(auto, unfolding(gtp_machine::specs::Decoded::row_in, gtp_machine::specs::Decoded::list_in, gtp_machine::specs::Decoded::contexts_in))]
-pub fn delete_session_refusal(header: Teid, seq: Seq, cause: Cause, counter: Counter) -> Message
-    requires { is_accepting_value cause.value ≡ false }
-    ensures says { control_message result
-        ≡ refusing types.DeleteSessionRequest header.0 seq cause counter.0 }
     ensures own { IsOwn result }
 {
     Message {

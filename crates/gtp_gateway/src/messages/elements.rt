@@ -32,21 +32,21 @@ pub fn fault_cause(value: u8, kind: u8, instance: Below<16>) -> Cause
 /// An F-TEID (TS 29.274 8.22) that a gateway gives, with its own address.
 pub fn own_end(interface: u8, teid: Teid, ip: Ip) -> FTeid
     requires { interface < 64 }
-    ensures { result ≡ tunnel_end interface teid.0 ip }
+    ensures { result ≡ tunnel_end interface teid ip }
 {
     FTeid::new(Below::new(interface), teid, ip)
 }
 
 /// A TEID that may be absent, as it is written: 0 for none.
-pub fn written_teid(teid: Option<u32>) -> Teid
-    ensures { result.0 ≡ written teid }
+pub fn written_teid(teid: Option<Teid>) -> Teid
+    ensures { result ≡ written teid }
 {
-    Teid(teid.unwrap_or(0))
+    teid.unwrap_or(Teid(0))
 }
 
 /// Whether a TEID stands in a header.
 pub fn is_there(header: Teid) -> bool
-    ensures { result ≡ not (header.0 == 0) }
+    ensures { result ≡ not (header == 0) }
 {
-    header.0 != 0
+    header != Teid(0)
 }

@@ -9,7 +9,7 @@ ghost use Rattle.gtp_gateway.specs.messages.Own.{IsOwn};
 use crate::messages::create_bearer::create_bearer_refusal;
 use crate::messages::create_session::create_session_refusal;
 use crate::messages::delete_bearer::delete_bearer_refusal;
-use crate::messages::delete_session::delete_session_refusal;
+use crate::messages::delete_session::delete_session_response;
 use gtp_machine::MessageType;
 use gtp_v2::Message;
 use gtp_values::{Cause, Counter, Memory, Seq, Teid};
@@ -26,14 +26,14 @@ pub fn refusal(
 ) -> Result<Message, Memory>
     requires { is_accepting_value cause.value ≡ false }
     ensures says { IfOk result (λ message. control_message message
-        ≡ refusing request header.0 seq cause counter.0) }
+        ≡ refusing request header seq cause counter.0) }
     ensures own { IfOk result (λ message. IsOwn message) }
 {
     match request {
         MessageType::CreateSessionRequest => create_session_refusal(
             alloc, header, seq, cause, counter,
         ),
-        MessageType::DeleteSessionRequest => Ok(delete_session_refusal(
+        MessageType::DeleteSessionRequest => Ok(delete_session_response(
             header, seq, cause, counter,
         )),
         MessageType::CreateBearerRequest => Ok(create_bearer_refusal(

@@ -91,14 +91,7 @@ impl Parts {
         ensures same { state_of self.new ≡ state_of self.old }
     {
         let octets = encode_own(alloc, message)?;
-        let answer = Vec::from_slice(alloc, octets.as_slice())?;
-        let request = Vec::from_slice(alloc, request)?;
-        self.prepare_answer()?;
-        Ok(ReadyAnswer {
-            octets,
-            answer,
-            request,
-        })
+        self.ready_octets(alloc, request, octets)
     }
 
     /// A datagram as the answer that is ready, with what is held of it and room for it; nothing else

@@ -74,7 +74,7 @@ impl Parts {
         requires { HasFitCause verdict.now.answer }
         ensures says { IfOk result (λ message. (q : messages.CreateBearerRequest)
             → SaysCreateBearer request.now q → control_message message
-            ≡ bearer_answer verdict.now.answer verdict.now.header.0 q (node_of self.now)) }
+            ≡ bearer_answer verdict.now.answer verdict.now.header q (node_of self.now)) }
         ensures own { IfOk result (λ message. IsOwn message) }
     {
         let header = verdict.header;

@@ -20,7 +20,6 @@ use crate::receive::response::{Response, response_in};
 use crate::receive::response_context::{ResponseContext, accepts, only_context_in};
 use crate::receive::restart_counter::Heard;
 use crate::step::ControlStep;
-use crate::tables::contexts::is_session_closing;
 use crate::tables::opening::ResponseVerdict;
 use gtp_machine::{DropReason, Outcome};
 use gtp_tables::{Bearer, State, View};
@@ -74,18 +73,18 @@ fn fits_create_bearer(purpose: &Purpose, response: &Response) -> Option<AskedBea
 
 /// Whether the F-TEID that comes back is the bearer's.
 fn returns_bearer(context: &ResponseContext, bearer: Teid) -> bool
-    ensures { IsTrue result ↔ (context.now.returned ≡ Some bearer.0) }
+    ensures { IsTrue result ↔ (context.now.returned ≡ Some bearer) }
 {
-    context.returned == Some(bearer.0)
+    context.returned == Some(bearer)
 }
 
 /// The identity with which a bearer of the session can be opened: it is 5 to 15, and no bearer of the
 /// session has it, which stands and is not closing.
 fn openable(view: &View<'_>, session: Teid, identity: Below<16>) -> Option<Ebi>
     ensures some { IfSome result (λ e.
-        (e ≡ identity) × CanOpenIn view.now.sessions view.now.bearers session.0 identity) }
+        (e ≡ identity) × CanOpenIn view.now.sessions view.now.bearers session identity) }
     ensures none { IfNone result
-        (CanOpenIn view.now.sessions view.now.bearers session.0 identity → ⊥) }
+        (CanOpenIn view.now.sessions view.now.bearers session identity → ⊥) }
 {
     let identity = Ebi::try_new(identity.number()).ok()?;
     if view.with_identity(session, identity).is_some() {
@@ -94,14 +93,14 @@ fn openable(view: &View<'_>, session: Teid, identity: Below<16>) -> Option<Ebi>
     let Some(at) = view.session(session) else {
         return None;
     };
-    if is_session_closing(&at) {
+    if at.is_closing() {
         return None;
     }
     Some(identity)
 }
 
 /// A dedicated bearer, opened.
-fn opened_dedicated(bearer: &Bearer, user: Option<u32>, identity: Ebi) -> Bearer
+fn opened_dedicated(bearer: &Bearer, user: Option<Teid>, identity: Ebi) -> Bearer
     ensures { result ≡ record bearer.now {
       remote = user;
       identity = Some identity;

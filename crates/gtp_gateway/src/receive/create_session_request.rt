@@ -43,7 +43,7 @@ fn granted_session(request: &SessionRequest, grant: &SessionGrant) -> Session
     ensures { result ≡ session_granted request.now grant.now }
 {
     Session {
-        remote: Some(request.control.teid().0),
+        remote: Some(request.control.teid()),
         subscriber: Subscriber {
             imsi: request.imsi,
             access_point: request.access_point,
@@ -59,8 +59,8 @@ fn granted_bearer(request: &SessionRequest, grant: &SessionGrant) -> Bearer
     ensures { result ≡ bearer_granted request.now grant.now }
 {
     Bearer {
-        remote: Some(request.default.user.teid().0),
-        session: grant.drawn.control.0,
+        remote: Some(request.default.user.teid()),
+        session: grant.drawn.control,
         identity: Some(grant.identity),
         kind: Kind::Default,
         state: State::Active,

@@ -26,14 +26,14 @@ use crate::tables::opening::ResponseVerdict;
 use gtp_machine::DropReason;
 use gtp_tables::{Bearer, Session, State, View};
 use gtp_v2::MessageView;
-use gtp_values::{Addr, Below, Memory, Teid};
+use gtp_values::{Addr, Memory, Teid};
 
 /// What a Create Session Response says.
 #[derive(Clone, Copy)]
 pub struct SessionResponse {
     pub response: Response,
     /// The TEID of the packet gateway's F-TEID for the control plane.
-    pub control: Option<u32>,
+    pub control: Option<Teid>,
     /// The address that the session is given.
     pub address: Option<Addr>,
     /// The bearer context, where it is the only one.
@@ -85,24 +85,17 @@ fn fits_create_session(purpose: &Purpose, response: &Response) -> Option<AskedSe
     Some(AskedSession { session, bearer })
 }
 
-/// Whether it is the identity of the session's default bearer.
-fn is_default(identity: Below<16>, session: &Session) -> bool
-    ensures { IsTrue result ↔ (identity ≡ session.now.subscriber.identity) }
-{
-    identity.number() == session.subscriber.identity.number()
-}
-
 /// What an accepting response describes: one bearer context, of the session's default identity, and
 /// an address.
 fn described(view: &View<'_>, session: Teid, answer: &SessionResponse) -> Option<DescribedSession>
-    ensures some { IfSome result (IsDescribed view.now.sessions session.0 answer.now) }
+    ensures some { IfSome result (IsDescribed view.now.sessions session answer.now) }
     ensures none { IfNone result ((d : _)
-        → IsDescribed view.now.sessions session.0 answer.now d → ⊥) }
+        → IsDescribed view.now.sessions session answer.now d → ⊥) }
 {
     let at = view.session(session)?;
     let context = answer.context?;
     let address = answer.address?;
-    if !is_default(context.identity, &at) {
+    if !at.is_default(context.identity) {
         return None;
     }
     Some(DescribedSession {
@@ -113,7 +106,7 @@ fn described(view: &View<'_>, session: Teid, answer: &SessionResponse) -> Option
 }
 
 /// The session, opened.
-fn opened_session(described: &DescribedSession, control: Option<u32>) -> Session
+fn opened_session(described: &DescribedSession, control: Option<Teid>) -> Session
     ensures { result ≡ record described.now.session {
       remote = control;
       address = Some described.now.address;
@@ -129,7 +122,7 @@ fn opened_session(described: &DescribedSession, control: Option<u32>) -> Session
 }
 
 /// Its default bearer, opened.
-fn opened_default(bearer: &Bearer, user: Option<u32>) -> Bearer
+fn opened_default(bearer: &Bearer, user: Option<Teid>) -> Bearer
     ensures { result ≡ record bearer.now { remote = user; state = Active } }
 {
     Bearer {

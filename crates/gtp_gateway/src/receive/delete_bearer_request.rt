@@ -18,11 +18,9 @@ ghost use Rattle.gtp_gateway.specs.receive.Taken.{IsFresh};
 use crate::messages::delete_bearer::delete_bearer_response;
 use crate::messages::elements::written_teid;
 use crate::parts::Parts;
-use crate::receive::create_bearer_request::judge::is_default;
 use crate::receive::delete_request::DeleteRequest;
 use crate::step::ControlStep;
 use crate::tables::change::Change;
-use crate::tables::contexts::is_session_pending;
 use gtp_machine::{DropReason, Outcome, causes};
 use gtp_v2::MessageView;
 use gtp_values::{Below, Endpoint, Memory, Seq, Teid};
@@ -62,14 +60,14 @@ impl Parts {
                 change: Change::Stays,
             });
         };
-        if is_session_pending(&session) {
+        if session.is_pending() {
             return DeleteBearerVerdict::NotOpened;
         }
         let header = written_teid(session.remote);
         let Some(linked) = request.linked else {
             return DeleteBearerVerdict::Bearers { header };
         };
-        if !is_default(linked, &session) {
+        if !session.is_default(linked) {
             return DeleteBearerVerdict::Answered(DeleteBearerAnswer {
                 header,
                 cause: causes::CONTEXT_NOT_FOUND,

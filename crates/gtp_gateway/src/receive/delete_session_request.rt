@@ -11,7 +11,7 @@ ghost use Rattle.gtp_gateway.specs.GatewayState.{state_of};
 ghost use Rattle.gtp_gateway.specs.receive.Taken.{IsFresh};
 
 use crate::messages::delete_session::delete_session_response;
-use crate::messages::elements::written_teid;
+use crate::messages::elements::{plain_cause, written_teid};
 use crate::parts::Parts;
 use crate::receive::delete_request::DeleteRequest;
 use crate::step::ControlStep;
@@ -35,7 +35,7 @@ fn is_linked_to(linked: Option<Below<16>>, session: &Session) -> bool
 {
     match linked {
         None => true,
-        Some(identity) => identity.number() == session.subscriber.identity.number(),
+        Some(identity) => session.is_default(identity),
     }
 }
 
@@ -93,7 +93,7 @@ impl Parts {
         let message = delete_session_response(
             verdict.header,
             request.seq,
-            verdict.cause,
+            plain_cause(verdict.cause),
             self.draws.counter(),
         );
         let out = self.answer(alloc, source, octets, &message, verdict.change)?;

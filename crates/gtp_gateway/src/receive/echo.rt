@@ -1,26 +1,19 @@
 //! Echo Request and Echo Response (TS 29.274 7.1.1, 7.1.2).
 
 ghost use Rattle.gtp_gateway.specs.user.Receive.{RequestsWaitOn};
-ghost use Rattle.std.specs.Prelude.{◌≡◌, false, IfOk, OnOk, OnErr, ◌↔◌, IsTrue};
+ghost use Rattle.std.specs.Prelude.{◌≡◌, false, IfOk, OnOk, OnErr};
 ghost use Rattle.gtp_gateway.specs.GatewayState.{state_of};
 ghost use Rattle.gtp_gateway.specs.receive.RestartCounter.{IsHeard};
-ghost use Rattle.gtp_gateway.specs.receive.Echo.{AnswersEcho, FitsEcho, TakesEchoResponse};
+ghost use Rattle.gtp_gateway.specs.receive.Echo.{AnswersEcho, TakesEchoResponse};
 
-use crate::command::purpose::{Asked, Purpose};
+use crate::command::purpose::Asked;
 use crate::messages::echo::echo_response;
 use crate::parts::Parts;
 use crate::receive::restart_counter::Heard;
 use crate::step::ControlStep;
-use gtp_machine::{DropReason, Outcome};
+use gtp_machine::Outcome;
 use gtp_values::{Endpoint, Memory, Seq};
 use std::alloc::Global;
-
-/// Whether a request is an Echo Request.
-fn fits_echo(purpose: &Purpose) -> bool
-    ensures { IsTrue result ↔ FitsEcho purpose.now }
-{
-    matches!(purpose.asked, Asked::Echo)
-}
 
 impl Parts {
     /// Takes an Echo Request, which is answered with the same number; the answer is not held.
@@ -46,19 +39,11 @@ impl Parts {
     }
 
     /// Takes an Echo Response (TS 29.274 7.1.2): its number and kind are enough. Allocates nothing.
-    #[tactic(auto, using(crate::proofs::UserRows::all_wait, crate::proofs::GivenUp::wait_on))]
     pub fn take_echo_response(&mut self, seq: Seq) -> ControlStep
         ensures taken { TakesEchoResponse seq (state_of self.old) result (state_of self.new) }
         ensures waits { RequestsWaitOn (state_of self.old) (state_of self.new) }
         ensures unmade { result.report.made ≡ false }
     {
-        let Some(purpose) = self.waiting(seq) else {
-            return ControlStep::dropped(DropReason::NoPending);
-        };
-        if !fits_echo(&purpose) {
-            return ControlStep::dropped(DropReason::Mismatch);
-        }
-        self.finish(seq, &purpose);
-        ControlStep::quiet(Outcome::Alive)
+        self.end_request(seq, Asked::Echo, None, Outcome::Alive)
     }
 }

@@ -8,6 +8,7 @@ ghost use Rattle.gtp_gateway.specs.receive.InvalidRequest.{defect_of, reading_of
 use crate::receive::invalid_request::{Defect, FaultyRequest, Flaw};
 use gtp_ie::IeFault;
 use gtp_machine::MessageType;
+use gtp_v2::flags::announces_another;
 use gtp_v2::{BAD_ELEMENT, Head, V2Fault};
 use gtp_values::{Below, Teid};
 
@@ -90,7 +91,7 @@ pub fn announces_second(octets: &[u8]) -> bool
     ensures { result ≡ announces octets.now }
 {
     match octets {
-        [first, _, _, _, ..] => *first >> 4 == 5,
+        [first, _, _, _, ..] => announces_another(*first),
         _ => false,
     }
 }

@@ -91,7 +91,7 @@ fn undecodable(number: u8) -> ControlStep
 impl Parts {
     /// The remote of a session that was opened, or 0.
     fn opened_remote(&self, session: Teid) -> Teid
-        ensures { result.0 ≡ opened_remote (map.get self.now.sessions.table session.0) }
+        ensures { result ≡ opened_remote (map.get self.now.sessions.table session) }
     {
         match self.sessions.get(session) {
             None => Teid(0),
@@ -104,7 +104,7 @@ impl Parts {
 
     /// The header of the answer to a faulty request (TS 29.274 5.5.2).
     fn faulty_header(&self, faulty: &FaultyRequest) -> Teid
-        ensures { result.0 ≡ faulty_header (node_of self.now) faulty.now.kind
+        ensures { result ≡ faulty_header (node_of self.now) faulty.now.kind
             (fault_of faulty.now) }
     {
         match faulty.kind {

@@ -9,7 +9,7 @@ ghost use Rattle.gtp_machine.specs.Element.{IsAccepting, address_of, teid_in};
 ghost use Rattle.gtp_gateway.specs.receive.ResponseContext.{HasCauses, ReadsContext, ReadsOnly};
 
 use gtp_v2::{ContextView, EbiValue, MessageView};
-use gtp_values::{Addr, Below, Cause, FTeid, Paa};
+use gtp_values::{Addr, Below, Cause, FTeid, Paa, Teid};
 
 /// What a bearer context of a response says.
 #[derive(Clone, Copy)]
@@ -17,10 +17,10 @@ pub struct ResponseContext {
     pub identity: Below<16>,
     pub cause: Cause,
     /// The TEID of the peer's F-TEID for the user plane (instance 2).
-    pub user: Option<u32>,
+    pub user: Option<Teid>,
     /// The TEID of the receiver's own F-TEID for the user plane, which comes back from its request
     /// (instance 3).
-    pub returned: Option<u32>,
+    pub returned: Option<Teid>,
 }
 
 /// Whether the cause of a response or of a bearer context accepts (TS 29.274 8.4).
@@ -31,10 +31,10 @@ pub fn accepts(cause: &Cause) -> bool
 }
 
 /// The TEID of an F-TEID that may be absent.
-pub fn teid_of(end: Option<FTeid>) -> Option<u32>
+pub fn teid_of(end: Option<FTeid>) -> Option<Teid>
     ensures { result ≡ teid_in end }
 {
-    Some(end?.teid().0)
+    Some(end?.teid())
 }
 
 /// The address of a PDN Address Allocation (TS 29.274 8.14) that may be absent.
@@ -65,9 +65,7 @@ pub fn only_context_in(view: &MessageView<'_>) -> Option<ResponseContext>
     ensures { ReadsOnly (context_rows view.now.message.kind) (contexts_of view.now.message) result }
 {
     let mut contexts = view.contexts();
-    let Some(first) = contexts.next() else {
-        return None;
-    };
+    let first = contexts.next()?;
     match contexts.next() {
         Some(_) => None,
         None => Some(context_in(&first)),

@@ -1,7 +1,6 @@
 //! Sessions and bearers: those that are pending, and which are active.
 
 ghost use Rattle.std.specs.Prelude.{◌≡◌, ◌↔◌, IsTrue};
-ghost use Rattle.gtp_machine.specs.Node as nodes;
 ghost use Rattle.gtp_machine.specs.Node.{Active, Closing};
 ghost use Rattle.gtp_machine.specs.Command.{pending_dedicated};
 ghost use Rattle.gtp_gateway.specs.command.CreateSession.{pending_session_of, pending_default_of};
@@ -10,46 +9,11 @@ use crate::command::create_session::SessionSpec;
 use gtp_tables::{Bearer, Kind, Session, State};
 use gtp_values::Teid;
 
-/// Whether a session is pending.
-pub fn is_session_pending(session: &Session) -> bool
-    ensures { IsTrue result ↔ (session.now.state ≡ nodes.Pending) }
-{
-    session.state == State::Pending
-}
-
-/// Whether a session is active.
-pub fn is_session_active(session: &Session) -> bool
-    ensures { IsTrue result ↔ (session.now.state ≡ Active) }
-{
-    session.state == State::Active
-}
-
-/// Whether a session is closing.
-pub fn is_session_closing(session: &Session) -> bool
-    ensures { IsTrue result ↔ (session.now.state ≡ Closing) }
-{
-    session.state == State::Closing
-}
-
-/// Whether a bearer is active.
-pub fn is_bearer_active(bearer: &Bearer) -> bool
-    ensures { IsTrue result ↔ (bearer.now.state ≡ Active) }
-{
-    bearer.state == State::Active
-}
-
-/// Whether a bearer is a dedicated one.
-pub fn is_dedicated(bearer: &Bearer) -> bool
-    ensures { IsTrue result ↔ (bearer.now.kind ≡ nodes.Dedicated) }
-{
-    bearer.kind == Kind::Dedicated
-}
-
 /// Whether a session and a bearer are active.
 pub fn are_active(session: &Session, bearer: &Bearer) -> bool
     ensures { IsTrue result ↔ ((session.now.state ≡ Active) × (bearer.now.state ≡ Active)) }
 {
-    session.state == State::Active && bearer.state == State::Active
+    session.is_active() && bearer.is_active()
 }
 
 /// A session that is pending.
@@ -66,11 +30,11 @@ pub fn pending_session(spec: &SessionSpec) -> Session
 
 /// Its default bearer.
 pub fn pending_default(session: Teid, spec: &SessionSpec) -> Bearer
-    ensures { result ≡ pending_default_of session.0 spec.now }
+    ensures { result ≡ pending_default_of session spec.now }
 {
     Bearer {
         remote: None,
-        session: session.0,
+        session,
         identity: Some(spec.subscriber.identity),
         kind: Kind::Default,
         state: State::Pending,
@@ -80,11 +44,11 @@ pub fn pending_default(session: Teid, spec: &SessionSpec) -> Bearer
 
 /// A dedicated bearer that is pending: it has no identity and no remote.
 pub fn pending_dedicated(session: Teid) -> Bearer
-    ensures { result ≡ pending_dedicated session.0 }
+    ensures { result ≡ pending_dedicated session }
 {
     Bearer {
         remote: None,
-        session: session.0,
+        session,
         identity: None,
         kind: Kind::Dedicated,
         state: State::Pending,

@@ -138,7 +138,7 @@ impl Parts {
     #[tactic(auto, using(crate::proofs::UserRows::all_wait, crate::proofs::GivenUp::wait_on))]
     fn open_bearer(&mut self, heard: Heard, teid: Teid, bearer: Bearer) -> Result<(), Memory>
         requires weighed { IsHeard heard self.old.peer }
-        requires can { IsOpenedAt (node_heard heard (node_of self.old)).bearers teid.0 bearer }
+        requires can { IsOpenedAt (node_heard heard (node_of self.old)).bearers teid bearer }
         ensures node { OnOk result (node_of self.new
             ≡ with_bearer teid bearer (node_heard heard (node_of self.old))) }
         ensures waits { RequestsWaitOn (state_of self.old) (state_of self.new) }

@@ -18,34 +18,34 @@ use gtp_values::{Seq, Teid};
 impl Parts {
     /// A session goes, with its bearers and the requests about it. Allocates nothing.
     pub fn remove_session(&mut self, session: Teid)
-        ensures node { node_of self.new ≡ without_session (node_of self.old) session.0 }
+        ensures node { node_of self.new ≡ without_session (node_of self.old) session }
         ensures waiting { self.new.pending.waiting
-            ≡ filter (λ w. not (goes_with_session session.0 w.purpose)) self.old.pending.waiting }
+            ≡ filter (λ w. not (goes_with_session session w.purpose)) self.old.pending.waiting }
         ensures removes { OnlyRemoves self.old self.new }
     {
         self.pending.finish_where(
             |purpose: &Purpose| -> bool
-                ensures { result ≡ goes_with_session session.0 purpose.now }
+                ensures { result ≡ goes_with_session session purpose.now }
             { purpose.is_of_session(session) },
         );
         self.bearers.remove_where(
             |bearer: &Bearer| -> bool
-                ensures { result ≡ (bearer.now.session == session.0) }
-            { bearer.session == session.0 },
+                ensures { result ≡ (bearer.now.session == session) }
+            { bearer.session == session },
         );
         self.sessions.remove(session);
     }
 
     /// A bearer goes, with the requests about it. Allocates nothing.
     pub fn remove_bearer(&mut self, bearer: Teid)
-        ensures node { node_of self.new ≡ without_bearer (node_of self.old) bearer.0 }
+        ensures node { node_of self.new ≡ without_bearer (node_of self.old) bearer }
         ensures waiting { self.new.pending.waiting
-            ≡ filter (λ w. not (goes_with_bearer bearer.0 w.purpose)) self.old.pending.waiting }
+            ≡ filter (λ w. not (goes_with_bearer bearer w.purpose)) self.old.pending.waiting }
         ensures removes { OnlyRemoves self.old self.new }
     {
         self.pending.finish_where(
             |purpose: &Purpose| -> bool
-                ensures { result ≡ goes_with_bearer bearer.0 purpose.now }
+                ensures { result ≡ goes_with_bearer bearer purpose.now }
             { purpose.is_of_bearer(bearer) },
         );
         self.bearers.remove(bearer);
@@ -54,9 +54,9 @@ impl Parts {
     /// A bearer is put in the place of one with the same remote. Allocates nothing.
     #[tactic(auto, using(crate::proofs::UserRows::all_wait))]
     pub fn replace_bearer(&mut self, teid: Teid, bearer: Bearer)
-        requires { IsAt self.old.bearers teid.0 bearer.remote }
+        requires { IsAt self.old.bearers teid bearer.remote }
         ensures node { node_of self.new ≡ record (node_of self.old) {
-          bearers = map.insert (node_of self.old).bearers teid.0 bearer;
+          bearers = map.insert (node_of self.old).bearers teid bearer;
         } }
         ensures queues { queues_of self.new ≡ queues_of self.old }
         ensures pending { self.new.pending ≡ self.old.pending }
@@ -70,8 +70,8 @@ impl Parts {
     /// A session that stands, and its bearers, are closing. Allocates nothing.
     #[tactic(auto, using(crate::proofs::UserRows::all_wait))]
     pub fn close_session(&mut self, teid: Teid, session: Session)
-        requires { IsSome (map.get self.old.sessions.table teid.0) }
-        ensures node { node_of self.new ≡ session_closing (node_of self.old) teid.0 session }
+        requires { IsSome (map.get self.old.sessions.table teid) }
+        ensures node { node_of self.new ≡ session_closing (node_of self.old) teid session }
         ensures pending { self.new.pending ≡ self.old.pending }
         ensures waits { RequestsWaitOn (state_of self.old) (state_of self.new) }
         ensures only { OnlyTablesChange self.old self.new }

@@ -14,24 +14,24 @@ use gtp_values::Teid;
 
 /// Whether a bearer that may be absent has this remote.
 fn has_remote(bearer: Option<Bearer>, remote: Teid) -> bool
-    ensures { result ≡ names remote.0 bearer }
+    ensures { result ≡ names remote bearer }
 {
     match bearer {
-        Some(bearer) => bearer.remote == Some(remote.0),
+        Some(bearer) => bearer.remote == Some(remote),
         None => false,
     }
 }
 
 /// Whether the default bearer of the session has this remote, so that the session goes.
 fn session_goes(bearers: &Bearers, remote: Teid, session: Teid) -> bool
-    ensures { result ≡ default_among remote.0 session.0 bearers.now }
+    ensures { result ≡ default_among remote session bearers.now }
 {
     bearers.has_default(remote, session)
 }
 
 /// Whether a request is about a session or a bearer that goes.
 fn request_goes(bearers: &Bearers, remote: Teid, purpose: &Purpose) -> bool
-    ensures { result ≡ goes_with_remote bearers.now remote.0 purpose.now }
+    ensures { result ≡ goes_with_remote bearers.now remote purpose.now }
 {
     let session = match purpose.session {
         Some(session) => session_goes(bearers, remote, session),
@@ -46,9 +46,9 @@ fn request_goes(bearers: &Bearers, remote: Teid, purpose: &Purpose) -> bool
 
 /// Whether a bearer has this remote, or its session is gone.
 fn bearer_goes(sessions: &Sessions, remote: Teid, bearer: &Bearer) -> bool
-    ensures { result ≡ is_broken sessions.now.table remote.0 bearer.now }
+    ensures { result ≡ is_broken sessions.now.table remote bearer.now }
 {
-    bearer.remote == Some(remote.0) || sessions.get(Teid(bearer.session)).is_none()
+    bearer.remote == Some(remote) || sessions.get(bearer.session).is_none()
 }
 
 impl Parts {
@@ -56,9 +56,9 @@ impl Parts {
     /// bearers, and requests with what they are about. Allocates nothing.
     pub fn end_bearers_of_remote(&mut self, remote: Teid)
         requires whole { IsSoundState (state_of self.old) }
-        ensures node { node_of self.new ≡ broken (node_of self.old) remote.0 }
+        ensures node { node_of self.new ≡ broken (node_of self.old) remote }
         ensures queues { queues_of self.new ≡ record (queues_of self.old) {
-          waiting = filter (λ w. not (goes_with_remote self.old.bearers remote.0 w.purpose))
+          waiting = filter (λ w. not (goes_with_remote self.old.bearers remote w.purpose))
               self.old.pending.waiting;
         } }
         ensures role { self.new.role ≡ self.old.role }
@@ -66,18 +66,18 @@ impl Parts {
         let bearers = &self.bearers;
         self.pending.finish_where(
             |purpose: &Purpose| -> bool
-                ensures { result ≡ goes_with_remote bearers.entry.now remote.0 purpose.now }
+                ensures { result ≡ goes_with_remote bearers.entry.now remote purpose.now }
             { request_goes(bearers, remote, purpose) },
         );
         self.sessions.remove_keys_where(
-            |session: &u32| -> bool
-                ensures { result ≡ default_among remote.0 session.now bearers.entry.now }
-            { session_goes(bearers, remote, Teid(*session)) },
+            |session: &Teid| -> bool
+                ensures { result ≡ default_among remote session.now bearers.entry.now }
+            { session_goes(bearers, remote, *session) },
         );
         let sessions = &self.sessions;
         self.bearers.remove_where(
             |bearer: &Bearer| -> bool
-                ensures { result ≡ is_broken sessions.entry.now.table remote.0 bearer.now }
+                ensures { result ≡ is_broken sessions.entry.now.table remote bearer.now }
             { bearer_goes(sessions, remote, bearer) },
         );
     }

@@ -10,7 +10,6 @@ ghost use Rattle.gtp_gateway.specs.user.Receive.{UserComes};
 
 use crate::parts::Parts;
 use crate::step::Accepted;
-use crate::tables::contexts::is_bearer_active;
 use crate::user::reply::Reply;
 use gtp_machine::{DropReason, FaultName, Outcome, Plane, Role};
 use gtp_tables::Bearer;
@@ -19,7 +18,7 @@ use gtp_values::{Endpoint, Teid};
 
 /// What a datagram of the user plane comes to, before anything is sent for it. To judge takes no
 /// memory. It has no room for what is sent, since it is moved for each packet.
-#[derive(Clone, Copy)]
+#[derive(Drop)]
 pub enum Judged<'a> {
     /// This packet was accepted.
     Accepted(Accepted<'a>),
@@ -65,13 +64,13 @@ impl Parts {
     /// (7.3.1).
     fn judge_packet<'a>(&self, target: Teid, payload: &'a [u8]) -> Judged<'a>
         requires whole { IsSoundState (state_of self.now) }
-        ensures { IsJudgedBy (PacketCame self.now.role target.0 payload.now)
+        ensures { IsJudgedBy (PacketCame self.now.role target payload.now)
             (state_of self.now) result (state_of self.now) }
     {
         let Some(at) = self.bearers.get(target) else {
             return Judged::Replies(Reply::ErrorIndication { teid: target });
         };
-        if !is_bearer_active(&at) {
+        if !at.is_active() {
             return Judged::dropped(DropReason::ContextNotActive);
         }
         if !may_come(self.role, &at) {
@@ -85,7 +84,7 @@ impl Parts {
 
     /// An End Marker, which the serving gateway takes (TS 29.281 7.3.2).
     fn take_end_marker(&mut self, target: Teid) -> Outcome
-        ensures { IsTakenBy (EndCame self.old.role target.0)
+        ensures { IsTakenBy (EndCame self.old.role target)
             (state_of self.old) (plain_step result) (state_of self.new) }
     {
         match self.role {
@@ -95,7 +94,7 @@ impl Parts {
         let Some(at) = self.bearers.get(target) else {
             return Outcome::Dropped(DropReason::Unexpected);
         };
-        if !is_bearer_active(&at) {
+        if !at.is_active() {
             return Outcome::Dropped(DropReason::ContextNotActive);
         }
         let ended = Bearer { ended: true, ..at };
@@ -106,7 +105,7 @@ impl Parts {
     /// An Error Indication (TS 29.281 7.3.1): the peer has no bearer under this TEID.
     fn take_error_indication(&mut self, remote: Teid) -> Outcome
         requires whole { IsSoundState (state_of self.old) }
-        ensures { IsTakenBy (ErrorCame remote.0)
+        ensures { IsTakenBy (ErrorCame remote)
             (state_of self.old) (plain_step result) (state_of self.new) }
     {
         let Some(_) = self.bearers.first_of_remote(remote) else {
@@ -162,7 +161,7 @@ impl Parts {
             (state_of self.old) result (state_of self.new) }
     {
         match seen.packet() {
-            Some((teid, payload)) => self.judge_packet(teid, payload),
+            Some(packet) => self.judge_packet(packet.0, packet.1),
             None => self.judge_other(source, seen),
         }
     }

@@ -6,8 +6,9 @@ ghost use Rattle.gtp_machine.specs.Message.{Error_indication, User_echo_response
 ghost use Rattle.gtp_machine.specs.Message.{Supported_extensions};
 ghost use Rattle.gtp_machine.specs.Reading.{user_message};
 ghost use Rattle.gtp_machine.specs.Spelling.{datagram_of};
+ghost use Rattle.gtp_machine.specs.User.{udp_port};
 ghost use Rattle.gtp_gateway.specs.messages.Own.{IsUserOwn};
-ghost use Rattle.gtp_gateway.specs.user.Reply.{numbered_message, sending_of, outcome_of};
+ghost use Rattle.gtp_gateway.specs.user.Reply.{sending_of, outcome_of};
 ghost use Rattle.gtp_gateway.specs.user.Reply.{IsReplyBy};
 ghost use Rattle.gtp_gateway.specs.messages.Sent.{datagram_by, SendingReads};
 
@@ -20,8 +21,11 @@ use gtp_user::{Extensions, UserBody, UserMessage};
 use gtp_values::{Endpoint, Ip, Memory, Teid};
 use std::alloc::Global;
 
-/// The types of extension headers that are understood (TS 29.281 5.2.1): UDP Port.
-const EXTENSIONS: &[u8] = &[64];
+/// The type of the extension header UDP Port (TS 29.281 5.2.1).
+const UDP_PORT: u8 = 64;
+
+/// The types of extension headers that are understood.
+const EXTENSIONS: &[u8] = &[UDP_PORT];
 
 /// What is sent for a datagram of the user plane.
 #[derive(Clone, Copy)]
@@ -36,26 +40,14 @@ pub enum Reply {
 
 impl Reply {
     /// What the datagram comes to.
-    fn outcome(self) -> Outcome
-        ensures { result ≡ outcome_of self }
+    fn outcome(&self) -> Outcome
+        ensures { result ≡ outcome_of self.now }
     {
         match self {
             Reply::ErrorIndication { .. } => Outcome::Dropped(DropReason::UnknownContext),
             Reply::Notification => Outcome::Dropped(DropReason::UnknownExtension),
             Reply::EchoResponse { .. } => Outcome::Echoed,
         }
-    }
-}
-
-/// A message of the user plane with a sequence number.
-fn numbered(number: u16, body: UserBody<'_>) -> UserMessage<'_>
-    ensures { result ≡ numbered_message number body.entry }
-{
-    UserMessage {
-        seq: Some(number),
-        npdu: None,
-        ext: Extensions::none(),
-        body,
     }
 }
 
@@ -73,19 +65,29 @@ fn address_octets(address: &Ip) -> &[u8]
 /// An Error Indication (TS 29.281 7.3.1): the gateway at this address has no bearer under this TEID.
 fn error_indication(teid: Teid, peer: Ip) -> UserMessage<'static>
     ensures own { IsUserOwn result }
-    ensures says { user_message result ≡ Error_indication teid.0 peer }
+    ensures says { user_message result ≡ Error_indication teid peer }
 {
     // So the message is short.
     prove!(address_octets(&peer).len() <= 16);
-    numbered(0, UserBody::ErrorIndication { teid, peer })
+    UserMessage {
+        seq: Some(0),
+        npdu: None,
+        ext: Extensions::none(),
+        body: UserBody::ErrorIndication { teid, peer },
+    }
 }
 
 /// A Supported Extension Headers Notification (TS 29.281 7.2.3).
 fn notification() -> UserMessage<'static>
     ensures own { IsUserOwn result }
-    ensures says { user_message result ≡ Supported_extensions (64 ∷ []) }
+    ensures says { user_message result ≡ Supported_extensions (udp_port ∷ []) }
 {
-    numbered(0, UserBody::Notification { types: EXTENSIONS })
+    UserMessage {
+        seq: Some(0),
+        npdu: None,
+        ext: Extensions::none(),
+        body: UserBody::Notification { types: EXTENSIONS },
+    }
 }
 
 /// An Echo Response (TS 29.281 7.2.2).
@@ -93,41 +95,46 @@ fn echo_response(number: u16) -> UserMessage<'static>
     ensures own { IsUserOwn result }
     ensures says { user_message result ≡ User_echo_response number }
 {
-    numbered(number, UserBody::EchoResponse)
+    UserMessage {
+        seq: Some(number),
+        npdu: None,
+        ext: Extensions::none(),
+        body: UserBody::EchoResponse,
+    }
 }
 
 impl Parts {
     /// The message of a reply.
-    fn reply_message(&self, reply: Reply) -> UserMessage<'static>
+    fn reply_message(&self, reply: &Reply) -> UserMessage<'static>
         ensures own { IsUserOwn result }
         ensures says { user_message result ∷ []
-            ≡ (sending_of reply self.now.config.config).messages }
+            ≡ (sending_of reply.now self.now.config.config).messages }
     {
         match reply {
-            Reply::ErrorIndication { teid } => error_indication(teid, self.config.own().user),
+            Reply::ErrorIndication { teid } => error_indication(*teid, self.config.own().user),
             Reply::Notification => notification(),
-            Reply::EchoResponse { number, .. } => echo_response(number),
+            Reply::EchoResponse { number, .. } => echo_response(*number),
         }
     }
 
     /// Where a reply goes: an Echo Response to where the request came from, all else to the peer.
-    fn reply_end(&self, reply: Reply) -> Endpoint
-        ensures { result ≡ (sending_of reply self.now.config.config).destination }
+    fn reply_end(&self, reply: &Reply) -> Endpoint
+        ensures { result ≡ (sending_of reply.now self.now.config.config).destination }
     {
         match reply {
             Reply::ErrorIndication { .. } | Reply::Notification => {
                 user_end_of(self.config.peer().user)
             }
-            Reply::EchoResponse { to, .. } => to,
+            Reply::EchoResponse { to, .. } => *to,
         }
     }
 
     /// The datagram of a reply. Not inlined, since most datagrams have none.
     #[inline(never)]
-    fn encode_reply(&self, alloc: Global, reply: Reply) -> Result<Sent, Memory>
+    fn encode_reply(&self, alloc: Global, reply: &Reply) -> Result<Sent, Memory>
         ensures sent { IfOk result (λ sent. datagram_by sent
-            ≡ datagram_of self.now.config.config (sending_of reply self.now.config.config)) }
-        ensures back { IfOk result (λ _. SendingReads (sending_of reply self.now.config.config)) }
+            ≡ datagram_of self.now.config.config (sending_of reply.now self.now.config.config)) }
+        ensures back { IfOk result (λ _. SendingReads (sending_of reply.now self.now.config.config)) }
     {
         let message = self.reply_message(reply);
         let octets = encode_user_own(alloc, &message)?;
@@ -140,8 +147,8 @@ impl Parts {
     }
 
     /// Sends a reply. Nothing changes.
-    pub fn reply_user(&self, alloc: Global, reply: Reply) -> Result<Step<'static>, Memory>
-        ensures { IfOk result (λ step. IsReplyBy reply self.now.config.config step) }
+    pub fn reply_user(&self, alloc: Global, reply: &Reply) -> Result<Step<'static>, Memory>
+        ensures { IfOk result (λ step. IsReplyBy reply.now self.now.config.config step) }
     {
         let out = self.encode_reply(alloc, reply)?;
         Ok(Step {

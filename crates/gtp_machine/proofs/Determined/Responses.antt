@@ -1,19 +1,19 @@
 -- Responses.
 use Rattle.std.proofs.Common.{◌≡◌, ℕ}
 use Rattle.gtp_machine.specs.Choice.{HasPending}
+use Rattle.gtp_machine.specs.Response.{EndsRequest}
 use Rattle.gtp_machine.specs.Element.{PdnAddress}
 use Rattle.gtp_machine.specs.Message.{CreateSessionRequest, CreateSessionResponse, CreateBearerResponse}
 use Rattle.gtp_machine.specs.Node.{Role, Session, Node}
 use Rattle.gtp_machine.specs.Input.{Outcome, Input}
 use Rattle.gtp_machine.specs.Serving.{OpensSession, CreateSessionAnswered}
 use Rattle.gtp_machine.specs.Packet.{OpensBearer, CreateBearerAnswered}
-use Rattle.gtp_machine.proofs.Basics.Finishing.{Finishes}
 use Rattle.gtp_machine.proofs.Basics.Facts.{one_value}
 use Rattle.gtp_machine.proofs.Determined.Alike.{Alike, Determines, the_same, says_it, unless_plain, unless_moved, unless_one}
 use Rattle.gtp_machine.proofs.Determined.Witnesses.{one_pending}
 
 module _ {role : Role} {first : Node} {input : Input} (old : Node) where
-  pub response_finishes : (number : ℕ) {Fits : HasPending old number → Type 0} {outcome : Outcome} → Determines (Alike role first input) (Finishes old number Fits outcome)
+  pub response_finishes : (number : ℕ) {Fits : HasPending old number → Type 0} {outcome : Outcome} → Determines (Alike role first input) (EndsRequest old number Fits outcome)
   response_finishes number = unless_one (one_pending old number) says_it (λ at. unless_plain says_it says_it)
 
   opens_session : (a : CreateSessionResponse) (q : CreateSessionRequest) (session : ℕ) (s : Session) (address : PdnAddress) → Determines (Alike role first input) (OpensSession old a q session s address)

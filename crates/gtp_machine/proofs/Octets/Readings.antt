@@ -17,7 +17,7 @@ use Rattle.gtp_machine.specs.declared.message_type.MessageType.{MessageType}
 use Rattle.gtp_machine.specs.declared.message_type.MessageType.TheVariants as types
 use Rattle.gtp_machine.specs.MessageType.{type_at, type_row}
 use Rattle.gtp_machine.proofs.Basics.Types.{type_kind}
-use Rattle.gtp_machine.specs.Reading.{SessionRequestReads, BearerRequestReads}
+use Rattle.gtp_machine.specs.Reading.{CreateSessionRequestReads, CreateBearerRequestReads}
 
 abbrev fields_in : Content → List Field
 fields_in (Fields fields) = fields
@@ -47,20 +47,20 @@ reads_as t octets m is at =
 abbrev pub HasFirst : (MessageValue → List (List Value) → List (List (List Value)) → Message) → MessageValue → Type 0
 HasFirst request m = (first : List (List Value)) × (further : List (List (List Value))) × (message_of m ≡ request m first further) × (contexts_of m ≡ first ∷ further)
 
-pub session_request_read : (octets : List ℕ) (m : MessageValue) → IsMessage octets m → type_at m.kind ≡ Some types.CreateSessionRequest → HasFirst (λ m first further. Create_session_request (create_session_request_in m first further)) m
+pub create_session_request_read : (octets : List ℕ) (m : MessageValue) → IsMessage octets m → type_at m.kind ≡ Some types.CreateSessionRequest → HasFirst (λ m first further. Create_session_request (create_session_request_in m first further)) m
 unfolding contexts_in
-session_request_read octets m is at =
+create_session_request_read octets m is at =
     let c = has_context octets m is (ap always_has_context (type_kind m.kind types.CreateSessionRequest at)) in
     (c.0, c.1, reads_as types.CreateSessionRequest octets m is at ∙ ap (session_request_in m) c.2, c.2)
 
-pub bearer_request_read : (octets : List ℕ) (m : MessageValue) → IsMessage octets m → type_at m.kind ≡ Some types.CreateBearerRequest → HasFirst (λ m first further. Create_bearer_request (create_bearer_request_in m first further)) m
+pub create_bearer_request_read : (octets : List ℕ) (m : MessageValue) → IsMessage octets m → type_at m.kind ≡ Some types.CreateBearerRequest → HasFirst (λ m first further. Create_bearer_request (create_bearer_request_in m first further)) m
 unfolding contexts_in
-bearer_request_read octets m is at =
+create_bearer_request_read octets m is at =
     let c = has_context octets m is (ap always_has_context (type_kind m.kind types.CreateBearerRequest at)) in
     (c.0, c.1, reads_as types.CreateBearerRequest octets m is at ∙ ap (bearer_request_in m) c.2, c.2)
 
-pub session_request_reads : SessionRequestReads
-session_request_reads octets m q is of = let r = session_request_read octets (message_value m) is (ap (λ b. type_at (kind_of b)) of) in (_, r.2)
+pub create_session_request_reads : CreateSessionRequestReads
+create_session_request_reads octets m q is of = let r = create_session_request_read octets (message_value m) is (ap (λ b. type_at (kind_of b)) of) in (_, r.2)
 
-pub bearer_request_reads : BearerRequestReads
-bearer_request_reads octets m q is of = let r = bearer_request_read octets (message_value m) is (ap (λ b. type_at (kind_of b)) of) in (_, r.2)
+pub create_bearer_request_reads : CreateBearerRequestReads
+create_bearer_request_reads octets m q is of = let r = create_bearer_request_read octets (message_value m) is (ap (λ b. type_at (kind_of b)) of) in (_, r.2)

@@ -10,7 +10,8 @@ use Rattle.gtp_v2.proofs.Told as control
 use Rattle.gtp_user.specs.Headed as user_headed
 use Rattle.gtp_user.specs.Header as user_headers
 use Rattle.gtp_values.proofs.Tests.{at_most_one}
-use Rattle.gtp_user.specs.Header.{Flags, bits, Opens}
+use Rattle.gtp_user.specs.Flags.{Flags, bits}
+use Rattle.gtp_user.specs.Header.{Opens}
 use Rattle.gtp_user.specs.Message as user_messages
 use Rattle.gtp_user.specs.Datagram.{IsUserMessage}
 use Rattle.gtp_user.proofs.Again.{encoding_again}

@@ -28,8 +28,8 @@ same_answer history once a b a_sent b_sent t x y = let same : Create_session_res
 pub same_user_answer : (history : List Sent) → Once history Packet → (a b : CreateSessionResponse) → HasSent history Packet (Create_session_response a) → HasSent history Packet (Create_session_response b) → (t : ℕ) → first_created a.contexts ≡ Some t → first_created b.contexts ≡ Some t → a ≡ b
 same_user_answer history once a b a_sent b_sent t x y = let same : Create_session_response a ≡ Create_session_response b = once (Create_session_response a) (Create_session_response b) t a_sent b_sent (inr x) (inr y) in cc same
 
-pub same_bearer_request : (history : List Sent) → Once history Packet → (r p : CreateBearerRequest) → HasSent history Packet (Create_bearer_request r) → HasSent history Packet (Create_bearer_request p) → r.context.user.teid ≡ p.context.user.teid → r ≡ p
-same_bearer_request history once r p r_sent p_sent e = let same : Create_bearer_request r ≡ Create_bearer_request p = once (Create_bearer_request r) (Create_bearer_request p) r.context.user.teid r_sent p_sent refl e in cc same
+pub same_create_bearer_request : (history : List Sent) → Once history Packet → (r p : CreateBearerRequest) → HasSent history Packet (Create_bearer_request r) → HasSent history Packet (Create_bearer_request p) → r.context.user.teid ≡ p.context.user.teid → r ≡ p
+same_create_bearer_request history once r p r_sent p_sent e = let same : Create_bearer_request r ≡ Create_bearer_request p = once (Create_bearer_request r) (Create_bearer_request p) r.context.user.teid r_sent p_sent refl e in cc same
 
 pub same_bearer_answer : (history : List Sent) → Once history Serving → (x y : CreateBearerResponse) → HasSent history Serving (Create_bearer_response x) → HasSent history Serving (Create_bearer_response y) → (t : ℕ) → first_given x.contexts ≡ Some t → first_given y.contexts ≡ Some t → x ≡ y
 same_bearer_answer history once x y x_sent y_sent t g h = let same : Create_bearer_response x ≡ Create_bearer_response y = once (Create_bearer_response x) (Create_bearer_response y) t x_sent y_sent g h in cc same
@@ -125,7 +125,7 @@ module _ (history : List Sent) (serving_once : Once history Serving) (packet_onc
   alike Serving d e target (inr f) (inl g) = absurd (request_not_answer history serving_once g.request f.answer g.asked f.answered (f.target ∙ ap (λ k. Some k) (target ∙ g.target)))
   alike Serving d e target (inr f) (inr g) =
       let answers = same_bearer_answer history serving_once f.answer g.answer f.answered g.answered e.target (f.target ∙ ap (λ k. Some k) target) g.target in
-      let wanted = same_bearer_request history packet_once f.wanted g.wanted f.sent g.sent (one_value (first_returned g.answer.contexts) f.wanted.context.user.teid g.wanted.context.user.teid (ap (λ (k : CreateBearerResponse). first_returned k.contexts) (sym answers) ∙ f.echoed) g.echoed) in
+      let wanted = same_create_bearer_request history packet_once f.wanted g.wanted f.sent g.sent (one_value (first_returned g.answer.contexts) f.wanted.context.user.teid g.wanted.context.user.teid (ap (λ (k : CreateBearerResponse). first_returned k.contexts) (sym answers) ∙ f.echoed) g.echoed) in
       let same = same_request history serving_once f.request g.request f.asked g.asked (sym f.header ∙ ap (λ (k : CreateBearerRequest). k.header) wanted ∙ g.header) in
       (f.subscriber ∙ ap (λ q. names_in (subscriber_of q)) same ∙ sym g.subscriber, f.identity ∙ ap (λ (k : CreateBearerResponse). first_identity k.contexts) answers ∙ sym g.identity)
   alike Packet d e target (inl f) (inl g) =
@@ -135,7 +135,7 @@ module _ (history : List Sent) (serving_once : Once history Serving) (packet_onc
   alike Packet d e target (inl f) (inr g) = absurd (answer_not_request history packet_once f.answer g.wanted f.answered g.sent (f.target ∙ ap (λ k. Some k) (target ∙ g.target)))
   alike Packet d e target (inr f) (inl g) = absurd (answer_not_request history packet_once g.answer f.wanted g.answered f.sent (g.target ∙ ap (λ k. Some k) (sym target ∙ f.target)))
   alike Packet d e target (inr f) (inr g) =
-      let wanted = same_bearer_request history packet_once f.wanted g.wanted f.sent g.sent (sym f.target ∙ target ∙ g.target) in
+      let wanted = same_create_bearer_request history packet_once f.wanted g.wanted f.sent g.sent (sym f.target ∙ target ∙ g.target) in
       let answers = answered_once f.answer g.answer f.given g.given f.answered g.answered f.gives g.gives (f.echoed ∙ ap (λ (k : CreateBearerRequest). Some k.context.user.teid) wanted ∙ sym g.echoed) in
       let same = same_request history serving_once f.request g.request f.asked g.asked (sym f.header ∙ ap (λ (k : CreateBearerRequest). k.header) wanted ∙ g.header) in
       (f.subscriber ∙ ap (λ q. names_in (subscriber_of q)) same ∙ sym g.subscriber, f.identity ∙ ap (λ (k : CreateBearerResponse). first_identity k.contexts) answers ∙ sym g.identity)

@@ -7,6 +7,7 @@ use Rattle.gtp_values.specs.declared.counter.Age.TheVariants.{Same, Later, Earli
 use Rattle.gtp_values.specs.declared.qos.Qos.{Qos}
 use Rattle.gtp_values.specs.FiniteMap.{Each, Among}
 use Rattle.gtp_machine.specs.Choice.{HasPending}
+use Rattle.gtp_machine.specs.Response.{EndsRequest}
 use Rattle.gtp_machine.specs.Step.{Step}
 use Rattle.gtp_machine.specs.Message.{Message, CreateSessionRequest, CreateBearerRequest, DeleteBearerRequest, DeleteSessionRequest, Create_session_request, Create_session_response, Create_bearer_request, Create_bearer_response, Other_control, Packet_data, End_marker, Error_indication, User_echo_request, recovery_of, Plane, Control, User}
 use Rattle.gtp_machine.specs.Node.{Role, Serving, Packet, Session, Bearer, PendingRequest, Arrival, Held, Node, written}
@@ -19,7 +20,7 @@ use Rattle.gtp_machine.specs.Answer.{TakesReading, ControlStep}
 use Rattle.gtp_machine.specs.Move.{MoveStep}
 use Rattle.gtp_machine.specs.Serving.{CreateSessionAnswered, CreateBearerAsked, DeleteBearerTaken, DeleteBearerAsked, ServingTakes}
 use Rattle.gtp_machine.specs.Config.{template_for}
-use Rattle.gtp_machine.proofs.Basics.Finishing.{Finishes, on_finish}
+use Rattle.gtp_machine.proofs.Basics.Finishing.{on_finish}
 use Rattle.gtp_machine.proofs.Basics.Templates.{goes}
 use Rattle.gtp_machine.specs.Packet.{session_cause, session_response, made_session, session_made, CreateSessionAsked, DeleteSessionAsked, CreateBearerAnswered, PacketTakes}
 use Rattle.gtp_machine.specs.World.{other, Sent, HasSent, signed}
@@ -151,7 +152,7 @@ module _ (history : List Sent) (role : Role) where
     moves (Give_up number) e r = at e _ r.gives silent
     moves (Forget request) e r = at e _ r.gives silent
 
-    response_finishes : {number : ℕ} {Fits : HasPending old number → Type 0} {outcome : Outcome} (e : Effect) → Finishes old number Fits outcome e → Told history role e
+    response_finishes : {number : ℕ} {Fits : HasPending old number → Type 0} {outcome : Outcome} (e : Effect) → EndsRequest old number Fits outcome e → Told history role e
     response_finishes e r = on_finish old e (λ why f. at e _ f silent) (λ here f. at e _ f silent) r
 
     packet_came : (by : Role) (target : ℕ) (payload : List ℕ) (e : Effect) → NamedTeidWasDrawn history (other role) (Packet_data target payload) → PacketCame by target payload old e → Told history role e

@@ -12,15 +12,15 @@ use Rattle.gtp_machine.specs.Message.{Message, DeleteBearerRequest, Delete_beare
 use Rattle.gtp_machine.specs.Node.{Role, Serving, Packet, Session, PendingRequest, Arrival, Held, Node, written}
 use Rattle.gtp_machine.specs.Input.{Command, Create_session, Delete_session, Create_bearer, Delete_bearer, Release_session, Mark_end, Send_echo, Send_user, ControlReading, Control_message, Faulty, Control_fault, Control_came, UserReading, User_message, Extension_needed, User_fault, Outcome, Effect, messages, datagrams}
 use Rattle.gtp_machine.specs.Recovery.{Judges, Weighs, Hears}
-use Rattle.gtp_machine.specs.Response.{finishing}
+use Rattle.gtp_machine.specs.Response.{finishing, EndsRequest}
 use Rattle.gtp_machine.specs.User.{PacketCame, EndCame, ErrorCame, UserTaken, UserRead, UserStep}
 use Rattle.gtp_machine.specs.Step.{Step}
 use Rattle.gtp_machine.specs.Answer.{IsNew, TakesReading, ControlStep}
 use Rattle.gtp_machine.specs.MessageType.{answers_type}
 use Rattle.gtp_machine.specs.Command.{SessionBegun, SessionDeleted, BearerBegun, BearerDeleted, SessionReleased, EndMarked, EchoBegun, PacketSent, CommandStep}
-use Rattle.gtp_machine.specs.Serving.{CreateSessionAnswered, CreateBearerAsked, DeleteBearerTaken, DeleteBearerAsked, removal_cause, ServingTakes}
+use Rattle.gtp_machine.specs.Serving.{CreateSessionAnswered, CreateBearerAsked, DeleteBearerTaken, DeleteBearerAsked, delete_bearer_cause, ServingTakes}
 use Rattle.gtp_machine.specs.Config.{template_for}
-use Rattle.gtp_machine.proofs.Basics.Finishing.{Finishes, on_finish}
+use Rattle.gtp_machine.proofs.Basics.Finishing.{on_finish}
 use Rattle.gtp_machine.proofs.Basics.Templates.{goes}
 use Rattle.gtp_machine.specs.Packet.{session_cause, session_response, made_session, session_made, CreateSessionAsked, DeleteSessionAsked, CreateBearerAnswered, PacketTakes}
 use Rattle.gtp_machine.proofs.Changes.Shrinking.{Shrunk-finished, removes_each}
@@ -168,7 +168,7 @@ module _ (request : Arrival) (old : Node) (e : Effect) where
   answers : {create : Bool} (m : Message) (f : Effect) → e ≡ f → f.node.held ≡ old.held ++ (record { request = request; answer = m ∷ [] } ∷ []) → is_create_answer m ≡ create → datagrams f.out.sent ≡ (m ∷ []) ∷ [] → Answers request create old e
   answers m f gives same is sends = inr (record { answer = m; more = []; is = is; plain = refl; held = ap held_in gives ∙ same; sends = ap (λ (f : Effect). datagrams f.out.sent) gives ∙ sends })
 
-  finished_answers : {number : ℕ} {Fits : HasPending old number → Type 0} {outcome : Outcome} → Finishes old number Fits outcome e → Answers request false old e
+  finished_answers : {number : ℕ} {Fits : HasPending old number → Type 0} {outcome : Outcome} → EndsRequest old number Fits outcome e → Answers request false old e
   finished_answers r = on_finish old e (λ why f. drops _ f refl) (λ at f. ends _ at.pending _ f) r
 
   session_answered_answers : (a : _) → CreateSessionAnswered a old e → Answers request false old e
@@ -193,7 +193,7 @@ module _ (request : Arrival) (old : Node) (e : Effect) where
   delete_bearer_taken_answers d (Some identity) s (inr (a, r)) = answers _ _ r refl refl refl
   delete_bearer_taken_answers d None s (inl f) = answers _ _ f.1 refl refl refl
   delete_bearer_taken_answers d None s (inr (a, r)) =
-      let m = Delete_bearer_response (record { header = written s.remote; number = d.number; cause = cause_of (removal_cause r.contexts); linked = None; contexts = r.contexts; recovery = Some old.counter }) in
+      let m = Delete_bearer_response (record { header = written s.remote; number = d.number; cause = cause_of (delete_bearer_cause r.contexts); linked = None; contexts = r.contexts; recovery = Some old.counter }) in
       inr (record { answer = m; more = []; is = refl; plain = refl; sends = ap (λ (f : Effect). datagrams f.out.sent) r.gives; held = ap held_in r.gives ∙ ap (λ (hs : List Held). hs ++ (record { request = request; answer = m ∷ [] } ∷ [])) (removes_each d.header d.identities old r.contexts r.left r.removes).held })
 
   delete_bearer_asked_answers : (d : DeleteBearerRequest) → DeleteBearerAsked request d old e → Answers request false old e

@@ -11,7 +11,7 @@ use Rattle.gtp_machine.specs.Choice.{IsFree, HasPending, HasSession, counter_of}
 use Rattle.gtp_machine.specs.Removal.{without_session}
 use Rattle.gtp_machine.specs.Command.{session_request, pending_session, pending_bearer, session_begun, BeginsSession, SessionBegun}
 use Rattle.gtp_machine.specs.Answer.{answered}
-use Rattle.gtp_machine.specs.Serving.{FitsCreateSession, DescribesSession, opened_session, opened_bearer, OpensSession, CreateSessionAnswered, bearer_response, granted_bearer, MakesBearer, no_resources, bearer_refused, CreateBearerAsked, DeleteBearerTaken, DeleteBearerAsked, ServingTakes, removal_cause}
+use Rattle.gtp_machine.specs.Serving.{FitsCreateSession, DescribesSession, opened_session, opened_bearer, OpensSession, CreateSessionAnswered, bearer_response, granted_bearer, MakesBearer, no_resources, bearer_refused, CreateBearerAsked, DeleteBearerTaken, DeleteBearerAsked, ServingTakes, delete_bearer_cause}
 use Rattle.gtp_machine.specs.World.{Sent, HasSent, signed}
 use Rattle.gtp_machine.proofs.Basics.FiniteMaps.{Each-insert, Each-remove, found-remove, get-insert_same, get-insert_other, Among-left, Among-last}
 use Rattle.gtp_machine.proofs.Origins.Drawing.{Draws-nothing, Draws-new, one_more_drawn, two_more_drawn, TellsStart, IsProper, by_before, by_now}
@@ -342,7 +342,7 @@ module _ (history : List Sent) (taken : Arrival → Message → Type 0) (serving
     delete_bearer_taken request d (Some identity) s e (inl f) = says_removed request 64 old _ e f.1 (Shrunk-itself old) (λ c e. cc e)
     delete_bearer_taken request d (Some identity) s e (inr (linked, gives)) = says_removed request 16 (without_session old d.header) _ e gives (Shrunk-without (λ t. eqb t d.header) (λ t. false) old) (λ c e. cc e)
     delete_bearer_taken request d None s e (inl f) = says_removed request 94 old _ e f.1 (Shrunk-itself old) (λ c e. cc e)
-    delete_bearer_taken request d None s e (inr (few, r)) = says_removed request (removal_cause r.contexts) r.left _ e r.gives (removes_each d.header d.identities old r.contexts r.left r.removes) (λ c e. cc e)
+    delete_bearer_taken request d None s e (inr (few, r)) = says_removed request (delete_bearer_cause r.contexts) r.left _ e r.gives (removes_each d.header d.identities old r.contexts r.left r.removes) (λ c e. cc e)
 
     delete_bearer_asked : (request : Arrival) (d : DeleteBearerRequest) (e : Effect) → DeleteBearerAsked request d old e → Took Serving history taken old e
     delete_bearer_asked request d e (inl f) = drops Serving history taken old knows _ e f.1

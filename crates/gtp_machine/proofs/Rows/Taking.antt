@@ -5,10 +5,10 @@ use Rattle.gtp_machine.specs.Message.{Echo, Message, Echo_response, Owns, recove
 use Rattle.gtp_machine.specs.Node.{Role, State, Active, Closing, PendingRequest, Arrival, Node, holding, written}
 use Rattle.gtp_machine.specs.Input.{Came_to, DropReason, Outcome, Echoed, Effect, dropped}
 use Rattle.gtp_machine.specs.Removal.{finished}
-use Rattle.gtp_machine.specs.Response.{finishing}
+use Rattle.gtp_machine.specs.Response.{finishing, EndsRequest}
 use Rattle.gtp_machine.specs.Answer.{answered, echoed}
 use Rattle.gtp_machine.specs.World.{Sent}
-use Rattle.gtp_machine.proofs.Basics.Finishing.{Finishes, on_finish}
+use Rattle.gtp_machine.proofs.Basics.Finishing.{on_finish}
 use Rattle.gtp_machine.proofs.Origins.Drawing.{Made-plain, IsProper}
 use Rattle.gtp_machine.proofs.Changes.Shrinking.{Shrunk, Shrunk-itself, Shrunk-finished}
 use Rattle.gtp_machine.proofs.Changes.Steps.{at_result, IsPlain}
@@ -41,5 +41,5 @@ module _ (role : Role) (history : List Sent) (taken : Arrival → Message → Ty
   pub takes_echo : (request : Arrival) (q : Echo) (e : Effect) → e ≡ echoed request q old → Took role history taken old e
   takes_echo request q e gives = took e _ gives refl (speaks role history taken old knows request.source (Echo_response (record { number = q.number; recovery = old.counter })) (Came_to Echoed) old (Shrunk-itself old) tt (Made-plain history old old (Echo_response (record { number = q.number; recovery = old.counter })) (λ t none. none) (λ c e. cc e) tt))
 
-  pub takes_response : {number : ℕ} {Fits : HasPending old number → Type 0} {outcome : Outcome} (e : Effect) → Finishes old number Fits outcome e → Took role history taken old e
+  pub takes_response : {number : ℕ} {Fits : HasPending old number → Type 0} {outcome : Outcome} (e : Effect) → EndsRequest old number Fits outcome e → Took role history taken old e
   takes_response e r = on_finish old e (λ why f. drops why e f) (λ at f. ends _ at.pending _ e f) r

@@ -179,25 +179,25 @@ bearer_whole m es (Plain cause ∷ Groups contexts ∷ rest) lines a = each
         let its = context_end (drop 3 bearer_response_context_rows) (accepts cause) found.is.0 found.x (accepted cause a) found.is.2 (subst (λ (k : GivenBearer). IsAccepting k.cause) found.same accepting) in
         (its.0, ap (λ (k : GivenBearer). teid_in k.serving_user) found.same ∙ its.1)
 
-session_request_whole : (m : MessageValue) (contexts : List (List (List Value))) → NamesItsEnds (session_request_in m contexts)
-session_request_whole m [] = tt
-session_request_whole m (first ∷ further) = tt
+create_session_request_whole : (m : MessageValue) (contexts : List (List (List Value))) → NamesItsEnds (session_request_in m contexts)
+create_session_request_whole m [] = tt
+create_session_request_whole m (first ∷ further) = tt
 
-bearer_request_whole : (m : MessageValue) (contexts : List (List (List Value))) → NamesItsEnds (bearer_request_in m contexts)
-bearer_request_whole m [] = tt
-bearer_request_whole m (first ∷ further) = tt
+create_bearer_request_whole : (m : MessageValue) (contexts : List (List (List Value))) → NamesItsEnds (bearer_request_in m contexts)
+create_bearer_request_whole m [] = tt
+create_bearer_request_whole m (first ∷ further) = tt
 
 -- what octets spell is whole
 fields_whole : (octets : List ℕ) (m : MessageValue) (f : List Field) → m.content ≡ Fields f → IsMessage octets m → NamesItsEnds (message_of (record m { content = Fields f }))
 fields_whole octets m f says is = by (type_at m.kind) refl
   where
     by : (t : Option MessageType) → type_at m.kind ≡ t → NamesItsEnds (message_by t (record m { content = Fields f }))
-    by (Some types.CreateSessionRequest) at = session_request_whole (record m { content = Fields f }) _
+    by (Some types.CreateSessionRequest) at = create_session_request_whole (record m { content = Fields f }) _
     by (Some types.CreateSessionResponse) at =
         let of = type_kind m.kind types.CreateSessionResponse at in
         let lines = typed_lines 33 create_session_response octets m f (λ h content kind c. subst (λ k. CarriesBy (table_of k) h content) kind c) of says is in
         subst (λ (k : ℕ). NamesItsEnds (message_by (Some types.CreateSessionResponse) (record m { kind = k; content = Fields f }))) (sym of) (session_whole m lines.0 f lines.1)
-    by (Some types.CreateBearerRequest) at = bearer_request_whole (record m { content = Fields f }) _
+    by (Some types.CreateBearerRequest) at = create_bearer_request_whole (record m { content = Fields f }) _
     by (Some types.CreateBearerResponse) at =
         let of = type_kind m.kind types.CreateBearerResponse at in
         let lines = typed_lines 96 create_bearer_response octets m f (λ h content kind c. subst (λ k. CarriesBy (table_of k) h content) kind c) of says is in

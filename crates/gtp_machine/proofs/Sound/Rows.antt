@@ -15,6 +15,7 @@ use Rattle.gtp_machine.specs.Message.{CreateSessionRequest, CreateSessionRespons
 use Rattle.gtp_machine.specs.Node.{Role, Serving, Packet, Pending, Active, Closing, Default, Dedicated, Session, Bearer, Arrival, Held, Node, holding, fresh_node}
 use Rattle.gtp_machine.specs.Input.{Outcome, Specification, ControlReading, Control_message, Faulty, Control_fault, UserReading, User_message, Extension_needed, User_fault, Command, Create_session, Delete_session, Create_bearer, Delete_bearer, Release_session, Mark_end, Send_echo, Send_user, Move, Resend, Give_up, Forget, Commanded, Control_came, User_came, Moves_on, Effect, Came_to, Begun, says}
 use Rattle.gtp_machine.specs.Choice.{IsFreeNumber, HasPending, IsIdentity}
+use Rattle.gtp_machine.specs.Response.{EndsRequest}
 use Rattle.gtp_machine.specs.Removal.{without, finished, without_session, without_bearer, session_closing, closing_session, is_opened}
 use Rattle.gtp_machine.specs.Recovery.{peer_restarted, Judges, Weighs, Hears}
 use Rattle.gtp_machine.specs.Move.{MoveStep}
@@ -24,7 +25,7 @@ use Rattle.gtp_machine.specs.Answer.{TakesReading, ControlStep}
 use Rattle.gtp_machine.specs.MessageType.{answers_type}
 use Rattle.gtp_machine.specs.Serving.{FitsCreateSession, DescribesSession, opened_session, opened_bearer, OpensSession, CreateSessionAnswered, granted_bearer, CreateBearerAsked, RemovesEach, DeleteBearerTaken, DeleteBearerAsked, ServingTakes}
 use Rattle.gtp_machine.specs.Config.{control_end, template_for}
-use Rattle.gtp_machine.proofs.Basics.Finishing.{Finishes, on_finish}
+use Rattle.gtp_machine.proofs.Basics.Finishing.{on_finish}
 use Rattle.gtp_machine.proofs.Basics.Templates.{goes}
 use Rattle.gtp_machine.specs.Packet.{session_cause, session_response, made_session, made_bearer, session_made, CreateSessionAsked, DeleteSessionAsked, FitsCreateBearer, DescribesBearer, CanOpen, opened_dedicated, OpensBearer, CreateBearerAnswered, PacketTakes}
 use Rattle.gtp_machine.specs.Sound.{At, IsInState, IsBearerOf, DeletesSession, IsSound, NamesItsEnds, IsWellFormed, AreWellFormed, StaysSound, ReachedIsSound}
@@ -188,7 +189,7 @@ module _ (old : Node) where
   ends : (role : Role) → IsSound role old → (number : ℕ) (at : HasPending old number) → IsSound role (finished old number at.pending)
   ends role sound number at = finished_sound role old sound number at.pending at.waits
 
-  response_finishes : (role : Role) → IsSound role old → {number : ℕ} {Fits : HasPending old number → Type 0} {outcome : Outcome} (e : Effect) → Finishes old number Fits outcome e → IsSound role e.node
+  response_finishes : (role : Role) → IsSound role old → {number : ℕ} {Fits : HasPending old number → Type 0} {outcome : Outcome} (e : Effect) → EndsRequest old number Fits outcome e → IsSound role e.node
   response_finishes role sound e r = on_finish old e (λ why f. by_row role e _ f sound) (λ at f. by_row role e _ f (ends role sound _ at)) r
 
   module _ (sound : IsSound Serving old) where

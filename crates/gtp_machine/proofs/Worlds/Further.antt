@@ -18,7 +18,7 @@ use Rattle.gtp_machine.specs.Laws.{GetsThrough, GoesOn, ARunIsPossible, HearsRes
 use Rattle.gtp_machine.proofs.Basics.Counting.{len-insert_most, len-remove_most}
 use Rattle.gtp_machine.proofs.Worlds.Beginning.{serving_ip, packet_ip, serving_config, packet_config, only_v4, gives_v4, plain_qos, control, none_pending, after, from_serving, from_packet, heard}
 use Rattle.gtp_machine.proofs.Worlds.Possible.{spec, dedicated, q, asked, a, at_serving, at_packet, r, at_packet_bearer, entry, w1, w2, w3, w4, w5, w6, w7, w8, second, serving_stands, step1, step2, step3, step4, step5, step6, step7, step8}
-use Rattle.gtp_machine.proofs.Worlds.Sendable.{session_request, session_response, bearer_request, bearer_response, removal_request, removal_response, echo_request, echo_response, packet, AllSendable, among_sendable}
+use Rattle.gtp_machine.proofs.Worlds.Sendable.{session_request, session_response, bearer_request, bearer_response, delete_bearer_request, delete_bearer_response, echo_request, echo_response, packet, AllSendable, among_sendable}
 use Rattle.gtp_values.specs.FiniteMap.{Among, FiniteMap, kept}
 use Rattle.gtp_machine.specs.User.{UserStep}
 use Rattle.gtp_machine.specs.Removal.{without_bearer, is_opened}
@@ -307,7 +307,7 @@ hears_restart = record {
           bearer_request,
           (
             bearer_response,
-            (packet 120 (omega arith), (session_response 1 0 only_v4 (omega arith) gives_v4, (packet 121 (omega arith), (packet 122 (omega arith), (removal_request, (removal_response, (echo_request 2 (omega arith), (echo_response 1 (omega arith), tt)))))))),
+            (packet 120 (omega arith), (session_response 1 0 only_v4 (omega arith) gives_v4, (packet 121 (omega arith), (packet 122 (omega arith), (delete_bearer_request, (delete_bearer_response, (echo_request 2 (omega arith), (echo_response 1 (omega arith), tt)))))))),
           ),
         ),
       ),

@@ -12,7 +12,7 @@ use Rattle.gtp_machine.specs.Laws.{AtMostOnce}
 use Rattle.gtp_machine.proofs.Basics.FiniteMaps.{Among-left, Among-right}
 use Rattle.gtp_machine.proofs.Basics.Kinds.{creates}
 use Rattle.gtp_machine.proofs.Origins.Drawing.{Drawing, Draws, IsEarlier, Extends, Extends-signed, by_before, by_now, by_cases, by_other, starts_apart}
-use Rattle.gtp_machine.proofs.Origins.Entries.{Once, AnsweredOnce, same_bearer_request, IsFor, IsFor-later}
+use Rattle.gtp_machine.proofs.Origins.Entries.{Once, AnsweredOnce, same_create_bearer_request, IsFor, IsFor-later}
 use Rattle.gtp_machine.proofs.Changes.Steps.{IsAnsweredNow, MakesFor, Logs}
 
 -- a packet that was handed in at this gateway
@@ -111,7 +111,7 @@ module _ (history : List Sent) (key : Message → Arrival) (side : Side) (taken 
     unanswered : (x y : CreateBearerResponse) (t : ℕ) → IsAnsweredNow history side.node e.node taken x → HasSent history Serving (Create_bearer_response y) → first_given y.contexts ≡ Some t → first_returned x.contexts ≡ first_returned y.contexts → ⊥
     unanswered x y t is was gives same_echo =
         let i = remembers y t was gives in
-        let same = same_bearer_request history packet_once i.request is.request i.sent is.sent (same_Some i.request.context.user.teid is.request.context.user.teid (sym i.echoed ∙ sym same_echo ∙ is.echoed)) in
+        let same = same_create_bearer_request history packet_once i.request is.request i.sent is.sent (same_Some i.request.context.user.teid is.request.context.user.teid (sym i.echoed ∙ sym same_echo ∙ is.echoed)) in
         let counter = answered_counter x is in
         let here : key (Create_bearer_request i.request) ≡ is.arrival = ap (λ q. key (Create_bearer_request q)) same ∙ sym (keyed is.arrival (Create_bearer_request is.request) refl is.came) in
         elim i.where_now [

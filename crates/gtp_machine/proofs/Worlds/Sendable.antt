@@ -127,9 +127,9 @@ bearer_response = record {
   octets = closed _ refl;
 }
 
-pub removal_request : IsSendable (Delete_bearer_request (record { header = control; number = 0; linked = None; identities = 6 ∷ [] }))
+pub delete_bearer_request : IsSendable (Delete_bearer_request (record { header = control; number = 0; linked = None; identities = 6 ∷ [] }))
 unfolding encoding_of value_encoding groups_encoding several_encoding
-removal_request = record {
+delete_bearer_request = record {
   own = tt;
   meets = record {
     header = (omega arith, omega arith);
@@ -140,9 +140,9 @@ removal_request = record {
   octets = closed _ refl;
 }
 
-pub removal_response : IsSendable (Delete_bearer_response (record { header = control; number = 0; cause = cause_of 16; linked = None; contexts = record { identity = 6; cause = cause_of 16 } ∷ []; recovery = Some 1 }))
+pub delete_bearer_response : IsSendable (Delete_bearer_response (record { header = control; number = 0; cause = cause_of 16; linked = None; contexts = record { identity = 6; cause = cause_of 16 } ∷ []; recovery = Some 1 }))
 unfolding encoding_of value_encoding groups_encoding several_encoding
-removal_response = record {
+delete_bearer_response = record {
   own = tt;
   meets = record {
     header = (omega arith, omega arith);

@@ -4,7 +4,7 @@ use Rattle.std.specs.FinMap.{empty, get-empty}
 use Rattle.std.specs.Ordering.{nat_cmp}
 use Rattle.gtp_machine.specs.Config.{Template, Config}
 use Rattle.gtp_machine.specs.Message.{CreateSessionRequest, CreateSessionResponse, CreateBearerRequest, CreateBearerResponse, Create_session_request, Create_session_response, Create_bearer_request, Create_bearer_response, Message}
-use Rattle.gtp_machine.specs.Node.{Serving, Packet, Session, Bearer, Arrival, Node}
+use Rattle.gtp_machine.specs.Node.{Serving, Packet, Session, Arrival, Node}
 use Rattle.gtp_machine.specs.Input.{Specification, Create_session, Commanded, Repeated, Effect, says_all}
 use Rattle.gtp_machine.specs.Choice.{IsGiven, CanGive}
 use Rattle.gtp_machine.specs.Command.{create_bearer_asked}

@@ -22,11 +22,11 @@ fn ended_mark(ended: bool) -> &'static str
 }
 
 /// Appends a TEID, or a mark that there is none.
-fn put_some_teid(out: &mut Vec<u8>, teid: Option<u32>) -> Result<(), AllocError>
+fn put_some_teid(out: &mut Vec<u8>, teid: Option<Teid>) -> Result<(), AllocError>
     ensures ok { OnOk result (out.new.items ≡ out.old.items ++ or_dash teid_text teid) }
 {
     match teid {
-        Some(teid) => put_teid(out, Teid(teid)),
+        Some(teid) => put_teid(out, teid),
         None => put(out, b"-"),
     }
 }
@@ -53,8 +53,13 @@ fn put_some_identity(out: &mut Vec<u8>, identity: Option<Ebi>) -> Result<(), All
 
 /// Appends the gateway and both TEIDs of a context.
 #[tactic(auto, using(crate::proofs::Appends::appending))]
-fn put_ends(out: &mut Vec<u8>, node: Role, own: Teid, remote: Option<u32>) -> Result<(), AllocError>
-    ensures ok { OnOk result (out.new.items ≡ out.old.items ++ ends_text node own.0 remote) }
+fn put_ends(
+    out: &mut Vec<u8>,
+    node: Role,
+    own: Teid,
+    remote: Option<Teid>,
+) -> Result<(), AllocError>
+    ensures ok { OnOk result (out.new.items ≡ out.old.items ++ ends_text node own remote) }
 {
     put(out, name_of(node).as_bytes())?;
     put(out, b" ")?;
@@ -72,7 +77,7 @@ fn put_session(
     session: &Session,
 ) -> Result<(), AllocError>
     ensures ok { OnOk result (out.new.items
-        ≡ out.old.items ++ session_line node (own.0, session.now)) }
+        ≡ out.old.items ++ session_line node (own, session.now)) }
 {
     put(out, b"session ")?;
     put_ends(out, node, own, session.remote)?;
@@ -103,12 +108,12 @@ fn put_bearer_state(out: &mut Vec<u8>, bearer: &Bearer) -> Result<(), AllocError
 #[tactic(auto, using(crate::proofs::Appends::appending))]
 fn put_bearer(out: &mut Vec<u8>, node: Role, own: Teid, bearer: &Bearer) -> Result<(), AllocError>
     ensures ok { OnOk result (out.new.items
-        ≡ out.old.items ++ bearer_line node (own.0, bearer.now)) }
+        ≡ out.old.items ++ bearer_line node (own, bearer.now)) }
 {
     put(out, b"bearer ")?;
     put_ends(out, node, own, bearer.remote)?;
     put(out, b" ")?;
-    put_teid(out, Teid(bearer.session))?;
+    put_teid(out, bearer.session)?;
     put(out, b" ")?;
     put_some_identity(out, bearer.identity)?;
     put(out, b" ")?;

@@ -5,7 +5,7 @@ ghost use Rattle.std.specs.List.{flat_map, enumerate_from};
 ghost use Rattle.gtp_reliable.specs.Forgotten.{question_of};
 ghost use Rattle.gtp_gateway.specs.Tick.{asked_by, arrivals_of};
 ghost use Rattle.gtp_world.specs.Events.{event_of};
-ghost use Rattle.gtp_world.specs.Kept.{sent_by, told_by};
+ghost use Rattle.gtp_world.specs.Record.{sent_by, told_by};
 ghost use Rattle.gtp_replay.specs.Events.{second_text, learned_text, told_words, told_text, head_line, sent_line, gave_up_line, forgot_line, event_lines, events_text};
 
 use gtp_gateway::{Counter, Outcome, Request, Seq};
@@ -177,10 +177,7 @@ pub(crate) fn put_events(
 {
     let mut next = 0;
     let mut rest = datagrams;
-    for (place, event) in events.iter().enumerate() {
-        let Some(note) = notes.get(place) else {
-            return Ok(());
-        };
+    for (place, (event, note)) in events.iter().zip(notes).enumerate() {
         let count = rest.len().min(note.sent);
         let (sent, others) = rest.split_at(count);
         put_event(out, place, event, note, next, sent)?;

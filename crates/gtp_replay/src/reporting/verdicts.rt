@@ -1,9 +1,9 @@
 //! Lines that say of each of a list whether something holds.
 
 ghost use Rattle.std.specs.Prelude.{◌≡◌, ◌++◌, OnOk};
-ghost use Rattle.gtp_world.specs.Kept.{entry_by};
+ghost use Rattle.gtp_world.specs.Record.{entry_by};
 ghost use Rattle.gtp_world.specs.Naming.{pair_of, mutual_pairs, DoAgree};
-ghost use Rattle.gtp_outcomes.specs.Owed.{IsOwed};
+ghost use Rattle.gtp_outcomes.specs.Owed.{WasOwed};
 ghost use Rattle.gtp_outcomes.specs.Each.{AddsEach};
 ghost use Rattle.gtp_replay.specs.Verdicts.{agree_word, owed_word, pair_text, mutual_line, taken_line};
 
@@ -27,12 +27,19 @@ fn owed_word(owed: bool) -> &'static str
     if owed { "owed" } else { "unowed" }
 }
 
-/// Appends both TEIDs of contexts that name each other, and whether they agree.
+/// Appends these words, both TEIDs of contexts that name each other, and whether they agree.
 #[tactic(auto, using(crate::proofs::Appends::appending))]
-fn put_pair(out: &mut Vec<u8>, serving: Teid, packet: Teid, agree: bool) -> Result<(), AllocError>
+fn put_pair(
+    out: &mut Vec<u8>,
+    words: &[u8],
+    serving: Teid,
+    packet: Teid,
+    agree: bool,
+) -> Result<(), AllocError>
     ensures ok { OnOk result (out.new.items
-        ≡ out.old.items ++ pair_text serving.0 packet.0 agree) }
+        ≡ out.old.items ++ (words.now ++ pair_text serving packet agree)) }
 {
+    put(out, words)?;
     put_teid(out, serving)?;
     put(out, b" ")?;
     put_teid(out, packet)?;
@@ -42,18 +49,15 @@ fn put_pair(out: &mut Vec<u8>, serving: Teid, packet: Teid, agree: bool) -> Resu
 }
 
 /// Appends the line of two contexts that name each other.
-#[tactic(auto, using(crate::proofs::Appends::appending))]
 fn put_mutual(out: &mut Vec<u8>, pair: Mutual, agree: bool) -> Result<(), AllocError>
     ensures ok { OnOk result (out.new.items ≡ out.old.items ++ mutual_line (pair_of pair) agree) }
 {
     match pair {
         Mutual::Session { serving, packet } => {
-            put(out, b"mutual session ")?;
-            put_pair(out, serving, packet, agree)
+            put_pair(out, b"mutual session ", serving, packet, agree)
         }
         Mutual::Bearer { serving, packet } => {
-            put(out, b"mutual bearer ")?;
-            put_pair(out, serving, packet, agree)
+            put_pair(out, b"mutual bearer ", serving, packet, agree)
         }
     }
 }
@@ -64,7 +68,8 @@ pub(crate) fn put_all_mutual(out: &mut Vec<u8>, world: &World) -> Result<(), All
         (mutual_pairs world.now) out.old.items out.new.items) }
 {
     for pair in world.mutual() {
-        put_mutual(out, pair, world.agrees(pair))?;
+        let agree = world.agrees(&pair);
+        put_mutual(out, pair, agree)?;
     }
     Ok(())
 }
@@ -88,12 +93,12 @@ fn put_taken(out: &mut Vec<u8>, taken: &Entry, owed: bool) -> Result<(), AllocEr
 
 /// Appends a line for each packet that was accepted.
 pub(crate) fn put_all_taken(out: &mut Vec<u8>, world: &World) -> Result<(), AllocError>
-    ensures ok { OnOk result (AddsEach (IsOwed world.now.log) taken_line
+    ensures ok { OnOk result (AddsEach (WasOwed world.now.log) taken_line
         world.now.log.accepted out.old.items out.new.items) }
 {
     for (index, taken) in world.accepted().iter().enumerate() {
         let Some(owed) = world.owed(index) else {
-            return Ok(());
+            unreachable!()
         };
         put_taken(out, taken, owed)?;
     }

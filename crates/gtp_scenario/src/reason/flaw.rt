@@ -34,12 +34,7 @@ pub enum ObjectFlaw {
 fn is_key(keys: &[Key], text: &str) -> bool
     ensures { result ≡ is_among (map key_text keys.now) text.now }
 {
-    for key in keys {
-        if text == key.text() {
-            return true;
-        }
-    }
-    false
+    keys.iter().any(|key| text == key.text())
 }
 
 /// The first key of the members that is none of these.

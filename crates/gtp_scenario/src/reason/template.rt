@@ -30,12 +30,7 @@ pub enum TemplateFlaw {
 fn is_among(names: &[Apn], name: &Apn) -> bool
     ensures { result ≡ is_among names.now name.now }
 {
-    for known in names {
-        if name.octets() == known.octets() {
-            return true;
-        }
-    }
-    false
+    names.iter().any(|known| name.octets() == known.octets())
 }
 
 /// Whether the access point of a template is one of these.

@@ -15,7 +15,7 @@ parts_of p = (p.0.now, p.1.now)
 
 abbrev pub element_of : ElementView → Element
 element_of views.Recovery = Recovery
-element_of (views.TeidData teid) = TeidData teid.0
+element_of (views.TeidData teid) = TeidData teid
 element_of (views.Peer address) = Peer address
 element_of (views.Types types) = Types types.now
 element_of views.Skipped = Skipped
@@ -25,7 +25,7 @@ abbrev pub ElementIs : Option (ElementView × Bor (List ℕ)) → Option (Elemen
 ElementIs found front = option_map (λ p. (element_of p.0, p.1.now)) found ≡ front
 
 abbrev pub found_of : FoundView → Found
-found_of f = record { recovery = f.recovery; teid = option_map (λ t. t.0) f.teid; peer = f.peer; types = option_map (λ t. t.now) f.types }
+found_of f = record { recovery = f.recovery; teid = f.teid; peer = f.peer; types = option_map (λ t. t.now) f.types }
 
 -- what the elements say
 unfoldable pub found_at : ℕ → List ℕ → Result Found UserFault

@@ -7,7 +7,7 @@ use Rattle.gtp_user.specs.declared.fault.UserFault.TheVariants.{Short, Version, 
 use Rattle.gtp_user.specs.Headed.{Headed, where_set}
 
 abbrev pub headed_of : Header → Headed
-headed_of h = record { kind = h.kind; teid = h.teid.0; seq = h.seq; npdu = h.npdu; first = h.first; rest = h.rest.now }
+headed_of h = record { kind = h.kind; teid = h.teid; seq = h.seq; npdu = h.npdu; first = h.first; rest = h.rest.now }
 
 -- after the first eight octets, where a flag is set
 abbrev pub after_flags : ℕ → ℕ → ℕ → List ℕ → Result Headed UserFault

@@ -1,5 +1,5 @@
 -- Reading functions, for private contracts and proofs: the octets before a message's elements.
-use Rattle.std.specs.Prelude.{◌≡◌, ℕ, ◌+◌, ◌*◌, ◌/◌, ◌%◌, List, [], ◌∷◌, length, Some, None, option_map, Result, Ok, Err, ◌==◌, if◌then◌else◌}
+use Rattle.std.specs.Prelude.{◌≡◌, ℕ, ◌+◌, ◌*◌, ◌/◌, ◌%◌, List, [], ◌∷◌, length, Some, None, Result, Ok, Err, ◌==◌, if◌then◌else◌}
 use Rattle.byteorder.specs.Endian.{big_number}
 use Rattle.gtp_v2.specs.declared.header.Header.{Header}
 use Rattle.gtp_v2.specs.declared.message.Message.{Message}
@@ -8,7 +8,7 @@ use Rattle.gtp_v2.specs.declared.fault.V2Fault.TheVariants.{Short, Version, BadP
 use Rattle.gtp_v2.specs.Headed.{Headed}
 
 abbrev pub headed_of : Header → Headed
-headed_of h = record { kind = h.kind; teid = option_map (λ t. t.0) h.teid; seq = h.seq; priority = h.priority; rest = h.rest.now; at = h.at }
+headed_of h = record { kind = h.kind; teid = h.teid; seq = h.seq; priority = h.priority; rest = h.rest.now; at = h.at }
 
 -- a message has this header
 abbrev pub HasHeader : Header → Message → Type 0

@@ -24,16 +24,16 @@ checked_rows [] = []
 checked_rows (row ∷ rows) = if is_unchecked row then checked_rows rows else row ∷ checked_rows rows
 
 -- some line has several values, of which one is needed where no line before has one
-abbrev pub has_several : List Line → Bool
-has_several [] = false
-has_several (Several kind instance missed ∷ lines) = true
-has_several (Single row ∷ lines) = has_several lines
-has_several (Grouped row rows ∷ lines) = has_several lines
+abbrev pub has_list : List Line → Bool
+has_list [] = false
+has_list (Several kind instance missed ∷ lines) = true
+has_list (Single row ∷ lines) = has_list lines
+has_list (Grouped row rows ∷ lines) = has_list lines
 
 -- the lines that are checked
 abbrev pub checked_lines : List Line → List Line
 checked_lines [] = []
-checked_lines (Single row ∷ lines) = if is_unchecked row && not (has_several lines) then checked_lines lines else Single row ∷ checked_lines lines
+checked_lines (Single row ∷ lines) = if is_unchecked row && not (has_list lines) then checked_lines lines else Single row ∷ checked_lines lines
 checked_lines (Grouped row rows ∷ lines) = Grouped row (checked_rows rows) ∷ checked_lines lines
 checked_lines (Several kind instance missed ∷ lines) = Several kind instance missed ∷ checked_lines lines
 

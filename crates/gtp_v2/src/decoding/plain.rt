@@ -8,6 +8,7 @@ ghost use Rattle.gtp_v2.specs.reading.Message.{message_at};
 ghost use Rattle.gtp_v2.specs.reading.Pair.{datagram_at};
 
 use crate::body::{has_table, read_body};
+use crate::flags::announces_none;
 use crate::header::read_header;
 use crate::message::Datagram;
 use gtp_ie::indexed_at;
@@ -57,7 +58,7 @@ pub fn read_alone(alloc: Global, octets: &[u8]) -> Option<Datagram>
     let [first, kind, high, low, rest @ ..] = octets else {
         return None;
     };
-    if *first >> 4 != 4 {
+    if !announces_none(*first) {
         return None;
     }
     read_plain(alloc, *first, *kind, *high, *low, rest)

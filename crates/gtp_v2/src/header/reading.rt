@@ -5,9 +5,10 @@ ghost use Rattle.gtp_values.specs.Steps.{Gives};
 ghost use Rattle.gtp_v2.specs.reading.Headed.{headed_of, header_at, after_teid, after_no_teid};
 
 use crate::fault::V2Fault;
+use crate::flags::{MESSAGE_PRIORITY, PIGGYBACKING, TEID};
 use crate::header::Header;
 use byteorder::{BigEndian, ByteOrder};
-use gtp_values::{Below, Seq, Teid};
+use gtp_values::{Below, Seq, Teid, has_bit};
 
 /// The header of a message with a TEID, after its first four octets.
 #[inline(always)]
@@ -20,7 +21,7 @@ fn with_teid(first: u8, kind: u8, octets: &[u8]) -> Result<Header<'_>, V2Fault>
             held: 4 + octets.len(),
         });
     };
-    let priority = (first >> 2 & 1 == 1).then_some(Below::new(*last >> 4));
+    let priority = has_bit(first, MESSAGE_PRIORITY).then_some(Below::new(*last >> 4));
     Ok(Header {
         kind,
         teid: Some(Teid(BigEndian::read_u32(&[*a, *b, *c, *d]))),
@@ -68,7 +69,7 @@ pub fn read_header(
     if version != 2 {
         return Err(V2Fault::Version(version));
     }
-    if first >> 4 & 1 == 1 {
+    if has_bit(first, PIGGYBACKING) {
         return Err(V2Fault::BadPiggyback { at: 0 });
     }
     let stated = usize::from(BigEndian::read_u16(&[high, low]));
@@ -78,7 +79,7 @@ pub fn read_header(
             held: rest.len(),
         });
     }
-    if first >> 3 & 1 == 1 {
+    if has_bit(first, TEID) {
         with_teid(first, kind, rest)
     } else {
         without_teid(kind, rest)

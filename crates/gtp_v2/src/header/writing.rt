@@ -4,17 +4,22 @@ ghost use Rattle.std.specs.Prelude.{◌≡◌, ◌<◌, ◌^◌, [], ◌∷◌, 
 ghost use Rattle.gtp_v2.specs.Priority.{PriorityNeedsTeid};
 ghost use Rattle.gtp_v2.specs.Body.{kind_of, message_value};
 ghost use Rattle.gtp_v2.specs.Encoding.{open_header, HeaderMeets};
+ghost use Rattle.gtp_v2.specs.Flags.{version_2};
 ghost use Rattle.gtp_values.specs.Numbers.{three, four};
 
+use crate::flags::{MESSAGE_PRIORITY, TEID, VERSION_2};
 use crate::message::Message;
 use byteorder::{BigEndian, ByteOrder};
 use gtp_values::{Seq, Teid};
 use std::alloc::AllocError;
 
+/// The first octet of a message with a TEID.
+const WITH_TEID: u8 = VERSION_2 | 1 << TEID;
+
 /// Appends a header with a TEID, its length still 0.
 fn write_long_header(
     out: &mut Vec<u8>,
-    flags: u8,
+    first: u8,
     kind: u8,
     teid: Teid,
     seq: Seq,
@@ -22,11 +27,11 @@ fn write_long_header(
 ) -> Result<(), AllocError>
     ensures ok { OnOk result
         (out.new.items
-        ≡ out.old.items ++ flags ∷ kind ∷ 0 ∷ 0 ∷ four teid.0 (three seq (last ∷ []))) }
-    ensures teid { teid.0 < 2 ^ 32 }
+        ≡ out.old.items ++ first ∷ kind ∷ 0 ∷ 0 ∷ four teid (three seq (last ∷ []))) }
+    ensures teid { teid < 2 ^ 32 }
     ensures seq { seq < 2 ^ 24 }
 {
-    let mut header = [flags, kind, 0, 0, 0, 0, 0, 0, 0, 0, 0, last];
+    let mut header = [first, kind, 0, 0, 0, 0, 0, 0, 0, 0, 0, last];
     BigEndian::write_u32(&mut header[4..], teid.0);
     BigEndian::write_u24(&mut header[8..], seq.number());
     out.extend_from_slice(&header)?;
@@ -36,10 +41,10 @@ fn write_long_header(
 /// Appends a header without a TEID, its length still 0.
 fn write_short_header(out: &mut Vec<u8>, kind: u8, seq: Seq) -> Result<(), AllocError>
     ensures ok { OnOk result (out.new.items
-        ≡ out.old.items ++ 64 ∷ kind ∷ 0 ∷ 0 ∷ three seq (0 ∷ [])) }
+        ≡ out.old.items ++ version_2 ∷ kind ∷ 0 ∷ 0 ∷ three seq (0 ∷ [])) }
     ensures seq { seq < 2 ^ 24 }
 {
-    let mut header = [64, kind, 0, 0, 0, 0, 0, 0];
+    let mut header = [VERSION_2, kind, 0, 0, 0, 0, 0, 0];
     BigEndian::write_u24(&mut header[4..], seq.number());
     out.extend_from_slice(&header)?;
     Ok(())
@@ -61,9 +66,10 @@ pub fn write_header(out: &mut Vec<u8>, message: &Message) -> Result<(), AllocErr
     let seq = message.seq;
     match (message.teid, message.priority) {
         (None, _) => write_short_header(out, kind, seq),
-        (Some(teid), None) => write_long_header(out, 72, kind, teid, seq, 0),
+        (Some(teid), None) => write_long_header(out, WITH_TEID, kind, teid, seq, 0),
         (Some(teid), Some(priority)) => {
-            write_long_header(out, 76, kind, teid, seq, 16 * priority.number())
+            let first = WITH_TEID | 1 << MESSAGE_PRIORITY;
+            write_long_header(out, first, kind, teid, seq, 16 * priority.number())
         }
     }
 }

@@ -8,6 +8,7 @@ ghost use Rattle.gtp_v2.specs.reading.Pair.{datagram_at};
 
 use super::{DatagramView, MessageView};
 use crate::body::{has_table, passes};
+use crate::flags::announces_none;
 use crate::header::read_header;
 use gtp_ie::indexed_at;
 
@@ -49,7 +50,7 @@ pub fn view_alone(octets: &[u8]) -> Option<DatagramView<'_>>
     let [first, kind, high, low, rest @ ..] = octets else {
         return None;
     };
-    if *first >> 4 != 4 {
+    if !announces_none(*first) {
         return None;
     }
     let Some(message) = view_plain(*first, *kind, *high, *low, rest) else {

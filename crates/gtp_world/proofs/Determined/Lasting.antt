@@ -27,9 +27,9 @@ use Rattle.gtp_gateway.specs.Settings.{Settings}
 use Rattle.gtp_gateway.specs.GatewayState.{Queues, GatewayState, starting, NodeMatchesQueues}
 use Rattle.gtp_gateway.specs.Tick.{QueuesAfterTick}
 use Rattle.gtp_gateway.proofs.QueuesAfter.{on_goes}
-use Rattle.gtp_world.specs.Kept.{Log, Kept, half_in, with_half}
+use Rattle.gtp_world.specs.Record.{Log, WorldRecord, gateway_in, with_gateway}
 use Rattle.gtp_world.specs.Runs.{Setup, begun}
-use Rattle.gtp_world.specs.Stepped.{WaitsFor, AsksFor, KeepsOn, Takes, TakesBoth, TakesOn, Brings, kept_after, kept_after_both, passed_over, counter_after, half_restarted, Comes}
+use Rattle.gtp_world.specs.Stepped.{WaitsFor, AsksFor, KeepsOn, StepsOn, TakesBoth, TakesOn, Brings, kept_after, kept_after_both, passed_over, counter_after, gateway_restarted, EventLeaves}
 use Rattle.gtp_world.proofs.Determined.Commands.{IsQuiet, IsBegun, commanded}
 use Rattle.gtp_world.proofs.Determined.Placed.{placed_fits, BringDrawn, placed_brings, reached_placed}
 
@@ -141,70 +141,70 @@ asks_ready old new sent e l (inr quiet) is asks =
 
 -- ---- both gateways of a world
 
-pub record BothLast (v : Kept) : Type 0 where
-  pub serving : Lasts v.serving.station
-  pub packet : Lasts v.packet.station
+pub record BothLast (v : WorldRecord) : Type 0 where
+  pub serving : Lasts v.serving.state
+  pub packet : Lasts v.packet.state
 
-pub last_of : (v : Kept) → BothLast v → (role : Role) → Lasts (half_in v role).station
+pub last_of : (v : WorldRecord) → BothLast v → (role : Role) → Lasts (gateway_in v role).state
 last_of v both Serving = both.serving
 last_of v both Packet = both.packet
 
 pub begun_last : (setup : Setup) → BothLast (begun setup)
 begun_last setup = record { serving = lasts_starting Serving setup.serving setup.serving_counter; packet = lasts_starting Packet setup.packet setup.packet_counter }
 
-after_last : (v : Kept) (role : Role) (station : GatewayState) (out : Out) (sent : List Datagram) (outcome : EventOutcome) (late : Bool) → BothLast v → Lasts station → BothLast (kept_after v role station out sent outcome late)
-after_last v Serving station out sent outcome late both l = record { serving = l; packet = both.packet }
-after_last v Packet station out sent outcome late both l = record { serving = both.serving; packet = l }
+after_last : (v : WorldRecord) (role : Role) (state : GatewayState) (out : Out) (sent : List Datagram) (outcome : EventOutcome) (late : Bool) → BothLast v → Lasts state → BothLast (kept_after v role state out sent outcome late)
+after_last v Serving state out sent outcome late both l = record { serving = l; packet = both.packet }
+after_last v Packet state out sent outcome late both l = record { serving = both.serving; packet = l }
 
-restarted_last : (v : Kept) (role : Role) (log : Log) → BothLast v → BothLast (record (with_half v role (half_restarted role (half_in v role))) { log = log })
+restarted_last : (v : WorldRecord) (role : Role) (log : Log) → BothLast v → BothLast (record (with_gateway v role (gateway_restarted role (gateway_in v role))) { log = log })
 restarted_last v Serving log both = record { serving = lasts_starting Serving v.serving.settings (counter_after v.serving); packet = both.packet }
 restarted_last v Packet log both = record { serving = both.serving; packet = lasts_starting Packet v.packet.settings (counter_after v.packet) }
 
-passed_last : (v : Kept) (outcome : EventOutcome) (new : Kept) → BothLast v → new ≡ passed_over v outcome → BothLast new
+passed_last : (v : WorldRecord) (outcome : EventOutcome) (new : WorldRecord) → BothLast v → new ≡ passed_over v outcome → BothLast new
 passed_last v outcome new both is = subst (λ k. BothLast k) (sym is) (record { serving = both.serving; packet = both.packet })
 
-takes_last : (v : Kept) (role : Role) (input : Input) (Timed : List Datagram → EventOutcome → GatewayState → GatewayState → Type 0) (late : Bool) (new : Kept) (t : Takes v role input Timed late new) → BothLast v → NodeMatchesQueues t.station × AreDistinct t.station.queues.waiting → BothLast new
+takes_last : (v : WorldRecord) (role : Role) (input : Input) (Timed : List Datagram → EventOutcome → GatewayState → GatewayState → Type 0) (late : Bool) (new : WorldRecord) (t : StepsOn v role input Timed late new) → BothLast v → NodeMatchesQueues t.state × AreDistinct t.state.queues.waiting → BothLast new
 takes_last v role input Timed late new t both ready =
     subst (λ k. BothLast k) (sym t.becomes)
-    (after_last v role t.station t.effect.out _ _ late both
-    (lasts_took (half_in v role).station t.station (last_of v both role) t.role_stays ready.0 ready.1 input t.effect t.node t.step))
+    (after_last v role t.state t.effect.out _ _ late both
+    (lasts_took (gateway_in v role).state t.state (last_of v both role) t.role_stays ready.0 ready.1 input t.effect t.node t.step))
 
-both_last : (v : Kept) (role : Role) (station : GatewayState) (first second : Effect) (sent more : List Datagram) (late : Bool) → BothLast v → Lasts station → BothLast (kept_after_both v role station first second sent more late)
-both_last v Serving station first second sent more late both l = record { serving = l; packet = both.packet }
-both_last v Packet station first second sent more late both l = record { serving = both.serving; packet = l }
+both_last : (v : WorldRecord) (role : Role) (state : GatewayState) (first second : Effect) (sent more : List Datagram) (late : Bool) → BothLast v → Lasts state → BothLast (kept_after_both v role state first second sent more late)
+both_last v Serving state first second sent more late both l = record { serving = l; packet = both.packet }
+both_last v Packet state first second sent more late both l = record { serving = both.serving; packet = l }
 
-pair_last : (v : Kept) (role : Role) (source : Endpoint) (octets : List ℕ) (answer : CreateSessionResponse) (asked : CreateBearerRequest) (late : Bool) (new : Kept) → BothLast v → TakesBoth v role source octets answer asked late new → BothLast new
+pair_last : (v : WorldRecord) (role : Role) (source : Endpoint) (octets : List ℕ) (answer : CreateSessionResponse) (asked : CreateBearerRequest) (late : Bool) (new : WorldRecord) → BothLast v → TakesBoth v role source octets answer asked late new → BothLast new
 pair_last v role source octets answer asked late new both t =
-    let old = (half_in v role).station in
+    let old = (gateway_in v role).state in
     let l = last_of v both role in
     subst (λ k. BothLast k) (sym t.becomes)
-    (both_last v role t.station t.first t.second _ _ late both
-    (lasts_both old t.station l t.role_stays t.timed.tied (goes_apart source (second_part octets) old t.station t.timed l.apart) (first_comes source octets answer) (second_comes source octets asked) t.first t.second t.node t.step t.follows))
+    (both_last v role t.state t.first t.second _ _ late both
+    (lasts_both old t.state l t.role_stays t.timed.tied (goes_apart source (second_part octets) old t.state t.timed l.apart) (first_comes source octets answer) (second_comes source octets asked) t.first t.second t.node t.step t.follows))
 
-whole_last : (v : Kept) (role : Role) (plane : Plane) (source : Endpoint) (octets : List ℕ) (late : Bool) (new : Kept) → BothLast v → Takes v role (coming plane source octets) (KeepsOn plane source octets) late new → BothLast new
+whole_last : (v : WorldRecord) (role : Role) (plane : Plane) (source : Endpoint) (octets : List ℕ) (late : Bool) (new : WorldRecord) → BothLast v → StepsOn v role (coming plane source octets) (KeepsOn plane source octets) late new → BothLast new
 whole_last v role plane source octets late new both t =
-    let old = (half_in v role).station in
-    let goes = keeps_goes plane source octets _ t.effect.outcome old t.station t.timed in
-    takes_last v role _ _ late new t both (goes.tied, goes_apart source octets old t.station goes (last_of v both role).apart)
+    let old = (gateway_in v role).state in
+    let goes = keeps_goes plane source octets _ t.effect.outcome old t.state t.timed in
+    takes_last v role _ _ late new t both (goes.tied, goes_apart source octets old t.state goes (last_of v both role).apart)
 
-taken_last : (v : Kept) (role : Role) (plane : Plane) (source : Endpoint) (octets : List ℕ) (late : Bool) (new : Kept) → BothLast v → TakesOn v role plane source octets late new → BothLast new
+taken_last : (v : WorldRecord) (role : Role) (plane : Plane) (source : Endpoint) (octets : List ℕ) (late : Bool) (new : WorldRecord) → BothLast v → TakesOn v role plane source octets late new → BothLast new
 taken_last v role Control source octets late new both (inl (none, t)) = whole_last v role Control source octets late new both t
 taken_last v role Control source octets late new both (inr (pair, t)) = pair_last v role source octets pair.answer pair.asked late new both t
 taken_last v role User source octets late new both t = whole_last v role User source octets late new both t
 
-brings_last : (v : Kept) (sent : By Datagram) (octets : List ℕ) (late : Bool) (new : Kept) → BothLast v → Brings v sent octets late new → BothLast new
+brings_last : (v : WorldRecord) (sent : By Datagram) (octets : List ℕ) (late : Bool) (new : WorldRecord) → BothLast v → Brings v sent octets late new → BothLast new
 brings_last v sent octets late new both t = taken_last v (other sent.role) sent.what.plane sent.what.from octets late new both t
 
 -- what comes of an event
-pub comes_last : (v : Kept) (event : Event) (new : Kept) → BothLast v → Comes v event new → BothLast new
+pub comes_last : (v : WorldRecord) (event : Event) (new : WorldRecord) → BothLast v → EventLeaves v event new → BothLast new
 comes_last v (Does role command) new both t =
-    let old = (half_in v role).station in
-    takes_last v role _ _ false new t both (asks_ready old t.station _ t.effect (last_of v both role) (commanded old.node old.role command t.effect t.step) t.node t.timed)
+    let old = (gateway_in v role).state in
+    takes_last v role _ _ false new t both (asks_ready old t.state _ t.effect (last_of v both role) (commanded old.node old.role command t.effect t.step) t.node t.timed)
 comes_last v (Tick role) new both t =
-    let old = (half_in v role).station in
+    let old = (gateway_in v role).state in
     subst (λ k. BothLast k) (sym t.becomes)
-    (after_last v role t.station t.out _ _ false both
-    (lasts_ticked old t.station (last_of v both role) t.role_stays t.counts.tied (counts_apart old t.station t.counts (last_of v both role).apart) t.ticks.moves t.out t.ticks.step))
+    (after_last v role t.state t.out _ _ false both
+    (lasts_ticked old t.state (last_of v both role) t.role_stays t.counts.tied (counts_apart old t.state t.counts (last_of v both role).apart) t.ticks.moves t.out t.ticks.step))
 comes_last v (Deliver number) new both (inl (none, is)) = passed_last v _ new both is
 comes_last v (Deliver number) new both (inr (found, inl (timely, t))) = brings_last v found.sent _ false new both t
 comes_last v (Deliver number) new both (inr (found, inr (late, t))) = brings_last v found.sent _ true new both t

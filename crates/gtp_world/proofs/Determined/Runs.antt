@@ -2,16 +2,16 @@
 use Rattle.std.proofs.Common.{List, [], ◌∷◌, refl, sym, subst}
 use Rattle.gtp_machine.specs.World.{Event}
 use Rattle.gtp_world.specs.Determined.{HalvesAlike, WorldsAlike, EventsLeaveOneWorld}
-use Rattle.gtp_world.specs.Kept.{Half, Kept}
+use Rattle.gtp_world.specs.Record.{GatewayRecord, WorldRecord}
 use Rattle.gtp_world.specs.Runs.{begun}
-use Rattle.gtp_world.specs.Stepped.{Follows}
+use Rattle.gtp_world.specs.Stepped.{EventsLeave}
 use Rattle.gtp_world.proofs.Determined.Lasting.{BothLast, comes_last, begun_last}
 use Rattle.gtp_world.proofs.Determined.Steps.{comes_alike}
 
-half_itself : (h : Half) → HalvesAlike h h
+half_itself : (h : GatewayRecord) → HalvesAlike h h
 half_itself h = record {
   settings = refl;
-  station = record { role = refl; node = refl; timers = refl; next = refl; waiting = refl; held = refl };
+  state = record { role = refl; node = refl; timers = refl; next = refl; waiting = refl; held = refl };
   first = refl;
   restarts = refl;
   seen = refl;
@@ -19,7 +19,7 @@ half_itself h = record {
   made = refl;
 }
 
-follow_alike : (events : List Event) (u v one other : Kept) → WorldsAlike u v → BothLast u → BothLast v → Follows u events one → Follows v events other → WorldsAlike one other
+follow_alike : (events : List Event) (u v one other : WorldRecord) → WorldsAlike u v → BothLast u → BothLast v → EventsLeave u events one → EventsLeave v events other → WorldsAlike one other
 follow_alike [] u v one other alike lasts lasts_too is is_too = subst (λ k. WorldsAlike k other) (sym is) (subst (λ k. WorldsAlike u k) (sym is_too) alike)
 follow_alike (event ∷ events) u v one other alike lasts lasts_too (new, comes, rest) (left, comes_too, rest_too) =
     follow_alike events new left one other (comes_alike u v alike lasts lasts_too event new left comes comes_too) (comes_last u event new lasts comes) (comes_last v event left lasts_too comes_too) rest rest_too

@@ -37,10 +37,10 @@ use Rattle.gtp_gateway.specs.GatewayState.{Queues, GatewayState, starting, NodeM
 use Rattle.gtp_gateway.specs.Tick.{due_in}
 use Rattle.gtp_gateway.proofs.ChosenOnce.{one_lowest_address, one_lowest_identity, lowest_address, lowest_identity, one_drawn}
 use Rattle.gtp_gateway.proofs.Requests.{pending_push}
-use Rattle.gtp_world.specs.Kept.{oldest_first, Half, Log, Kept, half_in, with_half}
+use Rattle.gtp_world.specs.Record.{oldest_first, GatewayRecord, Log, WorldRecord, gateway_in, with_gateway}
 use Rattle.gtp_world.specs.Determined.{HalvesAlike, WorldsAlike}
 use Rattle.gtp_world.specs.Last.{last_octets}
-use Rattle.gtp_world.specs.Stepped.{WaitsFor, AsksFor, KeepsOn, TakesLowest, Takes, TakesBoth, TakesOn, Brings, TicksBy, half_after, kept_after, kept_after_both, log_after, log_after_both, log_with, sent_at, passed_over, counter_after, half_restarted, IsThere, IsLate, Comes}
+use Rattle.gtp_world.specs.Stepped.{WaitsFor, AsksFor, KeepsOn, TakesLowest, StepsOn, TakesBoth, TakesOn, Brings, TicksBy, gateway_after, kept_after, kept_after_both, log_after, log_after_both, log_with, sent_at, passed_over, counter_after, gateway_restarted, IsThere, IsLate, EventLeaves}
 use Rattle.gtp_world.proofs.Determined.Commands.{IsQuiet, IsBegun, commanded, unchosen_begun}
 use Rattle.gtp_world.proofs.Determined.Lasting.{Lasts, lasts_fits, lasts_once, lasts_bring, mid_ready, keeps_goes, asks_ready, BothLast, last_of}
 use Rattle.gtp_world.proofs.Determined.Left.{same_due, one_free, left_stays, left_begun, left_goes, number_begun, left_ticked}
@@ -115,10 +115,10 @@ none_new old one other same number free waits = absurd (never waits.pending (ap 
 
 -- ---- what is kept after one step, and after two
 
-half_after_alike : (h k : Half) → HalvesAlike h k → (new left : GatewayState) → AreLeftAlike new left → (out : Out) → HalvesAlike (half_after h new out) (half_after k left out)
+half_after_alike : (h k : GatewayRecord) → HalvesAlike h k → (new left : GatewayState) → AreLeftAlike new left → (out : Out) → HalvesAlike (gateway_after h new out) (gateway_after k left out)
 half_after_alike h k a new left leaves out = record {
   settings = a.settings;
-  station = leaves;
+  state = leaves;
   first = a.first;
   restarts = a.restarts;
   seen = ap (λ l. l ++ option_to_list out.heard) a.seen;
@@ -126,19 +126,19 @@ half_after_alike h k a new left leaves out = record {
   made = ap (λ l. l ++ oldest_first out.made) a.made;
 }
 
-after_alike : (u v : Kept) → WorldsAlike u v → (role : Role) (new left : GatewayState) → AreLeftAlike new left → (out : Out) (sent : List Datagram) (outcome : EventOutcome) (late : Bool) → WorldsAlike (kept_after u role new out sent outcome late) (kept_after v role left out sent outcome late)
+after_alike : (u v : WorldRecord) → WorldsAlike u v → (role : Role) (new left : GatewayState) → AreLeftAlike new left → (out : Out) (sent : List Datagram) (outcome : EventOutcome) (late : Bool) → WorldsAlike (kept_after u role new out sent outcome late) (kept_after v role left out sent outcome late)
 after_alike u v alike Serving new left leaves out sent outcome late = record { serving = half_after_alike u.serving v.serving alike.serving new left leaves out; packet = alike.packet; log = λ i. log_after (alike.log i) Serving out sent outcome late }
 after_alike u v alike Packet new left leaves out sent outcome late = record { serving = alike.serving; packet = half_after_alike u.packet v.packet alike.packet new left leaves out; log = λ i. log_after (alike.log i) Packet out sent outcome late }
 
-both_after_alike : (u v : Kept) → WorldsAlike u v → (role : Role) (new left : GatewayState) → AreLeftAlike new left → (first second : Effect) (sent more : List Datagram) (late : Bool) → WorldsAlike (kept_after_both u role new first second sent more late) (kept_after_both v role left first second sent more late)
+both_after_alike : (u v : WorldRecord) → WorldsAlike u v → (role : Role) (new left : GatewayState) → AreLeftAlike new left → (first second : Effect) (sent more : List Datagram) (late : Bool) → WorldsAlike (kept_after_both u role new first second sent more late) (kept_after_both v role left first second sent more late)
 both_after_alike u v alike Serving new left leaves first second sent more late = record {
-  serving = half_after_alike (half_after u.serving new first.out) (half_after v.serving left first.out) (half_after_alike u.serving v.serving alike.serving new left leaves first.out) new left leaves second.out;
+  serving = half_after_alike (gateway_after u.serving new first.out) (gateway_after v.serving left first.out) (half_after_alike u.serving v.serving alike.serving new left leaves first.out) new left leaves second.out;
   packet = alike.packet;
   log = λ i. log_after_both (alike.log i) Serving first second sent more late;
 }
 both_after_alike u v alike Packet new left leaves first second sent more late = record {
   serving = alike.serving;
-  packet = half_after_alike (half_after u.packet new first.out) (half_after v.packet left first.out) (half_after_alike u.packet v.packet alike.packet new left leaves first.out) new left leaves second.out;
+  packet = half_after_alike (gateway_after u.packet new first.out) (gateway_after v.packet left first.out) (half_after_alike u.packet v.packet alike.packet new left leaves first.out) new left leaves second.out;
   log = λ i. log_after_both (alike.log i) Packet first second sent more late;
 }
 
@@ -149,31 +149,31 @@ pub record IsOne (e f : Effect) (new left : GatewayState) : Type 0 where
   pub leaves : AreLeftAlike new left
 
 -- the halves of both worlds
-pub half_alike : (u v : Kept) → WorldsAlike u v → (role : Role) → HalvesAlike (half_in u role) (half_in v role)
+pub half_alike : (u v : WorldRecord) → WorldsAlike u v → (role : Role) → HalvesAlike (gateway_in u role) (gateway_in v role)
 half_alike u v alike Serving = alike.serving
 half_alike u v alike Packet = alike.packet
 
-module _ (u v : Kept) (alike : WorldsAlike u v) (role : Role) (lasts : BothLast u) (lasts_too : BothLast v) where
+module _ (u v : WorldRecord) (alike : WorldsAlike u v) (role : Role) (lasts : BothLast u) (lasts_too : BothLast v) where
   abbrev one : GatewayState
-  one = (half_in u role).station
+  one = (gateway_in u role).state
 
   abbrev two : GatewayState
-  two = (half_in v role).station
+  two = (gateway_in v role).state
 
   stations : AreLeftAlike one two
-  stations = (half_alike u v alike role).station
+  stations = (half_alike u v alike role).state
 
   -- the same is sent, where the effects are one
-  same_sent : (e f : Effect) → e ≡ f → sent_at (half_in u role) e.out ≡ sent_at (half_in v role) f.out
+  same_sent : (e f : Effect) → e ≡ f → sent_at (gateway_in u role) e.out ≡ sent_at (gateway_in v role) f.out
   same_sent e f same = λ i. map (datagram_of (stations.node i).config) (same i).out.sent
 
   -- ---- a command
 
-  module _ (c : Command) (new left : Kept) (t : Takes u role (Commanded c) AsksFor false new) (s : Takes v role (Commanded c) AsksFor false left) where
-    roles : t.station.role ≡ s.station.role
+  module _ (c : Command) (new left : WorldRecord) (t : StepsOn u role (Commanded c) AsksFor false new) (s : StepsOn v role (Commanded c) AsksFor false left) where
+    roles : t.state.role ≡ s.state.role
     roles = t.role_stays ∙ (stations.role ∙ sym s.role_stays)
 
-    nodes : t.effect ≡ s.effect → t.station.node ≡ s.station.node
+    nodes : t.effect ≡ s.effect → t.state.node ≡ s.state.node
     nodes same = t.node ∙ (ap (λ (k : Effect). k.node) same ∙ sym s.node)
 
     came : IsBegun t.effect ⊎ IsQuiet one.node t.effect
@@ -187,18 +187,18 @@ module _ (u v : Kept) (alike : WorldsAlike u v) (role : Role) (lasts : BothLast 
 
     same_effect : ((number : ℕ) → get one.node.pending number ≡ None → HasPending t.effect.node number → HasPending s.effect.node number) → t.effect ≡ s.effect
     same_effect numbers =
-        one_effect one two stations (last_of u lasts role) (Commanded c) t.effect s.effect t.step s.step t.station s.station t.node s.node t.role_stays s.role_stays
-        (asks_ready one t.station _ t.effect (last_of u lasts role) came t.node t.timed).0
-        (asks_ready two s.station _ s.effect (last_of v lasts_too role) came_too s.node s.timed).0
+        one_effect one two stations (last_of u lasts role) (Commanded c) t.effect s.effect t.step s.step t.state s.state t.node s.node t.role_stays s.role_stays
+        (asks_ready one t.state _ t.effect (last_of u lasts role) came t.node t.timed).0
+        (asks_ready two s.state _ s.effect (last_of v lasts_too role) came_too s.node s.timed).0
         t.lowest s.lowest (λ command is. numbers) (λ request reading is. absurd (no_datagram request reading is))
 
     tells : unchosen (Commanded c) t.effect.outcome ≡ unchosen (Commanded c) s.effect.outcome
     tells = (both one two stations (last_of u lasts role) (Commanded c) t.effect s.effect t.step s.step).tell.outcome
 
-    both_begun : (w : (d : Datagram) × (sent_at (half_in u role) t.effect.out ≡ d ∷ []) × WaitsFor one d t.station) → (x : (d : Datagram) × (sent_at (half_in v role) s.effect.out ≡ d ∷ []) × WaitsFor two d s.station) → IsOne t.effect s.effect t.station s.station
+    both_begun : (w : (d : Datagram) × (sent_at (gateway_in u role) t.effect.out ≡ d ∷ []) × WaitsFor one d t.state) → (x : (d : Datagram) × (sent_at (gateway_in v role) s.effect.out ≡ d ∷ []) × WaitsFor two d s.state) → IsOne t.effect s.effect t.state s.state
     both_begun (d, sent, w) (d_too, sent_too, x) =
-        let p = begun_waits one d t.station (last_of u lasts role).tied w in
-        let q = begun_waits two d_too s.station (last_of v lasts_too role).tied x in
+        let p = begun_waits one d t.state (last_of u lasts role).tied w in
+        let q = begun_waits two d_too s.state (last_of v lasts_too role).tied x in
         let same : t.effect ≡ s.effect = same_effect (waits_too one.node.pending t.effect.node s.effect.node w.number x.number p.0 q.0
         (ap (λ (k : Node). k.pending) (sym t.node) ∙ p.1)
         (ap (λ (k : Node). k.pending) (sym s.node) ∙ (q.1 ∙ ap (λ (k : Node). insert k.pending x.number q.0) (sym stations.node)))
@@ -207,18 +207,18 @@ module _ (u v : Kept) (alike : WorldsAlike u v) (role : Role) (lasts : BothLast 
         let datagram : d ≡ d_too = cc list in
         record {
           effect = same;
-          leaves = left_begun one two t.station s.station stations roles (nodes same) d w (subst (λ k. WaitsFor two k s.station) (sym datagram) x);
+          leaves = left_begun one two t.state s.state stations roles (nodes same) d w (subst (λ k. WaitsFor two k s.state) (sym datagram) x);
         }
 
-    by_came : IsBegun t.effect ⊎ IsQuiet one.node t.effect → IsBegun s.effect ⊎ IsQuiet two.node s.effect → IsOne t.effect s.effect t.station s.station
+    by_came : IsBegun t.effect ⊎ IsQuiet one.node t.effect → IsBegun s.effect ⊎ IsQuiet two.node s.effect → IsOne t.effect s.effect t.state s.state
     by_came (inl a) (inl b) = both_begun (t.timed.asks a.0 a.1) (s.timed.asks b.0 b.1)
     by_came (inl a) (inr q) = absurd (unchosen_begun c s.effect.outcome (sym tells ∙ ap (unchosen (Commanded c)) a.1) q.begins_none)
     by_came (inr q) (inl b) = absurd (unchosen_begun c t.effect.outcome (tells ∙ ap (unchosen (Commanded c)) b.1) q.begins_none)
     by_came (inr p) (inr q) =
         let same : t.effect ≡ s.effect = same_effect (none_new one.node t.effect.node s.effect.node p.pending) in
-        record { effect = same; leaves = left_stays one two t.station s.station stations roles (nodes same) (t.timed.none p.begins_none) (s.timed.none q.begins_none) }
+        record { effect = same; leaves = left_stays one two t.state s.state stations roles (nodes same) (t.timed.none p.begins_none) (s.timed.none q.begins_none) }
 
-    command_one : IsOne t.effect s.effect t.station s.station
+    command_one : IsOne t.effect s.effect t.state s.state
     command_one = by_came came came_too
 
   -- ---- a datagram
@@ -227,28 +227,28 @@ module _ (u v : Kept) (alike : WorldsAlike u v) (role : Role) (lasts : BothLast 
   no_command Control source octets c e = cc
   no_command User source octets c e = cc
 
-  module _ (plane : Plane) (source : Endpoint) (octets : List ℕ) (late : Bool) (new left : Kept) (t : Takes u role (coming plane source octets) (KeepsOn plane source octets) late new) (s : Takes v role (coming plane source octets) (KeepsOn plane source octets) late left) where
-    datagram_one : IsOne t.effect s.effect t.station s.station
+  module _ (plane : Plane) (source : Endpoint) (octets : List ℕ) (late : Bool) (new left : WorldRecord) (t : StepsOn u role (coming plane source octets) (KeepsOn plane source octets) late new) (s : StepsOn v role (coming plane source octets) (KeepsOn plane source octets) late left) where
+    datagram_one : IsOne t.effect s.effect t.state s.state
     datagram_one =
-        let goes = keeps_goes plane source octets _ t.effect.outcome one t.station t.timed in
-        let goes_too = keeps_goes plane source octets _ s.effect.outcome two s.station s.timed in
+        let goes = keeps_goes plane source octets _ t.effect.outcome one t.state t.timed in
+        let goes_too = keeps_goes plane source octets _ s.effect.outcome two s.state s.timed in
         let l = last_of u lasts role in
         let k = last_of v lasts_too role in
         let same : t.effect ≡ s.effect =
-        one_effect one two stations l (coming plane source octets) t.effect s.effect t.step s.step t.station s.station t.node s.node t.role_stays s.role_stays
+        one_effect one two stations l (coming plane source octets) t.effect s.effect t.step s.step t.state s.state t.node s.node t.role_stays s.role_stays
         goes.tied goes_too.tied t.lowest s.lowest (λ c is. absurd (no_command plane source octets c is))
         (λ request reading is others m n p q waits too.
-        number_begun one two t.station s.station stations l.apart k.apart source octets goes goes_too (lasts_bring one l) l.tied k.tied others m n p q
+        number_begun one two t.state s.state stations l.apart k.apart source octets goes goes_too (lasts_bring one l) l.tied k.tied others m n p q
         (subst (λ (x : Node). WaitsBeside one.node.drawn x.pending others m p) (sym t.node) waits)
         (subst (λ (x : Node). WaitsBeside one.node.drawn x.pending others n q) (sym s.node) too)) in
         record {
           effect = same;
-          leaves = left_goes one two t.station s.station stations (t.role_stays ∙ (stations.role ∙ sym s.role_stays)) (t.node ∙ (ap (λ (x : Effect). x.node) same ∙ sym s.node)) l.apart k.apart source octets goes goes_too;
+          leaves = left_goes one two t.state s.state stations (t.role_stays ∙ (stations.role ∙ sym s.role_stays)) (t.node ∙ (ap (λ (x : Effect). x.node) same ∙ sym s.node)) l.apart k.apart source octets goes goes_too;
         }
 
   -- ---- two messages of one datagram
 
-  module _ (source : Endpoint) (octets : List ℕ) (answer : CreateSessionResponse) (asked : CreateBearerRequest) (late : Bool) (new left : Kept) (serves : one.role ≡ Serving) (t : TakesBoth u role source octets answer asked late new) (s : TakesBoth v role source octets answer asked late left) where
+  module _ (source : Endpoint) (octets : List ℕ) (answer : CreateSessionResponse) (asked : CreateBearerRequest) (late : Bool) (new left : WorldRecord) (serves : one.role ≡ Serving) (t : TakesBoth u role source octets answer asked late new) (s : TakesBoth v role source octets answer asked late left) where
     abbrev lies : Arrival
     lies = arrival_of source (first_part octets)
 
@@ -297,18 +297,18 @@ module _ (u v : Kept) (alike : WorldsAlike u v) (role : Role) (lasts : BothLast 
     }
 
     second_lowest : t.second.out.made ≢ [] → MakesLowestBearer mid t.second.node
-    second_lowest made = since t.second.node (subst (λ k. MakesLowestBearer one.node k) t.node (subst (λ r. MakesLowest r one.node t.station.node) (t.role_stays ∙ serves) (t.lowest made)))
+    second_lowest made = since t.second.node (subst (λ k. MakesLowestBearer one.node k) t.node (subst (λ r. MakesLowest r one.node t.state.node) (t.role_stays ∙ serves) (t.lowest made)))
 
     second_lowest_too : t.second.out.made ≢ [] → MakesLowestBearer mid s.second.node
     second_lowest_too made =
         since s.second.node (subst (λ k. MakesLowestBearer one.node k) s.node
-        (subst (λ n. MakesLowestBearer n s.station.node) (sym stations.node)
-        (subst (λ r. MakesLowest r two.node s.station.node) (s.role_stays ∙ (sym stations.role ∙ serves))
+        (subst (λ n. MakesLowestBearer n s.state.node) (sym stations.node)
+        (subst (λ r. MakesLowest r two.node s.state.node) (s.role_stays ∙ (sym stations.role ∙ serves))
         (s.lowest (λ none. made (ap (λ (o : Out). o.made) second_both.tell.told ∙ none))))))
 
     second_one : t.second ≡ s.second
     second_one = second_both.one (record {
-      drawn = one_drawn t.second.node s.second.node (tied_draws t.station t.second.node t.node t.timed.tied) (tied_draws s.station s.second.node s.node s.timed.tied) second_both.tell.counter second_both.tell.draws;
+      drawn = one_drawn t.second.node s.second.node (tied_draws t.state t.second.node t.node t.timed.tied) (tied_draws s.state s.second.node s.node s.timed.tied) second_both.tell.counter second_both.tell.draws;
       addresses = λ request reading is packet. absurd (not_packet packet);
       identities = λ request reading is serving made others x a b p q session.
           let first = lowest_identity mid t.second.node others x a (second_lowest made) p in
@@ -318,39 +318,39 @@ module _ (u v : Kept) (alike : WorldsAlike u v) (role : Role) (lasts : BothLast 
       wanted = λ request reading is packet. absurd (not_packet packet);
     })
 
-    pair_left : AreLeftAlike t.station s.station
+    pair_left : AreLeftAlike t.state s.state
     pair_left =
-        left_goes one two t.station s.station stations (t.role_stays ∙ (stations.role ∙ sym s.role_stays)) (t.node ∙ (ap (λ (x : Effect). x.node) second_one ∙ sym s.node))
+        left_goes one two t.state s.state stations (t.role_stays ∙ (stations.role ∙ sym s.role_stays)) (t.node ∙ (ap (λ (x : Effect). x.node) second_one ∙ sym s.node))
         (last_of u lasts role).apart (last_of v lasts_too role).apart source (second_part octets) t.timed s.timed
 
-    pair_becomes : kept_after_both v role s.station s.first s.second (sent_at (half_in v role) s.first.out) (sent_at (half_in v role) s.second.out) late ≡ kept_after_both v role s.station t.first t.second (sent_at (half_in u role) t.first.out) (sent_at (half_in u role) t.second.out) late
-    pair_becomes = λ i. kept_after_both v role s.station (sym first_one i) (sym second_one i) (sym (same_sent t.first s.first first_one) i) (sym (same_sent t.second s.second second_one) i) late
+    pair_becomes : kept_after_both v role s.state s.first s.second (sent_at (gateway_in v role) s.first.out) (sent_at (gateway_in v role) s.second.out) late ≡ kept_after_both v role s.state t.first t.second (sent_at (gateway_in u role) t.first.out) (sent_at (gateway_in u role) t.second.out) late
+    pair_becomes = λ i. kept_after_both v role s.state (sym first_one i) (sym second_one i) (sym (same_sent t.first s.first first_one) i) (sym (same_sent t.second s.second second_one) i) late
 
     pair_alike : WorldsAlike new left
     pair_alike =
         subst (λ k. WorldsAlike k left) (sym t.becomes)
-        (subst (λ k. WorldsAlike (kept_after_both u role t.station t.first t.second (sent_at (half_in u role) t.first.out) (sent_at (half_in u role) t.second.out) late) k) (sym (s.becomes ∙ pair_becomes))
-        (both_after_alike u v alike role t.station s.station pair_left t.first t.second (sent_at (half_in u role) t.first.out) (sent_at (half_in u role) t.second.out) late))
+        (subst (λ k. WorldsAlike (kept_after_both u role t.state t.first t.second (sent_at (gateway_in u role) t.first.out) (sent_at (gateway_in u role) t.second.out) late) k) (sym (s.becomes ∙ pair_becomes))
+        (both_after_alike u v alike role t.state s.state pair_left t.first t.second (sent_at (gateway_in u role) t.first.out) (sent_at (gateway_in u role) t.second.out) late))
 
 -- ---- what is kept after it
 
 -- worlds that are what was kept of the same
-become_alike : (u v new left : Kept) (role : Role) (one two : GatewayState) (out other : Out) (sent sent_too : List Datagram) (outcome outcome_too : EventOutcome) (late : Bool) → WorldsAlike u v → AreLeftAlike one two → out ≡ other → sent ≡ sent_too → outcome ≡ outcome_too → new ≡ kept_after u role one out sent outcome late → left ≡ kept_after v role two other sent_too outcome_too late → WorldsAlike new left
+become_alike : (u v new left : WorldRecord) (role : Role) (one two : GatewayState) (out other : Out) (sent sent_too : List Datagram) (outcome outcome_too : EventOutcome) (late : Bool) → WorldsAlike u v → AreLeftAlike one two → out ≡ other → sent ≡ sent_too → outcome ≡ outcome_too → new ≡ kept_after u role one out sent outcome late → left ≡ kept_after v role two other sent_too outcome_too late → WorldsAlike new left
 become_alike u v new left role one two out other sent sent_too outcome outcome_too late alike leaves same same_sent same_outcome is is_too =
     subst (λ k. WorldsAlike k left) (sym is)
     (subst (λ k. WorldsAlike (kept_after u role one out sent outcome late) k) (sym (is_too ∙ (λ i. kept_after v role two (sym same i) (sym same_sent i) (sym same_outcome i) late)))
     (after_alike u v alike role one two leaves out sent outcome late))
 
-takes_alike : (u v : Kept) → WorldsAlike u v → (role : Role) (input : Input) (Timed : List Datagram → EventOutcome → GatewayState → GatewayState → Type 0) (late : Bool) (new left : Kept) (t : Takes u role input Timed late new) (s : Takes v role input Timed late left) → IsOne t.effect s.effect t.station s.station → WorldsAlike new left
+takes_alike : (u v : WorldRecord) → WorldsAlike u v → (role : Role) (input : Input) (Timed : List Datagram → EventOutcome → GatewayState → GatewayState → Type 0) (late : Bool) (new left : WorldRecord) (t : StepsOn u role input Timed late new) (s : StepsOn v role input Timed late left) → IsOne t.effect s.effect t.state s.state → WorldsAlike new left
 takes_alike u v alike role input Timed late new left t s is =
-    become_alike u v new left role t.station s.station t.effect.out s.effect.out _ _ _ _ late alike is.leaves
+    become_alike u v new left role t.state s.state t.effect.out s.effect.out _ _ _ _ late alike is.leaves
     (ap (λ (k : Effect). k.out) is.effect)
-    (λ i. map (datagram_of ((half_alike u v alike role).station.node i).config) (is.effect i).out.sent)
+    (λ i. map (datagram_of ((half_alike u v alike role).state.node i).config) (is.effect i).out.sent)
     (ap (λ (k : Effect). k.outcome) is.effect)
     t.becomes s.becomes
 
 -- nothing comes of the event
-passed_alike : (u v new left : Kept) (outcome : EventOutcome) → WorldsAlike u v → new ≡ passed_over u outcome → left ≡ passed_over v outcome → WorldsAlike new left
+passed_alike : (u v new left : WorldRecord) (outcome : EventOutcome) → WorldsAlike u v → new ≡ passed_over u outcome → left ≡ passed_over v outcome → WorldsAlike new left
 passed_alike u v new left outcome alike is is_too =
     subst (λ k. WorldsAlike k left) (sym is)
     (subst (λ k. WorldsAlike (passed_over u outcome) k) (sym is_too)
@@ -358,16 +358,16 @@ passed_alike u v new left outcome alike is is_too =
 
 -- ---- a restart
 
-same_counter : (h k : Half) → HalvesAlike h k → counter_after h ≡ counter_after k
+same_counter : (h k : GatewayRecord) → HalvesAlike h k → counter_after h ≡ counter_after k
 same_counter h k a = λ i. (a.first i + (a.restarts i + 1)) % 256
 
 starts_alike : (role : Role) (settings : Settings) (counter : ℕ) → AreLeftAlike (starting role settings counter) (starting role settings counter)
 starts_alike role settings counter = record { role = refl; node = refl; timers = refl; next = refl; waiting = refl; held = refl }
 
-half_restarts : (role : Role) (h k : Half) → HalvesAlike h k → HalvesAlike (half_restarted role h) (half_restarted role k)
+half_restarts : (role : Role) (h k : GatewayRecord) → HalvesAlike h k → HalvesAlike (gateway_restarted role h) (gateway_restarted role k)
 half_restarts role h k a = record {
   settings = a.settings;
-  station = subst (λ (s : GatewayState). AreLeftAlike (starting role h.settings (counter_after h)) s) (λ i. starting role (a.settings i) (same_counter h k a i)) (starts_alike role h.settings (counter_after h));
+  state = subst (λ (s : GatewayState). AreLeftAlike (starting role h.settings (counter_after h)) s) (λ i. starting role (a.settings i) (same_counter h k a i)) (starts_alike role h.settings (counter_after h));
   first = a.first;
   restarts = ap (λ n. n + 1) a.restarts;
   seen = refl;
@@ -375,45 +375,45 @@ half_restarts role h k a = record {
   made = refl;
 }
 
-abbrev restarted_world : Kept → Role → Kept
-restarted_world v role = record (with_half v role (half_restarted role (half_in v role))) { log = log_with v.log (Restarted (counter_after (half_in v role))) }
+abbrev restarted_world : WorldRecord → Role → WorldRecord
+restarted_world v role = record (with_gateway v role (gateway_restarted role (gateway_in v role))) { log = log_with v.log (Restarted (counter_after (gateway_in v role))) }
 
-worlds_restarted : (u v : Kept) → WorldsAlike u v → (role : Role) → WorldsAlike (restarted_world u role) (restarted_world v role)
+worlds_restarted : (u v : WorldRecord) → WorldsAlike u v → (role : Role) → WorldsAlike (restarted_world u role) (restarted_world v role)
 worlds_restarted u v alike Serving = record { serving = half_restarts Serving u.serving v.serving alike.serving; packet = alike.packet; log = λ i. log_with (alike.log i) (Restarted (same_counter u.serving v.serving alike.serving i)) }
 worlds_restarted u v alike Packet = record { serving = alike.serving; packet = half_restarts Packet u.packet v.packet alike.packet; log = λ i. log_with (alike.log i) (Restarted (same_counter u.packet v.packet alike.packet i)) }
 
 -- ---- an event
 
-module _ (u v : Kept) (alike : WorldsAlike u v) (lasts : BothLast u) (lasts_too : BothLast v) where
-  ticks_alike : (role : Role) (new left : Kept) → TicksBy u role new → TicksBy v role left → WorldsAlike new left
+module _ (u v : WorldRecord) (alike : WorldsAlike u v) (lasts : BothLast u) (lasts_too : BothLast v) where
+  ticks_alike : (role : Role) (new left : WorldRecord) → TicksBy u role new → TicksBy v role left → WorldsAlike new left
   ticks_alike role new left t s =
       let halves = half_alike u v alike role in
-      let one = (half_in u role).station in
-      let two = (half_in v role).station in
-      let due = same_due one two halves.station in
-      let second = subst (λ n. Ticks n (due_in one.queues) s.out s.station.node) (sym halves.station.node) (subst (λ d. Ticks two.node d s.out s.station.node) (sym due) s.ticks) in
-      let same = one_tick one.node (due_in one.queues) t.out s.out t.station.node s.station.node t.ticks second in
-      become_alike u v new left role t.station s.station t.out s.out _ _ Ticked Ticked false alike
-      (left_ticked one two t.station s.station halves.station (t.role_stays ∙ (halves.station.role ∙ sym s.role_stays)) same.1 (last_of u lasts role).apart (last_of v lasts_too role).apart t.counts s.counts)
+      let one = (gateway_in u role).state in
+      let two = (gateway_in v role).state in
+      let due = same_due one two halves.state in
+      let second = subst (λ n. Ticks n (due_in one.queues) s.out s.state.node) (sym halves.state.node) (subst (λ d. Ticks two.node d s.out s.state.node) (sym due) s.ticks) in
+      let same = one_tick one.node (due_in one.queues) t.out s.out t.state.node s.state.node t.ticks second in
+      become_alike u v new left role t.state s.state t.out s.out _ _ Ticked Ticked false alike
+      (left_ticked one two t.state s.state halves.state (t.role_stays ∙ (halves.state.role ∙ sym s.role_stays)) same.1 (last_of u lasts role).apart (last_of v lasts_too role).apart t.counts s.counts)
       same.0
-      (λ i. map (datagram_of (halves.station.node i).config) (same.0 i).sent)
+      (λ i. map (datagram_of (halves.state.node i).config) (same.0 i).sent)
       refl
       t.becomes s.becomes
 
   -- a datagram comes to one gateway of both
-  module _ (role : Role) (source : Endpoint) (octets : List ℕ) (late : Bool) (new left : Kept) where
-    whole_alike : (plane : Plane) → Takes u role (coming plane source octets) (KeepsOn plane source octets) late new → Takes v role (coming plane source octets) (KeepsOn plane source octets) late left → WorldsAlike new left
+  module _ (role : Role) (source : Endpoint) (octets : List ℕ) (late : Bool) (new left : WorldRecord) where
+    whole_alike : (plane : Plane) → StepsOn u role (coming plane source octets) (KeepsOn plane source octets) late new → StepsOn v role (coming plane source octets) (KeepsOn plane source octets) late left → WorldsAlike new left
     whole_alike plane t s = takes_alike u v alike role _ _ late new left t s (datagram_one u v alike role lasts lasts_too plane source octets late new left t s)
 
-    abbrev Pairs : Kept → Type 0
-    Pairs w = TakesPair (half_in w role).station.role (half_in w role).station.node.config (arrival_of source octets) (datagram_reading octets)
+    abbrev Pairs : WorldRecord → Type 0
+    Pairs w = TakesPair (gateway_in w role).state.role (gateway_in w role).state.node.config (arrival_of source octets) (datagram_reading octets)
 
     -- a pair is taken by both, or by none
     pair_there : Pairs u → Pairs v
-    pair_there p = let s = (half_alike u v alike role).station in record { by = sym s.role ∙ p.by; peer = p.peer ∙ ap (λ (n : Node). n.config.peer.control) s.node; answer = p.answer; asked = p.asked; is = p.is }
+    pair_there p = let s = (half_alike u v alike role).state in record { by = sym s.role ∙ p.by; peer = p.peer ∙ ap (λ (n : Node). n.config.peer.control) s.node; answer = p.answer; asked = p.asked; is = p.is }
 
     pair_here : Pairs v → Pairs u
-    pair_here p = let s = (half_alike u v alike role).station in record { by = s.role ∙ p.by; peer = p.peer ∙ ap (λ (n : Node). n.config.peer.control) (sym s.node); answer = p.answer; asked = p.asked; is = p.is }
+    pair_here p = let s = (half_alike u v alike role).state in record { by = s.role ∙ p.by; peer = p.peer ∙ ap (λ (n : Node). n.config.peer.control) (sym s.node); answer = p.answer; asked = p.asked; is = p.is }
 
     pairs_alike : (p : Pairs u) (q : Pairs v) → TakesBoth u role source octets p.answer p.asked late new → TakesBoth v role source octets q.answer q.asked late left → WorldsAlike new left
     pairs_alike p q t s =
@@ -430,7 +430,7 @@ module _ (u v : Kept) (alike : WorldsAlike u v) (lasts : BothLast u) (lasts_too 
     taken_alike Control (inr t) (inr s) = pairs_alike t.0 s.0 t.1 s.1
     taken_alike User t s = whole_alike User t s
 
-  brings_alike : (sent : By Datagram) (octets : List ℕ) (late : Bool) (new left : Kept) → Brings u sent octets late new → Brings v sent octets late left → WorldsAlike new left
+  brings_alike : (sent : By Datagram) (octets : List ℕ) (late : Bool) (new left : WorldRecord) → Brings u sent octets late new → Brings v sent octets late left → WorldsAlike new left
   brings_alike sent octets late new left t s = taken_alike (other sent.role) sent.what.from octets late new left sent.what.plane t s
 
   -- the logs have the same datagrams
@@ -443,37 +443,37 @@ module _ (u v : Kept) (alike : WorldsAlike u v) (lasts : BothLast u) (lasts_too 
   found_here : (number : ℕ) → IsThere v.log.datagrams number → IsThere u.log.datagrams number
   found_here number found = subst (λ (l : Log). IsThere l.datagrams number) (sym alike.log) found
 
-  late_there : (role : Role) (d : Datagram) → IsLate (half_in u role) d → IsLate (half_in v role) d
+  late_there : (role : Role) (d : Datagram) → IsLate (gateway_in u role) d → IsLate (gateway_in v role) d
   late_there role d late = (late.0, subst (λ l. Among (arrival_of d.from (last_octets d.octets)) l) (half_alike u v alike role).forgotten late.1)
 
-  late_here : (role : Role) (d : Datagram) → IsLate (half_in v role) d → IsLate (half_in u role) d
+  late_here : (role : Role) (d : Datagram) → IsLate (gateway_in v role) d → IsLate (gateway_in u role) d
   late_here role d late = (late.0, subst (λ l. Among (arrival_of d.from (last_octets d.octets)) l) (sym (half_alike u v alike role).forgotten) late.1)
 
   -- a delivery of a datagram that is there
-  abbrev Delivered : Kept → By Datagram → Kept → Type 0
-  Delivered old sent new = Unless (IsLate (half_in old (other sent.role)) sent.what) (Brings old sent sent.what.octets false new) (λ late. Brings old sent sent.what.octets true new)
+  abbrev Delivered : WorldRecord → By Datagram → WorldRecord → Type 0
+  Delivered old sent new = Unless (IsLate (gateway_in old (other sent.role)) sent.what) (Brings old sent sent.what.octets false new) (λ late. Brings old sent sent.what.octets true new)
 
-  delivered_alike : (sent : By Datagram) (new left : Kept) → Delivered u sent new → Delivered v sent left → WorldsAlike new left
+  delivered_alike : (sent : By Datagram) (new left : WorldRecord) → Delivered u sent new → Delivered v sent left → WorldsAlike new left
   delivered_alike sent new left (inl t) (inl s) = brings_alike sent sent.what.octets false new left t.1 s.1
   delivered_alike sent new left (inl t) (inr s) = absurd (t.0 (late_here (other sent.role) sent.what s.0))
   delivered_alike sent new left (inr t) (inl s) = absurd (s.0 (late_there (other sent.role) sent.what t.0))
   delivered_alike sent new left (inr t) (inr s) = brings_alike sent sent.what.octets true new left t.1 s.1
 
   -- and of its first octets
-  abbrev CutOff : Kept → ℕ → By Datagram → Kept → Type 0
+  abbrev CutOff : WorldRecord → ℕ → By Datagram → WorldRecord → Type 0
   CutOff old count sent new = Unless (count < length sent.what.octets) (new ≡ passed_over old Cut_too_long) (λ short. Brings old sent (take count sent.what.octets) false new)
 
-  cut_alike : (count : ℕ) (sent : By Datagram) (new left : Kept) → CutOff u count sent new → CutOff v count sent left → WorldsAlike new left
+  cut_alike : (count : ℕ) (sent : By Datagram) (new left : WorldRecord) → CutOff u count sent new → CutOff v count sent left → WorldsAlike new left
   cut_alike count sent new left (inl t) (inl s) = passed_alike u v new left Cut_too_long alike t.1 s.1
   cut_alike count sent new left (inl t) (inr s) = absurd (t.0 s.0)
   cut_alike count sent new left (inr t) (inl s) = absurd (s.0 t.0)
   cut_alike count sent new left (inr t) (inr s) = brings_alike sent (take count sent.what.octets) false new left t.1 s.1
 
-  same_restarts : (role : Role) → (half_in u role).restarts ≡ (half_in v role).restarts
+  same_restarts : (role : Role) → (gateway_in u role).restarts ≡ (gateway_in v role).restarts
   same_restarts role = (half_alike u v alike role).restarts
 
   -- what comes of an event
-  pub comes_alike : (event : Event) (new left : Kept) → Comes u event new → Comes v event left → WorldsAlike new left
+  pub comes_alike : (event : Event) (new left : WorldRecord) → EventLeaves u event new → EventLeaves v event left → WorldsAlike new left
   comes_alike (Does role c) new left t s = takes_alike u v alike role (Commanded c) AsksFor false new left t s (command_one u v alike role lasts lasts_too c new left t s)
   comes_alike (Tick role) new left t s = ticks_alike role new left t s
   comes_alike (Deliver number) new left (inl t) (inl s) = passed_alike u v new left No_such_datagram alike t.1 s.1

@@ -13,11 +13,10 @@ use crate::messages::elements::written_teid;
 use crate::parts::Parts;
 use crate::receive::create_bearer_request::BearerRequest;
 use crate::tables::change::Change;
-use crate::tables::contexts::is_session_active;
 use crate::tables::teids::OneDrawn;
 use gtp_machine::causes;
 use gtp_tables::{Bearer, Kind, Session, State, View};
-use gtp_values::{Below, Ebi, Teid};
+use gtp_values::{Ebi, Teid};
 
 /// What a bearer is made with: its identity, and the TEID that is drawn for it.
 #[derive(Clone, Copy)]
@@ -42,13 +41,6 @@ pub enum CreateBearerAnswer {
 pub struct CreateBearerVerdict {
     pub header: Teid,
     pub answer: CreateBearerAnswer,
-}
-
-/// Whether the linked identity is the session's default.
-pub fn is_default(linked: Below<16>, session: &Session) -> bool
-    ensures { IsTrue result ↔ (linked ≡ session.now.subscriber.identity) }
-{
-    linked.number() == session.subscriber.identity.number()
 }
 
 impl CreateBearerAnswer {
@@ -90,8 +82,8 @@ pub fn granted_bearer(request: &BearerRequest, identity: Ebi) -> Bearer
     ensures { result ≡ granted_to request.now identity }
 {
     Bearer {
-        remote: Some(request.user.teid().0),
-        session: request.header.0,
+        remote: Some(request.user.teid()),
+        session: request.header,
         identity: Some(identity),
         kind: Kind::Dedicated,
         state: State::Active,
@@ -104,10 +96,10 @@ impl Parts {
     fn choose(&self, session: Teid, view: &View<'_>) -> Option<BearerGrant>
         requires whole { IsSoundState (state_of self.now) }
         ensures identity { IfSome result (λ g.
-            IsLowestUnused view.now.bearers session.0 g.identity) }
+            IsLowestUnused view.now.bearers session g.identity) }
         ensures drawn { IfSome result (λ g. IsOneDrawn g.drawn (node_of self.now)) }
         ensures none { IfNone result (HasDraws (node_of self.now) 1
-            → HasAll view.now.bearers session.0) }
+            → HasAll view.now.bearers session) }
     {
         let identity = view.lowest_free_identity(session).ok()?;
         let drawn = self.draw_one()?;
@@ -124,7 +116,7 @@ impl Parts {
     ) -> Option<CreateBearerVerdict>
         requires whole { IsSoundState (state_of self.now) }
         ensures judged { (node : Node)
-            → StandsWith request.now.header.0 found view.now.bearers (node_of self.now) node
+            → StandsWith request.now.header found view.now.bearers (node_of self.now) node
             → JudgesCreateBearer request.now node result }
         ensures given { IfSome result (λ v. CanGive found v.answer (node_of self.now)) }
         ensures fit { IfSome result (λ v. HasFitCause v.answer) }
@@ -137,7 +129,7 @@ impl Parts {
                 },
             });
         };
-        if !is_session_active(&session) {
+        if !session.is_active() {
             return None;
         }
         let header = written_teid(session.remote);
@@ -149,7 +141,7 @@ impl Parts {
                 },
             });
         }
-        if !is_default(request.linked, &session) {
+        if !session.is_default(request.linked) {
             return Some(CreateBearerVerdict {
                 header,
                 answer: CreateBearerAnswer::Refused {

@@ -7,7 +7,7 @@ ghost use Rattle.gtp_v2.specs.DeleteBearerRequest.{delete_bearer_request};
 ghost use Rattle.gtp_machine.specs.Element.{cause_of};
 ghost use Rattle.gtp_machine.specs.Message.{Delete_bearer_response};
 ghost use Rattle.gtp_machine.specs.Reading.{control_message};
-ghost use Rattle.gtp_machine.specs.Serving.{removal_cause};
+ghost use Rattle.gtp_machine.specs.Serving.{delete_bearer_cause};
 ghost use Rattle.gtp_gateway.specs.receive.DeleteBearerRequest.{NamesOne, NamesEach, number_in, identity_named, removed_by, without_each, IsForBearers, EndsNamed, TakesDeleteBearerRequest};
 ghost use Rattle.gtp_gateway.specs.messages.Own.{IsOwn};
 ghost use Rattle.gtp_gateway.specs.Parts.{node_of};
@@ -33,7 +33,7 @@ impl Parts {
     /// The session's dedicated bearer with the identity, where it does not go for one before.
     fn bearer_for(&self, session: Teid, identity: EbiValue, before: &[NamedBearer]) -> Option<Teid>
         requires whole { IsSoundState (state_of self.now) }
-        ensures { NamesOne (node_of self.now) session.0 before.now identity.0 result }
+        ensures { NamesOne (node_of self.now) session before.now identity.0 result }
     {
         let Ok(identity) = Ebi::try_from(identity) else {
             return None;
@@ -59,7 +59,7 @@ impl Parts {
         ensures identities { IfOk result (λ named.
             map identity_named named.items ≡ map number_in identities.now) }
         ensures names { IfOk result (λ named.
-            NamesEach (node_of self.now) session.0 [] named.items) }
+            NamesEach (node_of self.now) session [] named.items) }
     {
         let mut named = Vec::new(alloc);
         for identity in identities {
@@ -97,9 +97,9 @@ impl Parts {
         requires { length named.now ≤ 11 }
         ensures says { IfOk result (λ message. control_message message
             ≡ Delete_bearer_response (record {
-              header = header.0;
+              header = header;
               number = seq;
-              cause = cause_of (removal_cause (map removed_by named.now));
+              cause = cause_of (delete_bearer_cause (map removed_by named.now));
               linked = None;
               contexts = map removed_by named.now;
               recovery = Some (node_of self.now).counter;
@@ -126,7 +126,7 @@ impl Parts {
         requires whole { IsSoundState (state_of self.old) }
         requires fresh { IsFresh source octets.now (state_of self.old) self.old.held.pairs }
         requires few { length self.old.held.pairs < 4096 }
-        requires asked { IsForBearers request.now header.0 (node_of self.old) }
+        requires asked { IsForBearers request.now header (node_of self.old) }
         requires short { length identities.now ≤ 11 }
         ensures taken { IfOk result (λ step. EndsNamed source octets.now request.now identities.now
             (state_of self.old) step (state_of self.new)) }
@@ -159,7 +159,7 @@ impl Parts {
         requires whole { IsSoundState (state_of self.old) }
         requires fresh { IsFresh source octets.now (state_of self.old) self.old.held.pairs }
         requires few { length self.old.held.pairs < 4096 }
-        requires asked { IsForBearers request.now header.0 (node_of self.old) }
+        requires asked { IsForBearers request.now header (node_of self.old) }
         requires kind { view.now.message.kind ≡ delete_bearer_request.kind }
         ensures taken { IfOk result (λ step. TakesDeleteBearerRequest source octets.now
             view.now.message request.now (state_of self.old) step (state_of self.new)) }

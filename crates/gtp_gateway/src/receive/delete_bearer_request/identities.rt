@@ -2,7 +2,7 @@
 
 ghost use Rattle.std.specs.Prelude.{◌≡◌, ◌<◌, ◌↔◌, map, length, IsTrue, IfOk};
 ghost use Rattle.gtp_v2.specs.DeleteBearerRequest.{delete_bearer_request};
-ghost use Rattle.gtp_machine.specs.Serving.{removal_cause};
+ghost use Rattle.gtp_machine.specs.Serving.{delete_bearer_cause};
 ghost use Rattle.std.specs.List.{list_all, list_any};
 ghost use Rattle.gtp_gateway.specs.receive.DeleteBearerRequest.{number_in, identities_of, goes_for, is_found, was_named, removed_by, context_by};
 
@@ -54,11 +54,11 @@ pub fn has_too_many(view: &MessageView<'_>) -> bool
 impl NamedBearer {
     /// Whether this bearer goes.
     fn is_for(&self, teid: Teid) -> bool
-        ensures { result ≡ goes_for teid.0 self.now }
+        ensures { result ≡ goes_for teid self.now }
     {
         match self.teid {
             None => false,
-            Some(named) => teid.0 == named.0,
+            Some(named) => teid == named,
         }
     }
 
@@ -79,7 +79,7 @@ impl NamedBearer {
 
 /// Whether the bearer goes for one of these.
 pub fn is_named(named: &[NamedBearer], teid: Teid) -> bool
-    ensures { result ≡ was_named teid.0 named.now }
+    ensures { result ≡ was_named teid named.now }
 {
     named.iter().any(|n| n.is_for(teid))
 }
@@ -111,7 +111,7 @@ fn is_any_found(named: &[NamedBearer]) -> bool
 
 /// The cause of the answer: all bearers go, some do, or none does.
 pub fn cause_of_all(named: &[NamedBearer]) -> u8
-    ensures { result ≡ removal_cause (map removed_by named.now) }
+    ensures { result ≡ delete_bearer_cause (map removed_by named.now) }
 {
     if are_all_found(named) {
         causes::REQUEST_ACCEPTED

@@ -32,7 +32,7 @@ use std::alloc::Global;
 
 /// The session under a TEID once a response is applied, by what was there before.
 fn session_left(verdict: ResponseVerdict, teid: Teid, before: Option<Session>) -> Option<Session>
-    ensures { result ≡ session_left verdict teid.0 before }
+    ensures { result ≡ session_left verdict teid before }
 {
     match verdict {
         ResponseVerdict::Drops(_) | ResponseVerdict::OpensBearer { .. } => before,
@@ -68,7 +68,7 @@ impl Parts {
         requires { IsOfSession verdict.now (node_heard heard (node_of self.now)) }
         ensures { (number : ℕ) → result
             ≡ map.get (node_after_first heard verdict.now number (node_of self.now)).sessions
-            teid.0 }
+            teid }
     {
         let before = self.view_after(heard).session(teid);
         session_left(*verdict, teid, before)
@@ -89,7 +89,7 @@ impl Parts {
             (node_after_first heard verdict.now number (node_of self.now)) result }
         ensures given { IfSome result (λ v. (number : ℕ) → CanGive
             (map.get (node_after_first heard verdict.now number (node_of self.now)).sessions
-            request.now.header.0) v.answer (node_of self.now)) }
+            request.now.header) v.answer (node_of self.now)) }
         ensures fit { IfSome result (λ v. HasFitCause v.answer) }
     {
         let found = self.session_after_first(heard, verdict, request.header);
@@ -112,7 +112,7 @@ impl Parts {
         requires weighed { IsHeard heard self.old.peer }
         requires can { CanApply verdict (node_heard heard (node_of self.old)) }
         requires drawn { CanChange (changes.MakesBearer draws teid bearer) (node_of self.old) }
-        requires stands { MayStand heard verdict teid.0 bearer (node_of self.old) }
+        requires stands { MayStand heard verdict teid bearer (node_of self.old) }
         ensures node { OnOk result (node_of self.new
             ≡ changed_by (changes.MakesBearer draws teid bearer)
             (node_after_first heard verdict seq (node_of self.old))) }
@@ -145,7 +145,7 @@ impl Parts {
         requires of { IsOfSession verdict (node_heard heard (node_of self.old)) }
         requires given { CanGive (map.get
             (node_after_first heard verdict seq (node_of self.old)).sessions
-            request.now.header.0) answer.now (node_of self.old) }
+            request.now.header) answer.now (node_of self.old) }
         ensures node { OnOk result (node_of self.new
             ≡ changed_by (change_for request.now answer.now)
             (node_after_first heard verdict seq (node_of self.old))) }
@@ -195,7 +195,7 @@ impl Parts {
             (node_after_first heard verdict seq (node_of self.old)) (Some judged.now) }
         requires given { CanGive (map.get
             (node_after_first heard verdict seq (node_of self.old)).sessions
-            request.now.header.0) judged.now.answer (node_of self.old) }
+            request.now.header) judged.now.answer (node_of self.old) }
         requires fit { HasFitCause judged.now.answer }
         ensures taken { IfOk result (λ step. IsSecondTaken source octets.now request.now
             (state_after_first heard verdict seq (state_of self.old)) step (state_of self.new)) }

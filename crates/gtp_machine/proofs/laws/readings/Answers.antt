@@ -49,8 +49,8 @@ returns-clause-spelled c = spelled_reads
 pub returns-clause-apart : goal.returns-clause-apart
 returns-clause-apart c = spelled_apart
 
-pub returns-clause-session_request : goal.returns-clause-session_request
-returns-clause-session_request c = law.session_request_reads
+pub returns-clause-create_session_request : goal.returns-clause-create_session_request
+returns-clause-create_session_request c = law.create_session_request_reads
 
-pub returns-clause-bearer_request : goal.returns-clause-bearer_request
-returns-clause-bearer_request c = law.bearer_request_reads
+pub returns-clause-create_bearer_request : goal.returns-clause-create_bearer_request
+returns-clause-create_bearer_request c = law.create_bearer_request_reads

@@ -1,6 +1,6 @@
 use Rattle.std.proofs.Common.{rules, ◌≡◌, ◌+◌, min, map, take, drop, length, arith}
 use Rattle.gtp_capture.specs.Writing.{sent_of}
-use Rattle.gtp_world.specs.Kept.{sent_by, told_by}
+use Rattle.gtp_world.specs.Record.{sent_by, told_by}
 use Rattle.gtp_replay.proofs.Captured.{one_note}
 use Rattle.gtp_outcomes.proofs.Numbered.{next_of, stands_at}
 use Rattle.gtp_replay.proofs.capturing.all_frames.Goals as goal

@@ -1,7 +1,7 @@
 use Rattle.std.proofs.Common.{◌≡◌, ◌+◌, ◌++◌, map, drop, length}
 use Rattle.std.specs.List.{enumerate_from}
 use Rattle.gtp_capture.specs.Writing.{sent_of}
-use Rattle.gtp_world.specs.Kept.{sent_by, told_by}
+use Rattle.gtp_world.specs.Record.{sent_by, told_by}
 use Rattle.gtp_replay.specs.Captures.{frames_from}
 use Rattle.gtp_replay.proofs.capturing.all_frames.Given as goal
 

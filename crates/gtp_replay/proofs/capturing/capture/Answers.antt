@@ -1,5 +1,5 @@
 use Rattle.std.proofs.Common.{map, refl}
-use Rattle.gtp_world.specs.Kept.{sent_by, told_by}
+use Rattle.gtp_world.specs.Record.{sent_by, told_by}
 use Rattle.gtp_replay.proofs.Captured.{all_fitting}
 use Rattle.gtp_replay.proofs.capturing.capture.Goals as goal
 

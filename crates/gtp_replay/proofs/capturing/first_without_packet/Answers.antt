@@ -1,5 +1,5 @@
 use Rattle.std.proofs.Common.{sym, ◌∙◌}
-use Rattle.gtp_world.specs.Kept.{sent_by}
+use Rattle.gtp_world.specs.Record.{sent_by}
 use Rattle.gtp_replay.proofs.Packets.{one_more, none_left, first_lacks}
 use Rattle.gtp_replay.proofs.capturing.first_without_packet.Goals as goal
 

@@ -1,5 +1,5 @@
 use Rattle.std.proofs.Common.{map, take}
-use Rattle.gtp_world.specs.Kept.{sent_by}
+use Rattle.gtp_world.specs.Record.{sent_by}
 use Rattle.gtp_replay.specs.Captures.{HavePackets}
 use Rattle.gtp_replay.proofs.capturing.first_without_packet.Given as goal
 

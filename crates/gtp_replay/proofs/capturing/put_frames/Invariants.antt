@@ -1,7 +1,7 @@
 use Rattle.std.proofs.Common.{◌≡◌, ◌+◌, ◌++◌, map, drop}
 use Rattle.std.specs.List.{flat_map, enumerate_from}
 use Rattle.gtp_capture.specs.Writing.{sent_of}
-use Rattle.gtp_world.specs.Kept.{sent_by}
+use Rattle.gtp_world.specs.Record.{sent_by}
 use Rattle.gtp_replay.specs.Captures.{frame_in}
 use Rattle.gtp_replay.proofs.capturing.put_frames.Given as goal
 

@@ -1,5 +1,5 @@
 use Rattle.std.proofs.Common.{◌≡◌, map, drop}
-use Rattle.gtp_world.specs.Kept.{told_by}
+use Rattle.gtp_world.specs.Record.{told_by}
 use Rattle.gtp_scenario.specs.Views.{entry as entry_view}
 use Rattle.gtp_replay.specs.Expected.{all_met}
 use Rattle.gtp_replay.proofs.expected.all_met.Given as goal

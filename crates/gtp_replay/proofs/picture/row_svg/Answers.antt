@@ -1,5 +1,5 @@
 use Rattle.std.proofs.Common.{◌≡◌, ◌∙◌, ◌++◌, codes, ap, subst, sym}
-use Rattle.gtp_world.specs.Kept.{sent_by}
+use Rattle.gtp_world.specs.Record.{sent_by}
 use Rattle.gtp_replay.specs.RowViews.{row_of}
 use Rattle.gtp_replay.specs.Svg.{arrow_svg, short_path, IsRowSvg}
 use Rattle.gtp_replay.proofs.picture.row_svg.Goals as goal

@@ -1,5 +1,5 @@
 use Rattle.std.proofs.Common.{◌+◌, map}
-use Rattle.gtp_world.specs.Kept.{sent_by}
+use Rattle.gtp_world.specs.Record.{sent_by}
 use Rattle.gtp_replay.specs.Rows.{lost_rows}
 use Rattle.gtp_replay.specs.RowViews.{row_of}
 use Rattle.gtp_replay.proofs.Marks.{flat_more, numbered_next}

@@ -4,7 +4,7 @@ use Rattle.json.specs.Token.{Token}
 use Rattle.json.specs.Json.{document}
 use Rattle.json.specs.Print.{print}
 use Rattle.gtp_world.specs.Events.{event_of}
-use Rattle.gtp_world.specs.Kept.{sent_by, told_by}
+use Rattle.gtp_world.specs.Record.{sent_by, told_by}
 use Rattle.gtp_json.proofs.Tokens.{whole}
 use Rattle.gtp_json.proofs.Reading.{reads}
 use Rattle.gtp_run_json.specs.Happened.{head_members, left_members, event_json}

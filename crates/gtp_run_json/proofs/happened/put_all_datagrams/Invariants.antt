@@ -1,7 +1,7 @@
 use Rattle.std.proofs.Common.{◌≡◌, ◌+◌, ◌++◌, map, drop}
 use Rattle.std.specs.List.{flat_map, enumerate_from}
 use Rattle.json.specs.Tree.{json_tokens}
-use Rattle.gtp_world.specs.Kept.{sent_by}
+use Rattle.gtp_world.specs.Record.{sent_by}
 use Rattle.gtp_run_json.specs.Happened.{sent_json}
 use Rattle.gtp_run_json.proofs.happened.put_all_datagrams.Given as goal
 

@@ -1,7 +1,7 @@
 use Rattle.std.proofs.Common.{rules, ◌≡◌, ◌++◌, codes}
 use Rattle.json.specs.Json.{boolean}
 use Rattle.gtp_scenario.specs.Words.{role_text}
-use Rattle.gtp_world.specs.Kept.{entry_by}
+use Rattle.gtp_world.specs.Record.{entry_by}
 use Rattle.gtp_json.specs.Tree.{member}
 use Rattle.gtp_json.specs.Values.{hexadecimal}
 use Rattle.gtp_json.specs.reading.Tokens.{written}

@@ -8,8 +8,8 @@ use Rattle.gtp_run_json.proofs.verdicts.put_pair.Goals as goal
 pub returns : goal.returns
 returns c =
     let kind = word_member (codes "kind") c.args.kind.now in
-    let serving = teid_member (codes "serving") c.args.serving.0 in
-    let packet = teid_member (codes "packet") c.args.packet.0 in
+    let serving = teid_member (codes "serving") c.args.serving in
+    let packet = teid_member (codes "packet") c.args.packet in
     let agree = member (codes "agree") (boolean c.args.agree) in
     let all = four_times c.begin_object.new.self c.string_member.new.self c.put_teid.new.out c.put_teid-2.new.out c.bool_member.new.self kind serving packet agree
     c.in_ok-string_member.ensures.ok c.in_ok-put_teid.ensures.ok c.in_ok-put_teid-2.ensures.ok c.in_ok-bool_member.ensures.ok in

@@ -1,4 +1,4 @@
-use Rattle.std.proofs.Common.{◌≡◌, sym, ◌∙◌, ap}
+use Rattle.std.proofs.Common.{◌∙◌}
 use Rattle.gtp_machine.specs.Config.{Template}
 use Rattle.gtp_scenario.specs.Heads.{configured}
 use Rattle.gtp_scenario.proofs.Templates.{template_put}

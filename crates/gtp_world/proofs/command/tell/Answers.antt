@@ -11,4 +11,4 @@ returns-in-Echo-clause-refused c = subst (λ (e : Event). IsRefusedWhere (comman
 pub returns-in-SendUser-clause-refused : goal.returns-in-SendUser-clause-refused
 returns-in-SendUser-clause-refused c =
     subst (λ (e : Event). IsRefusedWhere (command_of e) c.args.gateway.now c.send_user.result) (sym c.in-SendUser.is)
-    (subst (λ k. IsRefusedWhere (Send_user c.in-SendUser.bearer.0 k) c.args.gateway.now c.send_user.result) c.as_slice.ensures.value c.send_user.ensures.refused)
+    (subst (λ k. IsRefusedWhere (Send_user c.in-SendUser.bearer k) c.args.gateway.now c.send_user.result) c.as_slice.ensures.value c.send_user.ensures.refused)

@@ -17,9 +17,9 @@ returns-in_default-clause-steps c =
     (none, none)
 
 pub returns-clause-steps : goal.returns-clause-steps
-returns-clause-steps c = sym c.self.view_is ∙ drop_at (entries c.self.inside.bearers.now) c.self.inside.next (c.in-Some.entry.0.0, c.in-Some.entry.1) (sym c.in-Some.ensures)
+returns-clause-steps c = sym c.self.view_is ∙ drop_at (entries c.self.inside.bearers.now) c.self.inside.next c.in-Some.entry (sym c.in-Some.ensures)
 
 pub returns-clause-goes : goal.returns-clause-goes
 returns-clause-goes c =
-    let e = sym c.self.view_is ∙ drop_at (entries c.self.inside.bearers.now) c.self.inside.next (c.in-Some.entry.0.0, c.in-Some.entry.1) (sym c.in-Some.ensures) in
+    let e = sym c.self.view_is ∙ drop_at (entries c.self.inside.bearers.now) c.self.inside.next c.in-Some.entry (sym c.in-Some.ensures) in
     record { on = λ _. (tt, tt, omega (arith, ap length e)); keeps = tt; rests = λ _. tt }

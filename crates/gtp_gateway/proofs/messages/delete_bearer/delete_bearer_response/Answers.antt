@@ -7,10 +7,10 @@ use Rattle.gtp_gateway.proofs.DeleteBearerRequests.{delete_bearer_said, delete_b
 use Rattle.gtp_gateway.proofs.messages.delete_bearer.delete_bearer_response.Goals as goal
 
 pub returns-clause-own : goal.returns-clause-own
-returns-clause-own c = delete_bearer_own c.args.header c.args.seq c.plain_cause.result c.match-linked.linked_ebi c.of.result c.args.counter (subst (λ (cs : List RemovalResponseContext). length cs ≤ 11) (sym c.of.ensures) c.requires)
+returns-clause-own c = delete_bearer_own c.args.header c.args.seq c.plain_cause.result c.map.result c.of.result c.args.counter (subst (λ (cs : List RemovalResponseContext). length cs ≤ 11) (sym c.of.ensures) c.requires)
 
 pub returns-clause-says : goal.returns-clause-says
 returns-clause-says c =
-    let linked : option_map (λ (e : EbiValue). e.0) c.match-linked.linked_ebi ≡ c.args.linked = search rules in
-    delete_bearer_said c.args.header c.args.seq c.plain_cause.result c.match-linked.linked_ebi c.of.result c.args.counter
-    ∙ (λ i. Delete_bearer_response (record { header = c.args.header.0; number = c.args.seq; cause = c.plain_cause.ensures i; linked = linked i; contexts = map removed_bearer (c.of.ensures i); recovery = Some c.args.counter.0 }))
+    let linked : option_map (λ (e : EbiValue). e.0) c.map.result ≡ c.args.linked = search rules in
+    delete_bearer_said c.args.header c.args.seq c.plain_cause.result c.map.result c.of.result c.args.counter
+    ∙ (λ i. Delete_bearer_response (record { header = c.args.header; number = c.args.seq; cause = c.plain_cause.ensures i; linked = linked i; contexts = map removed_bearer (c.of.ensures i); recovery = Some c.args.counter.0 }))

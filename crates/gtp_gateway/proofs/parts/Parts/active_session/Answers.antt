@@ -5,12 +5,12 @@ use Rattle.gtp_gateway.proofs.ActiveSessions.{here}
 use Rattle.gtp_gateway.proofs.Columns.{no}
 use Rattle.gtp_gateway.proofs.parts.Parts.active_session.Goals as goal
 
-pub returns-then-not-is_session_active-clause-refused : goal.returns-then-not-is_session_active-clause-refused
-returns-then-not-is_session_active-clause-refused c =
+pub returns-then-not-is_active-clause-refused : goal.returns-then-not-is_active-clause-refused
+returns-then-not-is_active-clause-refused c =
     let s = state_of c.args.self.now in
     let role : s.role ≡ c.args.only = search rules in
     record {
       why = NotActive;
       is = refl;
-      first = here c.args.only s.role s.node _ _ role (inr (record { session = c.in-Some.at; stands = sym c.get.ensures ∙ c.in-Some.is }, inl (no c.is_session_active.ensures c.if-not-is_session_active.true, refl)));
+      first = here c.args.only s.role s.node _ _ role (inr (record { session = c.in-Some.at; stands = sym c.get.ensures ∙ c.in-Some.is }, inl (no c.is_active.ensures c.if-not-is_active.true, refl)));
     }

@@ -28,12 +28,12 @@ rest s session tft qos e at =
 pub returns-in_err-at-clause-refused : goal.returns-in_err-at-clause-refused
 returns-in_err-at-clause-refused c =
     let s = state_of c.args.self.now in
-    refused_first Packet s c.args.session.0 (rest s c.args.session.0 c.args.tft.now c.args.qos.now) c.in_err-at.field-0.0 c.from_residual.result c.from_residual.ensures.1 c.in_err-at.ensures.refused
+    refused_first Packet s c.args.session (rest s c.args.session c.args.tft.now c.args.qos.now) c.in_err-at.field-0.0 c.from_residual.result c.from_residual.ensures.1 c.in_err-at.ensures.refused
 
 pub returns-in_default-clause-refused : goal.returns-in_default-clause-refused
 returns-in_default-clause-refused c = λ why.
     let s = state_of c.args.self.now in
-    goes_active Packet s c.args.session.0 (rest s c.args.session.0 c.args.tft.now c.args.qos.now) c.in_ok-at.at _ c.in_ok-at.ensures.active why
+    goes_active Packet s c.args.session (rest s c.args.session c.args.tft.now c.args.qos.now) c.in_ok-at.at _ c.in_ok-at.ensures.active why
     (stops s.node _ TeidsUsed refl c.in_default.ensures.none why)
 
 -- where a TEID is left, the last rule decides
@@ -46,23 +46,23 @@ by_last s session at tft qos r active left rule = λ why.
 pub returns-in_err-seq-clause-refused : goal.returns-in_err-seq-clause-refused
 returns-in_err-seq-clause-refused c =
     let s = state_of c.args.self.now in
-    by_last s c.args.session.0 c.in_ok-at.at c.args.tft.now c.args.qos.now c.from_residual-in_err-seq.result c.in_ok-at.ensures.active c.in-Some.ensures.some.left
+    by_last s c.args.session c.in_ok-at.at c.args.tft.now c.args.qos.now c.from_residual-in_err-seq.result c.in_ok-at.ensures.active c.in-Some.ensures.some.left
     (as_err s c.in_err-seq.field-0.0 c.from_residual-in_err-seq.result c.from_residual-in_err-seq.ensures.1 c.in_err-seq.ensures.refused)
 
 pub returns-in_err-request-clause-refused : goal.returns-in_err-request-clause-refused
 returns-in_err-request-clause-refused c =
     let s = state_of c.args.self.now in
-    by_last s c.args.session.0 c.in_ok-at.at c.args.tft.now c.args.qos.now c.from_residual-in_err-request.result c.in_ok-at.ensures.active c.in-Some.ensures.some.left
+    by_last s c.args.session c.in_ok-at.at c.args.tft.now c.args.qos.now c.from_residual-in_err-request.result c.in_ok-at.ensures.active c.in-Some.ensures.some.left
     (no_memory s c.in_ok-seq.ensures.room c.from_residual-in_err-request.result c.from_residual-in_err-request.ensures.1)
 
 pub returns-clause-refused : goal.returns-clause-refused
 returns-clause-refused c =
-    by_last (state_of c.args.self.now) c.args.session.0 c.in_ok-at.at c.args.tft.now c.args.qos.now c.send_request.result c.in_ok-at.ensures.active c.in-Some.ensures.some.left c.send_request.ensures.refused
+    by_last (state_of c.args.self.now) c.args.session c.in_ok-at.at c.args.tft.now c.args.qos.now c.send_request.result c.in_ok-at.ensures.active c.in-Some.ensures.some.left c.send_request.ensures.refused
 
 pub returns-clause-done : goal.returns-clause-done
 returns-clause-done c =
     let old = state_of c.args.self.now in
-    let session = c.args.session.0 in
+    let session = c.args.session in
     let tft = c.args.tft.now in
     let qos = c.args.qos.now in
     let drawn = c.in-Some.drawn in
@@ -70,5 +70,5 @@ returns-clause-done c =
     done_by (Create_bearer session tft qos) seq _ (request_to_create_bearer drawn c.args.session c.in_ok-at.at tft qos seq old.node) c.send_request.result old (state_of c.send_request.new.self)
     c.in_ok-request.ensures.says (λ teid. refl)
     (λ e room asks. reaches Packet old session (rest old session tft qos) c.in_ok-at.at e c.in_ok-at.ensures.active
-    (inr (c.in-Some.ensures.some.left, inr (room, record { user = drawn.teid.0; number = seq; user_free = c.in-Some.ensures.some.free; number_free = asks.number_free; gives = asks.gives }))))
+    (inr (c.in-Some.ensures.some.left, inr (room, record { user = drawn.teid; number = seq; user_free = c.in-Some.ensures.some.free; number_free = asks.number_free; gives = asks.gives }))))
     c.send_request.ensures.done

@@ -67,7 +67,7 @@ returns-clause-done c =
     done_by (Create_session spec) seq _ (request_to_create_session drawn c.args.spec.now seq old.node) c.send_request.result old (state_of c.send_request.new.self)
     c.in_ok-request.ensures.says (λ teid. refl)
     (λ e room asks. subst (λ (role : Role). SessionBegun role spec old.node e) (sym c.in-Serving.is)
-    (inr (yes c.has_session_room.ensures c.if-not-has_session_room.false, inr (two.left, inr (room, record { control = drawn.control.0; user = drawn.user.0; number = seq; control_free = two.control_free; user_free = two.user_free; apart = two.apart; number_free = asks.number_free; gives = asks.gives })))))
+    (inr (yes c.has_session_room.ensures c.if-not-has_session_room.false, inr (two.left, inr (room, record { control = drawn.control; user = drawn.user; number = seq; control_free = two.control_free; user_free = two.user_free; apart = two.apart; number_free = asks.number_free; gives = asks.gives })))))
     c.send_request.ensures.done
 
 -- the TEIDs that were drawn can be used

@@ -23,7 +23,7 @@ pub returns-then-not-are_active-clause-refused : goal.returns-then-not-are_activ
 returns-then-not-are_active-clause-refused c = λ why.
     let old = state_of c.args.self.now in
     let node = old.node in
-    let session = c.args.session.0 in
+    let session = c.args.session in
     let identity = c.args.identity in
     let d = c.in-Some-dedicated in
     subst (λ (role : Role). Told _ why ↔ BearerDeleted role session identity node (refused node why)) (sym c.in-Packet.is)
@@ -38,30 +38,30 @@ by_last s whole session identity at d r role stands named active rule = λ why.
     (goes_session s.node r (ends_session session identity s.node (refused s.node why)) session at NoSuchContext why stands
     (goes_named s whole session identity r (ends_named session identity s.node (refused s.node why) at) d NoSuchContext why named
     (goes s.node r NotActive why active (λ _.
-    last s r (ClosesBearer s.node session at identity d.teid.0 d.bearer) why rule (closing_goes_on s.node session at identity d.teid.0 d.bearer why)))))
+    last s r (ClosesBearer s.node session at identity d.teid d.bearer) why rule (closing_goes_on s.node session at identity d.teid d.bearer why)))))
 
 pub returns-in_err-seq-clause-refused : goal.returns-in_err-seq-clause-refused
 returns-in_err-seq-clause-refused c =
     let d = c.in-Some-dedicated in
-    by_last (state_of c.args.self.now) c.requires.whole c.args.session.0 c.args.identity c.in-Some.at d.named _ c.in-Packet.is (sym c.get.ensures ∙ c.in-Some.is) d.ensures.some (yes c.are_active.ensures c.if-not-are_active.false) (as_err (state_of c.args.self.now) c.in_err-seq.field-0.0 c.from_residual.result c.from_residual.ensures.1 c.in_err-seq.ensures.refused)
+    by_last (state_of c.args.self.now) c.requires.whole c.args.session c.args.identity c.in-Some.at d.named _ c.in-Packet.is (sym c.get.ensures ∙ c.in-Some.is) d.ensures.some (yes c.are_active.ensures c.if-not-are_active.false) (as_err (state_of c.args.self.now) c.in_err-seq.field-0.0 c.from_residual.result c.from_residual.ensures.1 c.in_err-seq.ensures.refused)
 
 pub returns-in_err-request-clause-refused : goal.returns-in_err-request-clause-refused
 returns-in_err-request-clause-refused c =
     let d = c.in-Some-dedicated in
-    by_last (state_of c.args.self.now) c.requires.whole c.args.session.0 c.args.identity c.in-Some.at d.named _ c.in-Packet.is (sym c.get.ensures ∙ c.in-Some.is) d.ensures.some (yes c.are_active.ensures c.if-not-are_active.false)
+    by_last (state_of c.args.self.now) c.requires.whole c.args.session c.args.identity c.in-Some.at d.named _ c.in-Packet.is (sym c.get.ensures ∙ c.in-Some.is) d.ensures.some (yes c.are_active.ensures c.if-not-are_active.false)
     (no_memory (state_of c.args.self.now) c.in_ok-seq.ensures.room c.from_residual-in_err-request.result c.from_residual-in_err-request.ensures.1)
 
 pub returns-clause-refused : goal.returns-clause-refused
 returns-clause-refused c =
     let d = c.in-Some-dedicated in
     let r = c.send_request.result in
-    by_last (state_of c.args.self.now) c.requires.whole c.args.session.0 c.args.identity c.in-Some.at d.named r c.in-Packet.is (sym c.get.ensures ∙ c.in-Some.is) d.ensures.some (yes c.are_active.ensures c.if-not-are_active.false)
+    by_last (state_of c.args.self.now) c.requires.whole c.args.session c.args.identity c.in-Some.at d.named r c.in-Packet.is (sym c.get.ensures ∙ c.in-Some.is) d.ensures.some (yes c.are_active.ensures c.if-not-are_active.false)
     c.send_request.ensures.refused
 
 pub returns-clause-done : goal.returns-clause-done
 returns-clause-done c =
     let old = state_of c.args.self.now in
-    let session = c.args.session.0 in
+    let session = c.args.session in
     let identity = c.args.identity in
     let d = c.in-Some-dedicated in
     let is = d.ensures.some in
@@ -71,7 +71,7 @@ returns-clause-done c =
     (inr (
       record { session = c.in-Some.at; stands = sym c.get.ensures ∙ c.in-Some.is },
       inr (
-        record { key = d.named.teid.0; at = record { bearer = d.named.bearer; stands = is.stands }; of = is.of; dedicated = is.dedicated; has = is.has },
+        record { key = d.named.teid; at = record { bearer = d.named.bearer; stands = is.stands }; of = is.of; dedicated = is.dedicated; has = is.has },
         inr (yes c.are_active.ensures c.if-not-are_active.false, inr (room, record { number = seq; number_free = asks.number_free; gives = asks.gives })),
       ),
     )))

@@ -16,7 +16,7 @@ use Rattle.gtp_gateway.specs.receive.RestartCounter.{node_heard}
 use Rattle.gtp_gateway.specs.Parts.{arrival_of}
 use Rattle.gtp_machine.specs.Step.{TakesBy}
 use Rattle.gtp_gateway.specs.GatewayState.{state_of}
-use Rattle.gtp_gateway.proofs.ByProcedure.{unheard, deletion_request_is, echo_request_is, echo_response_is, deletion_response_is, removal_response_is, row_by}
+use Rattle.gtp_gateway.proofs.ByType.{unheard, delete_session_request_is, echo_request_is, echo_response_is, delete_session_response_is, delete_bearer_response_is, row_by}
 use Rattle.gtp_gateway.proofs.DeleteBearerRequests.{delete_bearer_is}
 use Rattle.gtp_gateway.proofs.GivenUp.{wait_on}
 use Rattle.gtp_gateway.proofs.QueuesAfter.{on_ok, tied_of, on_goes}
@@ -57,7 +57,7 @@ returns-in-DeleteSessionRequest-clause-taken c =
     let old = state_of c.args.self.now in
     let m = c.args.view.now.message in
     let request = arrival_of c.args.source c.args.octets.now in
-    let is = deletion_request_is c.args.octets.now m c.delete_request_in-request.result c.requires.spelled (c.requires.of ∙ ap (λ (p : MessageType). Some p) c.in-DeleteSessionRequest.is) c.delete_request_in-request.ensures in
+    let is = delete_session_request_is c.args.octets.now m c.delete_request_in-request.result c.requires.spelled (c.requires.of ∙ ap (λ (p : MessageType). Some p) c.in-DeleteSessionRequest.is) c.delete_request_in-request.ensures in
     IfOk-weaker c.take_delete_session_request.result _ _ (λ step taken. row_by (DeleteSessionAsked request (delete_session_by c.delete_request_in-request.result)) request c.args.message_type types.DeleteSessionRequest (message_of m) _ old.role old.role (node_heard c.args.heard old.node) old.node step (state_of c.take_delete_session_request.new.self) c.requires.has c.in-DeleteSessionRequest.is is refl (unheard c.args.heard (message_of m) old c.requires.weighed (ap recovery_of is)) (λ n e row. row)
     taken)
     c.take_delete_session_request.ensures.taken
@@ -68,7 +68,7 @@ returns-in-DeleteSessionResponse-clause-taken c =
     let m = c.args.view.now.message in
     let request = arrival_of c.args.source c.args.octets.now in
     let r = c.response_in-response in
-    let says = deletion_response_is c.args.octets.now m r.result.cause c.requires.spelled (c.requires.of ∙ ap (λ (p : MessageType). Some p) c.in-DeleteSessionResponse.is) r.ensures.cause in
+    let says = delete_session_response_is c.args.octets.now m r.result.cause c.requires.spelled (c.requires.of ∙ ap (λ (p : MessageType). Some p) c.in-DeleteSessionResponse.is) r.ensures.cause in
     let heard = state_of c.hear-in-DeleteSessionResponse.new.self in
     row_by (DeleteSessionAnswered says.response) request c.args.message_type types.DeleteSessionResponse (message_of m) (Delete_session_response says.response) old.role heard.role (node_heard c.args.heard old.node) heard.node _ (state_of c.take_delete_session_response.new.self) c.requires.has c.in-DeleteSessionResponse.is says.is c.hear-in-DeleteSessionResponse.ensures.only.role c.hear-in-DeleteSessionResponse.ensures.node (λ n e row. row)
     (c.take_delete_session_response.ensures.taken request says.response (says.header ∙ sym r.ensures.header) (says.number ∙ sym r.ensures.seq) says.cause)
@@ -79,7 +79,7 @@ returns-in-DeleteBearerResponse-clause-taken c =
     let m = c.args.view.now.message in
     let request = arrival_of c.args.source c.args.octets.now in
     let r = c.response_in-response-in-DeleteBearerResponse in
-    let says = removal_response_is c.args.octets.now m r.result.cause c.requires.spelled (c.requires.of ∙ ap (λ (p : MessageType). Some p) c.in-DeleteBearerResponse.is) r.ensures.cause in
+    let says = delete_bearer_response_is c.args.octets.now m r.result.cause c.requires.spelled (c.requires.of ∙ ap (λ (p : MessageType). Some p) c.in-DeleteBearerResponse.is) r.ensures.cause in
     let heard = state_of c.hear-in-DeleteBearerResponse.new.self in
     row_by (DeleteBearerAnswered says.response) request c.args.message_type types.DeleteBearerResponse (message_of m) (Delete_bearer_response says.response) old.role heard.role (node_heard c.args.heard old.node) heard.node _ (state_of c.take_delete_bearer_response.new.self) c.requires.has c.in-DeleteBearerResponse.is says.is c.hear-in-DeleteBearerResponse.ensures.only.role c.hear-in-DeleteBearerResponse.ensures.node (λ n e row. row)
     (c.take_delete_bearer_response.ensures.taken request says.response (says.header ∙ sym r.ensures.header) (says.number ∙ sym r.ensures.seq) says.cause)
@@ -187,7 +187,7 @@ returns-in-DeleteSessionRequest-clause-memory c =
     let old = state_of c.args.self.now in
     let m = c.args.view.now.message in
     let request = arrival_of c.args.source c.args.octets.now in
-    let is = deletion_request_is c.args.octets.now m c.delete_request_in-request.result c.requires.spelled (c.requires.of ∙ ap (λ (p : MessageType). Some p) c.in-DeleteSessionRequest.is) c.delete_request_in-request.ensures in
+    let is = delete_session_request_is c.args.octets.now m c.delete_request_in-request.result c.requires.spelled (c.requires.of ∙ ap (λ (p : MessageType). Some p) c.in-DeleteSessionRequest.is) c.delete_request_in-request.ensures in
     on_err_weaker c.take_delete_session_request.result (λ needs. subst (λ (n : Node). AlwaysSendsOrOpens (TakesBy old.role request (message_of m)) n) (unheard c.args.heard (message_of m) old c.requires.weighed (ap recovery_of is))
     (needs_by old.role request (message_of m) old.node c.args.message_type types.DeleteSessionRequest _ c.requires.has c.in-DeleteSessionRequest.is is (needs request)))
     c.take_delete_session_request.ensures.memory

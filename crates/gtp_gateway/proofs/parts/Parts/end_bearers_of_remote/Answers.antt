@@ -16,10 +16,10 @@ use Rattle.gtp_gateway.proofs.Finished.{pending_kept}
 use Rattle.gtp_gateway.proofs.parts.Parts.end_bearers_of_remote.Goals as goal
 
 pub remove_keys_where-requires-clause-decides : goal.remove_keys_where-requires-clause-decides
-remove_keys_where-requires-clause-decides c = (λ t. default_among c.args.remote.0 t c.args.self.now.bearers, λ x b h. search rules)
+remove_keys_where-requires-clause-decides c = (λ t. default_among c.args.remote t c.args.self.now.bearers, λ x b h. search rules)
 
 pub remove_where-requires-clause-decides : goal.remove_where-requires-clause-decides
-remove_where-requires-clause-decides c = (λ b. is_broken c.remove_keys_where.new.self.table c.args.remote.0 b, λ x b h. search rules)
+remove_where-requires-clause-decides c = (λ b. is_broken c.remove_keys_where.new.self.table c.args.remote b, λ x b h. search rules)
 
 pub invariant_of-self-clause-asked : goal.invariant_of-self-clause-asked
 invariant_of-self-clause-asked c =
@@ -30,7 +30,7 @@ invariant_of-self-clause-asked c =
 pub returns-clause-node : goal.returns-clause-node
 returns-clause-node c =
     let old = c.args.self.now in
-    let remote = c.args.remote.0 in
+    let remote = c.args.remote in
     let left = c.remove_keys_where.new.self.table in
     let goes : ℕ → Bool = λ t. default_among remote t old.bearers in
     let stays : PendingRequest → Bool = λ p. not (on goes p.session || on (λ t. names remote (get old.bearers t)) p.bearer) in

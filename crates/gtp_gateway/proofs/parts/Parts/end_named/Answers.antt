@@ -5,7 +5,7 @@ use Rattle.gtp_machine.specs.Element.{cause_of}
 use Rattle.gtp_machine.specs.Message.{Message, Control, Delete_bearer_response}
 use Rattle.gtp_machine.specs.Node.{holding}
 use Rattle.gtp_machine.specs.Reading.{control_message}
-use Rattle.gtp_machine.specs.Serving.{DeleteBearerJudged, removal_cause}
+use Rattle.gtp_machine.specs.Serving.{DeleteBearerJudged, delete_bearer_cause}
 use Rattle.gtp_machine.specs.Spelling.{spelled}
 use Rattle.gtp_gateway.specs.declared.receive.delete_bearer_request.identities.NamedBearer.{NamedBearer}
 use Rattle.gtp_gateway.specs.receive.DeleteBearerRequest.{delete_bearer_by, NamesEach, identity_named, number_in, removed_by, without_each}
@@ -24,13 +24,13 @@ returns-clause-taken c =
     let old = state_of c.args.self.now in
     let request = arrival_of c.args.source c.args.octets.now in
     let r = c.args.request.now in
-    let header = c.args.header.0 in
+    let header = c.args.header in
     let ids = c.args.identities.now in
     let ns : List NamedBearer = c.as_slice-bearers.result.now in
     let value : ns ≡ c.in_ok-named.named.items = c.as_slice-bearers.ensures.value in
-    let names : NamesEach old.node r.header.0 [] ns = subst (λ (l : List NamedBearer). NamesEach old.node r.header.0 [] l) (sym value) c.in_ok-named.ensures.names in
+    let names : NamesEach old.node r.header [] ns = subst (λ (l : List NamedBearer). NamesEach old.node r.header [] l) (sym value) c.in_ok-named.ensures.names in
     let same : map identity_named ns ≡ map number_in ids = ap (map identity_named) value ∙ c.in_ok-named.ensures.identities in
-    let m : Message = Delete_bearer_response (record { header = header; number = r.seq; cause = cause_of (removal_cause (map removed_by ns)); linked = None; contexts = map removed_by ns; recovery = Some old.node.counter }) in
+    let m : Message = Delete_bearer_response (record { header = header; number = r.seq; cause = cause_of (delete_bearer_cause (map removed_by ns)); linked = None; contexts = map removed_by ns; recovery = Some old.node.counter }) in
     let said : control_message c.in_ok-message.message ≡ m = c.in_ok-message.ensures.says in
     let ready = c.in_ok-ready.ensures in
     let config = ap (λ s. s.config) c.end_each.ensures.only.config ∙ ap (λ (s : GatewayState). s.node.config) c.ready_answer.ensures.same in

@@ -6,7 +6,7 @@ use Rattle.gtp_gateway.proofs.UserRows.{all_wait}
 use Rattle.gtp_gateway.proofs.parts.Parts.give_up.Goals as goal
 
 pub returns-in_default-clause-node : goal.returns-in_default-clause-node
-returns-in_default-clause-node c = (λ at. none_waits_at c.args.self.now.pending.waiting c.args.seq c.args.seq at.pending refl (sym c.waiting.ensures ∙ c.in_default.is) at.waits, refl)
+returns-in_default-clause-node c = (λ at. none_waits_at c.args.self.now.pending.waiting c.args.seq at.pending (sym c.waiting.ensures ∙ c.in_default.is) at.waits, refl)
 
 pub returns-in_default-clause-waits : goal.returns-in_default-clause-waits
 returns-in_default-clause-waits c = all_wait (state_of c.args.self.now) (state_of c.args.self.now) refl refl

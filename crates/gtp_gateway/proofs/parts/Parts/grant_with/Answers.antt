@@ -1,6 +1,6 @@
-use Rattle.std.proofs.Common.{◌≡◌, ℕ, List, Some, true, refl, sym, ◌∙◌, ap, subst}
+use Rattle.std.proofs.Common.{◌≡◌, ◌<◌, ℕ, List, Some, true, length, refl, sym, ◌∙◌, ap, subst}
 use Rattle.std.specs.FinMap.{insert}
-use Rattle.gtp_reliable.specs.Pending.{IsNextFree}
+use Rattle.gtp_reliable.specs.Pending.{IsNextFree, Requests}
 use Rattle.gtp_reliable.specs.Waiting.{Waiting}
 use Rattle.gtp_machine.specs.Config.{Config, control_end}
 use Rattle.gtp_machine.specs.Message.{Control}
@@ -43,6 +43,26 @@ returns-in_err-make_granted_with-clause-err c =
       node = record (node_of ready) { pending = pending_in (more i).waiting };
       queues = record (queues_of ready) { timers = record (queues_of ready).timers { t3 = (more i).t3; n3 = (more i).n3 }; next = (more i).next; waiting = (more i).waiting };
     }) ∙ c.ready_octets.ensures.same))
+
+pub begin_kept-requires-clause-prepared : goal.begin_kept-requires-clause-prepared
+begin_kept-requires-clause-prepared c =
+    let old = state_of c.args.self.now in
+    let readied = c.ready_octets.new.self in
+    let made = c.in_ok-make_granted_with.ensures in
+    let granted = state_of c.make_granted_with.new.self in
+    let more = succeeded c.reserve.result c.in_ok-map_err.ensures.variant c.reserve.ensures.room in
+    let same =
+    (λ i. record (state_of readied) {
+      node = record (node_of readied) { pending = pending_in (more i).waiting };
+      queues = record (queues_of readied) { timers = record (queues_of readied).timers { t3 = (more i).t3; n3 = (more i).n3 }; next = (more i).next; waiting = (more i).waiting };
+    }) ∙ c.ready_octets.ensures.same in
+    let next = c.make_granted_with.ensures.next ∙ ap (λ (s : GatewayState). s.queues.next) same in
+    let waiting = made.waiting ∙ ap (λ (s : GatewayState). waiting_heard c.args.heard s.node.sessions s.queues.waiting) same in
+    record {
+      number = subst (λ (n : ℕ). IsNextFree n granted.queues.waiting c.args.added.now.seq) (sym next) (subst (λ (ws : List (Waiting Purpose)). IsNextFree old.queues.next ws c.args.added.now.seq) (sym waiting) c.requires.add.number);
+      count = subst (λ (ws : List (Waiting Purpose)). length ws < 256) (sym waiting) c.requires.add.few;
+      room = made.ready (ap (λ (r : Requests Purpose). r.has_room) more);
+    }
 
 pub returns-clause-granted : goal.returns-clause-granted
 returns-clause-granted c =

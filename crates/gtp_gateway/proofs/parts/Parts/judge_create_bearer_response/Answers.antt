@@ -62,7 +62,7 @@ unreachable-requires c =
     let old = node_of c.args.self.now in
     let n = node_heard c.args.heard old in
     let k = c.in-Some-fits_create_bearer in
-    let none : get n.bearers k.asked.bearer.0 ≡ None = ap (λ (bs : FiniteMap Bearer). get bs k.asked.bearer.0) (sym c.view_after-view.ensures.bearers) ∙ (sym c.bearer.ensures ∙ c.in_default-bearer.is) in
+    let none : get n.bearers k.asked.bearer ≡ None = ap (λ (bs : FiniteMap Bearer). get bs k.asked.bearer) (sym c.view_after-view.ensures.bearers) ∙ (sym c.bearer.ensures ∙ c.in_default-bearer.is) in
     bearer_stands c.args.self.now.role c.args.heard old c.requires.whole c.args.answer.now.response.seq c.in-Some.purpose c.in-Some.ensures.some c.args.answer.now.response k.asked k.ensures.some none
 
 pub returns : goal.returns
@@ -75,8 +75,8 @@ returns c =
     let b = c.in-Some-bearer.bearer in
     let e = c.in-Some-openable in
     let can = e.ensures.some.1 in
-    let there : get n.bearers k.asked.bearer.0 ≡ Some b = ap (λ (bs : FiniteMap Bearer). get bs k.asked.bearer.0) (sym view.ensures.bearers) ∙ (sym c.bearer.ensures ∙ c.in-Some-bearer.is) in
-    let of : get n.sessions k.asked.session.0 ≡ Some can.at = ap (λ (ss : FiniteMap Session). get ss k.asked.session.0) (sym view.ensures.sessions) ∙ can.stands in
+    let there : get n.bearers k.asked.bearer ≡ Some b = ap (λ (bs : FiniteMap Bearer). get bs k.asked.bearer) (sym view.ensures.bearers) ∙ (sym c.bearer.ensures ∙ c.in-Some-bearer.is) in
+    let of : get n.sessions k.asked.session ≡ Some can.at = ap (λ (ss : FiniteMap Session). get ss k.asked.session) (sym view.ensures.sessions) ∙ can.stands in
     record {
       judged = λ x says. opens n r x says c.in-Some.purpose c.in-Some.ensures.some k.asked k.ensures.some (yes c.accepts.ensures c.if-not-accepts.false) c.in-Some-context.context c.in-Some-context.is (yes c.accepts-2.ensures c.if-not-accepts-2.false) (yes c.returns_bearer.ensures c.if-not-returns_bearer.false) view.result.sessions view.result.bearers view.ensures.sessions view.ensures.bearers can b there e.identity e.ensures.some.0 c.opened_dedicated.result c.opened_dedicated.ensures;
       can = record {

@@ -53,7 +53,7 @@ unreachable-requires c =
     let old = node_of c.args.self.now in
     let n = node_heard c.args.heard old in
     let k = c.in-Some-fits_create_session in
-    let none : get n.bearers k.asked.bearer.0 ≡ None = ap (λ (bs : FiniteMap Bearer). get bs k.asked.bearer.0) (sym c.view_after-view.ensures.bearers) ∙ (sym c.bearer.ensures ∙ c.in_default-bearer.is) in
+    let none : get n.bearers k.asked.bearer ≡ None = ap (λ (bs : FiniteMap Bearer). get bs k.asked.bearer) (sym c.view_after-view.ensures.bearers) ∙ (sym c.bearer.ensures ∙ c.in_default-bearer.is) in
     default_stands c.args.self.now.role c.args.heard old c.requires.whole c.args.answer.now.response.seq c.in-Some.purpose c.in-Some.ensures.some c.args.answer.now.response k.asked k.ensures.some none
 
 pub returns : goal.returns
@@ -65,8 +65,8 @@ returns c =
     let view = c.view_after-view in
     let d = c.in-Some-described in
     let b = c.in-Some-bearer.bearer in
-    let there : get n.bearers k.asked.bearer.0 ≡ Some b = ap (λ (bs : FiniteMap Bearer). get bs k.asked.bearer.0) (sym view.ensures.bearers) ∙ (sym c.bearer.ensures ∙ c.in-Some-bearer.is) in
-    let stands : get n.sessions k.asked.session.0 ≡ Some d.described.session = ap (λ (ss : FiniteMap Session). get ss k.asked.session.0) (sym view.ensures.sessions) ∙ d.ensures.some.stands in
+    let there : get n.bearers k.asked.bearer ≡ Some b = ap (λ (bs : FiniteMap Bearer). get bs k.asked.bearer) (sym view.ensures.bearers) ∙ (sym c.bearer.ensures ∙ c.in-Some-bearer.is) in
+    let stands : get n.sessions k.asked.session ≡ Some d.described.session = ap (λ (ss : FiniteMap Session). get ss k.asked.session) (sym view.ensures.sessions) ∙ d.ensures.some.stands in
     record {
       judged = λ a says. opens n r a says c.in-Some.purpose c.in-Some.ensures.some k.asked k.ensures.some (yes c.accepts.ensures c.if-not-accepts.false) view.result.sessions view.ensures.sessions d.described d.ensures.some (yes c.accepts-2.ensures c.if-not-accepts-2.false) b there c.opened_session.result c.opened_session.ensures c.opened_default.result c.opened_default.ensures;
       can = (
@@ -78,5 +78,5 @@ returns c =
           of = ap (λ (x : Bearer). x.session) c.opened_default.ensures;
         },
       );
-      of = λ other stands_too. ap (λ (x : Bearer). x.identity) c.opened_default.ensures ∙ ap (λ (x : Bearer). x.identity) (one_value (get n.bearers k.asked.bearer.0) b other there stands_too);
+      of = λ other stands_too. ap (λ (x : Bearer). x.identity) c.opened_default.ensures ∙ ap (λ (x : Bearer). x.identity) (one_value (get n.bearers k.asked.bearer) b other there stands_too);
     }

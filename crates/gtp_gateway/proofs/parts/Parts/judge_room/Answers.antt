@@ -45,8 +45,8 @@ returns-in-Ok c =
       judged = λ request q is of. meets (record { few = has_room _ _ (ap (λ (m : FiniteMap Session). len m) same) (no c.is_full.ensures c.if-is_full.false) }, draws_left c.args.heard node 2 drawn.left)
           (meets (can_be_had left q.pdn address (given q.pdn is))
           (record {
-            control = c.in-Some.drawn.control.0;
-            user = c.in-Some.drawn.user.0;
+            control = c.in-Some.drawn.control;
+            user = c.in-Some.drawn.user;
             address = address;
             control_free = still_free c.args.heard node _ drawn.control_free;
             user_free = still_free c.args.heard node _ drawn.user_free;

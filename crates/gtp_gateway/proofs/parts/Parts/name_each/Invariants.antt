@@ -8,5 +8,5 @@ abbrev pub invariant-loop-identity : goal.invariant-loop-identity
 invariant-loop-identity l =
     record {
       identities : map identity_named l.named.items ≡ map number_in (take l.identity-index l.identities);
-      names : NamesEach (node_of l.self) l.session.0 [] l.named.items;
+      names : NamesEach (node_of l.self) l.session [] l.named.items;
     }

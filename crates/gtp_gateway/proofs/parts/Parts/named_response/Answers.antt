@@ -8,4 +8,4 @@ use Rattle.gtp_gateway.proofs.parts.Parts.named_response.Goals as goal
 pub returns-clause-says : goal.returns-clause-says
 returns-clause-says c =
     let contexts = ap (map removed_bearer) c.in_ok-contexts.ensures ∙ contexts_said c.args.named.now in
-    c.delete_bearer_response.ensures.says ∙ (λ i. Delete_bearer_response (record { header = c.args.header.0; number = c.args.seq; cause = cause_of (c.cause_of_all-cause.ensures i); linked = None; contexts = contexts i; recovery = Some (c.counter-counter.ensures i) }))
+    c.delete_bearer_response.ensures.says ∙ (λ i. Delete_bearer_response (record { header = c.args.header; number = c.args.seq; cause = cause_of (c.cause_of_all-cause.ensures i); linked = None; contexts = contexts i; recovery = Some (c.counter-counter.ensures i) }))

@@ -7,7 +7,7 @@ use Rattle.gtp_gateway.proofs.parts.Parts.open_bearer.Goals as goal
 pub open-requires : goal.open-requires
 open-requires c =
     let at = c.requires.can in
-    record { unopened = record { bearer = at.bearer; stands = bearer_stood c.args.heard (node_of c.args.self.now) c.args.teid.0 at.bearer at.stands; blank = at.blank } }
+    record { unopened = record { bearer = at.bearer; stands = bearer_stood c.args.heard (node_of c.args.self.now) c.args.teid at.bearer at.stands; blank = at.blank } }
 
 pub returns-clause-node : goal.returns-clause-node
 returns-clause-node c =

@@ -13,7 +13,7 @@ use Rattle.gtp_gateway.proofs.parts.Parts.remove_bearer.Goals as goal
 pub returns-clause-node : goal.returns-clause-node
 returns-clause-node c =
     let old = c.args.self.now in
-    let bearer : ℕ = c.args.bearer.0 in
+    let bearer : ℕ = c.args.bearer in
     let stays : PendingRequest → Bool = λ p. not (on (λ t. false) p.session || on (λ t. t == bearer) p.bearer) in
     let pending = ap pending_in c.finish_where.ensures.waiting ∙ pending_kept stays old.pending.waiting c.finish_where.ensures.always.distinct in
     let bearers = c.remove.ensures ∙ bearer_kept old.bearers bearer in

@@ -13,7 +13,7 @@ use Rattle.gtp_gateway.proofs.parts.Parts.remove_session.Goals as goal
 pub returns-clause-node : goal.returns-clause-node
 returns-clause-node c =
     let old = c.args.self.now in
-    let session : ℕ = c.args.session.0 in
+    let session : ℕ = c.args.session in
     let stays : PendingRequest → Bool = λ p. not (on (λ t. t == session) p.session || on (λ t. false) p.bearer) in
     let pending = ap pending_in c.finish_where.ensures.waiting ∙ pending_kept stays old.pending.waiting c.finish_where.ensures.always.distinct in
     let sessions = ap (λ r. r.table) c.remove.ensures ∙ session_kept old.sessions.table session in
@@ -27,4 +27,4 @@ invariant_of-self-clause-asked c =
     subst (AreAsked peer) (sym c.finish_where.ensures.waiting) (All-filter _ (IsAsked peer) old.pending.waiting old.asked)
 
 pub remove_where-requires-clause-decides : goal.remove_where-requires-clause-decides
-remove_where-requires-clause-decides c = (λ (b : Bearer). b.session == c.args.session.0, search rules)
+remove_where-requires-clause-decides c = (λ (b : Bearer). b.session == c.args.session, search rules)

@@ -56,4 +56,4 @@ returns-in-Bearers-clause-memory c = on_err c.end_listed.result (λ arrival ids.
     let node = node_of c.args.self.now in
     let asked = c.in-Bearers.ensures in
     delete_bearer_asked arrival (delete_bearer_by c.args.request.now ids) node (record { few = held_few c.args.self.now.held.pairs (no c.is_full.ensures.full c.if-is_full.false) })
-    (λ at. subst (λ (s : Session). s.state ≡ Pending → ⊥) (one_value (get node.sessions c.args.request.now.header.0) asked.session at.session asked.stands at.stands) asked.opened))
+    (λ at. subst (λ (s : Session). s.state ≡ Pending → ⊥) (one_value (get node.sessions c.args.request.now.header) asked.session at.session asked.stands at.stands) asked.opened))

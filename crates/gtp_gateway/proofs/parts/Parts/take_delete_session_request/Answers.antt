@@ -29,8 +29,8 @@ returns-clause-taken c =
     let node = node_of old in
     let request = arrival_of c.args.source c.args.octets.now in
     let v = c.judge_delete_session-verdict.result in
-    let m : Message = Delete_session_response (record { header = v.header.0; number = d.number; cause = cause_of v.cause; recovery = Some node.counter }) in
-    let said : control_message c.delete_session_response-message.result ≡ m = c.delete_session_response-message.ensures.says ∙ (λ i. Delete_session_response (record { header = v.header.0; number = d.number; cause = cause_of v.cause; recovery = Some (c.counter.ensures i) })) in
+    let m : Message = Delete_session_response (record { header = v.header; number = d.number; cause = cause_of v.cause; recovery = Some node.counter }) in
+    let said : control_message c.delete_session_response-message.result ≡ m = c.delete_session_response-message.ensures.says ∙ (λ i. Delete_session_response (record { header = v.header; number = d.number; cause = c.plain_cause.ensures i; recovery = Some (c.counter.ensures i) })) in
     answers (DeleteSessionAsked request d) request (state_of old) (state_of c.answer.new.self) c.sent.result c.in_ok-out.out (control_message c.delete_session_response-message.result) v.cause (changed_by v.change node) c.sent.ensures c.in_ok-out.ensures.sent c.in_ok-out.ensures.back c.in_ok-out.ensures.node c.in_ok-out.ensures.role
     (inr (
       record { few = held_few old.held.pairs (no c.is_full.ensures.full c.if-is_full.false) },

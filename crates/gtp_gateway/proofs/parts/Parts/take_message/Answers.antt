@@ -12,7 +12,7 @@ use Rattle.gtp_machine.specs.Step.{TakesBy}
 use Rattle.gtp_gateway.specs.receive.Row.{IsHeardRow}
 use Rattle.gtp_gateway.specs.GatewayState.{state_of}
 use Rattle.gtp_gateway.specs.receive.Taken.{plain_report, IsTaken}
-use Rattle.gtp_gateway.proofs.ByProcedure.{is_taken}
+use Rattle.gtp_gateway.proofs.ByType.{is_taken}
 use Rattle.gtp_gateway.proofs.Columns.{yes, no}
 use Rattle.gtp_gateway.proofs.ReadsAs.{reads_message}
 use Rattle.gtp_gateway.proofs.Rows.{row_taken, early_taken}

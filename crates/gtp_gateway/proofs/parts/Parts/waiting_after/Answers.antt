@@ -1,4 +1,4 @@
-use Rattle.std.proofs.Common.{refl, sym, ◌∙◌}
+use Rattle.std.proofs.Common.{sym, ◌∙◌}
 use Rattle.gtp_gateway.specs.Parts.{node_of}
 use Rattle.gtp_gateway.proofs.Pendings.{waits, none_waits_at}
 use Rattle.gtp_gateway.proofs.Opened.{waited, waits_on, waits_no_more}
@@ -7,7 +7,7 @@ use Rattle.gtp_gateway.proofs.parts.Parts.waiting_after.Goals as goal
 pub returns-in_default-clause-none : goal.returns-in_default-clause-none
 returns-in_default-clause-none c = λ at.
     let old = c.args.self.now in
-    none_waits_at old.pending.waiting c.args.seq c.args.seq at.pending refl (sym c.waiting.ensures ∙ c.in_default.is) (waited c.args.heard (node_of old) c.args.seq at.pending at.waits)
+    none_waits_at old.pending.waiting c.args.seq at.pending (sym c.waiting.ensures ∙ c.in_default.is) (waited c.args.heard (node_of old) c.args.seq at.pending at.waits)
 
 pub returns-then-goes_after-clause-none : goal.returns-then-goes_after-clause-none
 returns-then-goes_after-clause-none c =

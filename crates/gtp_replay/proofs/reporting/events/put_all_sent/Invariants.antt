@@ -1,6 +1,6 @@
 use Rattle.std.proofs.Common.{◌≡◌, ◌+◌, ◌++◌, map, drop}
 use Rattle.std.specs.List.{flat_map, enumerate_from}
-use Rattle.gtp_world.specs.Kept.{sent_by}
+use Rattle.gtp_world.specs.Record.{sent_by}
 use Rattle.gtp_replay.specs.Events.{sent_line}
 use Rattle.gtp_replay.proofs.reporting.events.put_all_sent.Given as goal
 

@@ -11,12 +11,12 @@ use Rattle.gtp_tables.proofs.bearers.Bearers.add.Goals as goal
 pub invariant_of-self-2 : goal.invariant_of-self-2
 invariant_of-self-2 c =
     let table : FiniteMap Bearer = c.self.inside.table.table in
-    let free : get table c.args.teid.0 ≡ None = none_above table c.args.teid.0 (λ k x found. c.requires.rises k x (ap (λ (m : FiniteMap Bearer). get m k) (sym c.self.view_is) ∙ found)) in
-    let added : insert table c.args.teid.0 c.args.bearer ≡ c.add.new.self.table = search rules in
+    let free : get table c.args.teid ≡ None = none_above table c.args.teid (λ k x found. c.requires.rises k x (ap (λ (m : FiniteMap Bearer). get m k) (sym c.self.view_is) ∙ found)) in
+    let added : insert table c.args.teid c.args.bearer ≡ c.add.new.self.table = search rules in
     record {
       indexed = λ r o. c.in_ok-name_if.ensures.ok r o
-          ∙ (ap (cond (is_number r c.args.bearer.remote && nat_eq c.args.teid.0 o) true) (c.self.invariant.indexed r o)
-          ∙ (named c.args.teid.0 r o c.args.bearer (get table o) (λ e. ap remote_at (ap (get table) (sym (same_number c.args.teid.0 o e)) ∙ free))
-          ∙ (ap (names r) (sym (get_inserted table c.args.teid.0 c.args.bearer o)) ∙ ap (λ (m : FiniteMap Bearer). names r (get m o)) added)));
-      noted = subst (λ (m : FiniteMap Bearer). AreFrom m c.name_if.new.noted.entries) added (noted_insert table c.args.teid.0 c.args.bearer c.self.inside.noted.entries c.name_if.new.noted.entries c.self.invariant.noted c.in_ok-name_if.ensures.noted c.in_ok-name_if.ensures.own);
+          ∙ (ap (cond (is_number r c.args.bearer.remote && nat_eq c.args.teid o) true) (c.self.invariant.indexed r o)
+          ∙ (named c.args.teid r o c.args.bearer (get table o) (λ e. ap remote_at (ap (get table) (sym (same_number c.args.teid o e)) ∙ free))
+          ∙ (ap (names r) (sym (get_inserted table c.args.teid c.args.bearer o)) ∙ ap (λ (m : FiniteMap Bearer). names r (get m o)) added)));
+      noted = subst (λ (m : FiniteMap Bearer). AreFrom m c.name_if.new.noted.entries) added (noted_insert table c.args.teid c.args.bearer c.self.inside.noted.entries c.name_if.new.noted.entries c.self.invariant.noted c.in_ok-name_if.ensures.noted c.in_ok-name_if.ensures.own);
     }

@@ -9,28 +9,28 @@ use Rattle.gtp_tables.proofs.bearers.Bearers.has_default.Goals as goal
 pub loop-next-init : goal.loop-next-init
 loop-next-init c = record {
   has = c.first_of_remote-next.ensures.found;
-  ahead = λ d. ahead_first c.args.self.now c.args.remote.0 c.args.session.0 d c.first_of_remote-next.result c.first_of_remote-next.ensures.lowest c.first_of_remote-next.ensures.none;
+  ahead = λ d. ahead_first c.args.self.now c.args.remote c.args.session d c.first_of_remote-next.result c.first_of_remote-next.ensures.lowest c.first_of_remote-next.ensures.none;
 }
 
 pub returns-then-is_default_of : goal.returns-then-is_default_of
 returns-then-is_default_of c =
     let m = c.args.self.now in
     let teid = c.in-Some.teid in
-    let at : HasRemote m c.args.remote.0 teid.0 = subst (λ (o : Option Teid). IfSome o (λ t. HasRemote m c.args.remote.0 t.0)) c.in-Some.is c.loop-next.invariant.has in
-    let is : default_of c.args.session.0 (get m teid.0) ≡ true = ap (default_of c.args.session.0) (sym c.get.ensures) ∙ (sym c.is_default_of.ensures ∙ c.if-is_default_of.true) in
-    (λ _. has_default m c.args.remote.0 c.args.session.0 teid.0 at is, λ _. refl)
+    let at : HasRemote m c.args.remote teid = subst (λ (o : Option Teid). IfSome o (λ t. HasRemote m c.args.remote t)) c.in-Some.is c.loop-next.invariant.has in
+    let is : default_of c.args.session (get m teid) ≡ true = ap (default_of c.args.session) (sym c.get.ensures) ∙ (sym c.is_default_of.ensures ∙ c.if-is_default_of.true) in
+    (λ _. has_default m c.args.remote c.args.session teid at is, λ _. refl)
 
 pub loop-next-preserved : goal.loop-next-preserved
 loop-next-preserved c =
     let m = c.args.self.now in
     let teid = c.in-Some.teid in
-    let is : default_of c.args.session.0 (get m teid.0) ≡ false = ap (default_of c.args.session.0) (sym c.get.ensures) ∙ (sym c.is_default_of.ensures ∙ c.if-is_default_of.false) in
+    let is : default_of c.args.session (get m teid) ≡ false = ap (default_of c.args.session) (sym c.get.ensures) ∙ (sym c.is_default_of.ensures ∙ c.if-is_default_of.false) in
     record {
       has = c.next_of_remote-next.ensures.found;
-      ahead = λ d. ahead_next m c.args.remote.0 c.args.session.0 d teid c.next_of_remote-next.result (subst (λ (o : Option Teid). IsAhead o d.teid) c.in-Some.is (c.loop-next.invariant.ahead d)) is c.next_of_remote-next.ensures.next c.next_of_remote-next.ensures.none;
+      ahead = λ d. ahead_next m c.args.remote c.args.session d teid c.next_of_remote-next.result (subst (λ (o : Option Teid). IsAhead o d.teid) c.in-Some.is (c.loop-next.invariant.ahead d)) is c.next_of_remote-next.ensures.next c.next_of_remote-next.ensures.none;
     }
 
 pub returns : goal.returns
 returns c =
-    let none : HasDefault c.args.self.now c.args.remote.0 c.args.session.0 → ⊥ = λ d. subst (λ (o : Option Teid). IsAhead o d.teid) c.in_default.is (c.loop-next.invariant.ahead d) in
+    let none : HasDefault c.args.self.now c.args.remote c.args.session → ⊥ = λ d. subst (λ (o : Option Teid). IsAhead o d.teid) c.in_default.is (c.loop-next.invariant.ahead d) in
     (λ is. absurd cc, λ d. absurd (none d))

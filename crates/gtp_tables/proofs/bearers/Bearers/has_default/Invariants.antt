@@ -5,8 +5,8 @@ use Rattle.gtp_tables.proofs.bearers.Bearers.has_default.Given as goal
 
 abbrev pub invariant-loop-next : goal.invariant-loop-next
 invariant-loop-next l = record {
-  has : IfSome l.next (λ teid. HasRemote l.self l.remote.0 teid.0);
-  ahead : (d : HasDefault l.self l.remote.0 l.session.0) → IsAhead l.next d.teid;
+  has : IfSome l.next (λ teid. HasRemote l.self l.remote teid);
+  ahead : (d : HasDefault l.self l.remote l.session) → IsAhead l.next d.teid;
 }
 
 abbrev pub decreases-loop-next : goal.decreases-loop-next

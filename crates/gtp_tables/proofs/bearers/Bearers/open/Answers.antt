@@ -11,19 +11,19 @@ use Rattle.gtp_tables.proofs.bearers.Bearers.open.Goals as goal
 
 pub replace-requires : goal.replace-requires
 replace-requires c =
-    let old : IsUnopened c.self.inside.table.table c.args.teid.0 = subst (λ (m : FiniteMap Bearer). IsUnopened m c.args.teid.0) (sym c.self.view_is) c.requires.unopened in
+    let old : IsUnopened c.self.inside.table.table c.args.teid = subst (λ (m : FiniteMap Bearer). IsUnopened m c.args.teid) (sym c.self.view_is) c.requires.unopened in
     record { stands = subst IsSome (sym old.stands) refl }
 
 pub invariant_of-self-2 : goal.invariant_of-self-2
 invariant_of-self-2 c =
     let table : FiniteMap Bearer = c.self.inside.table.table in
-    let old : IsUnopened table c.args.teid.0 = subst (λ (m : FiniteMap Bearer). IsUnopened m c.args.teid.0) (sym c.self.view_is) c.requires.unopened in
-    let opened : insert table c.args.teid.0 c.args.bearer ≡ c.replace.new.self.table = ap (λ (t : Rows Bearer). t.table) (sym c.replace.ensures) in
+    let old : IsUnopened table c.args.teid = subst (λ (m : FiniteMap Bearer). IsUnopened m c.args.teid) (sym c.self.view_is) c.requires.unopened in
+    let opened : insert table c.args.teid c.args.bearer ≡ c.replace.new.self.table = ap (λ (t : Rows Bearer). t.table) (sym c.replace.ensures) in
     record {
       indexed = λ r o. c.in_ok-name_if.ensures.ok r o
-          ∙ (ap (cond (is_number r c.args.bearer.remote && nat_eq c.args.teid.0 o) true) (c.self.invariant.indexed r o)
-          ∙ (named c.args.teid.0 r o c.args.bearer (get table o) (λ e. ap (λ (k : ℕ). remote_at (get table k)) (sym (same_number c.args.teid.0 o e)) ∙ ap remote_at old.stands ∙ old.blank)
-          ∙ (ap (names r) (sym (get_inserted table c.args.teid.0 c.args.bearer o))
+          ∙ (ap (cond (is_number r c.args.bearer.remote && nat_eq c.args.teid o) true) (c.self.invariant.indexed r o)
+          ∙ (named c.args.teid r o c.args.bearer (get table o) (λ e. ap (λ (k : ℕ). remote_at (get table k)) (sym (same_number c.args.teid o e)) ∙ ap remote_at old.stands ∙ old.blank)
+          ∙ (ap (names r) (sym (get_inserted table c.args.teid c.args.bearer o))
           ∙ ap (λ (m : FiniteMap Bearer). names r (get m o)) opened)));
-      noted = subst (λ (m : FiniteMap Bearer). AreFrom m c.name_if.new.noted.entries) opened (noted_insert table c.args.teid.0 c.args.bearer c.self.inside.noted.entries c.name_if.new.noted.entries c.self.invariant.noted c.in_ok-name_if.ensures.noted c.in_ok-name_if.ensures.own);
+      noted = subst (λ (m : FiniteMap Bearer). AreFrom m c.name_if.new.noted.entries) opened (noted_insert table c.args.teid c.args.bearer c.self.inside.noted.entries c.name_if.new.noted.entries c.self.invariant.noted c.in_ok-name_if.ensures.noted c.in_ok-name_if.ensures.own);
     }

@@ -13,16 +13,16 @@ use Rattle.gtp_tables.proofs.bearers.Bearers.remove.Goals as goal
 pub invariant_of-self : goal.invariant_of-self
 invariant_of-self c =
     let table : FiniteMap Bearer = c.self.inside.table.table in
-    let removed : (o : ℕ) → get c.remove.new.self.table o ≡ cond (nat_eq c.args.teid.0 o) None (get table o) = λ o. ap (λ (t : Rows Bearer). get t.table o) c.remove.ensures ∙ get_removed table c.args.teid.0 o in
-    let indexed : (r o : ℕ) → contains pair_cmp c.unname_if.new.index (r, o) ≡ names r (get c.remove.new.self.table o) = λ r o. c.unname_if.ensures r o
-    ∙ (ap (cond (is_number r c.remote_of-remote.result && nat_eq c.args.teid.0 o) false) (c.self.invariant.indexed r o)
-    ∙ (ap (λ (x : Option ℕ). cond (is_number r x && nat_eq c.args.teid.0 o) false (names r (get table o))) c.remote_of-remote.ensures
-    ∙ (unnamed c.args.teid.0 r o (get table c.args.teid.0) (get table o) (λ e. ap (get table) (sym (same_number c.args.teid.0 o e)))
+    let removed : (o : ℕ) → get c.remove.new.self.table o ≡ cond (nat_eq c.args.teid o) None (get table o) = λ o. ap (λ (t : Rows Bearer). get t.table o) c.remove.ensures ∙ get_removed table c.args.teid o in
+    let indexed : (r o : ℕ) → contains pair_cmp c.unname_if.new.index (r, o) ≡ names r (get c.remove.new.self.table o) = λ r o. c.unname_if.ensures.named r o
+    ∙ (ap (cond (is_number r c.remote_of-remote.result && nat_eq c.args.teid o) false) (c.self.invariant.indexed r o)
+    ∙ (ap (λ (x : Option ℕ). cond (is_number r x && nat_eq c.args.teid o) false (names r (get table o))) c.remote_of-remote.ensures
+    ∙ (unnamed c.args.teid r o (get table c.args.teid) (get table o) (λ e. ap (get table) (sym (same_number c.args.teid o e)))
     ∙ ap (names r) (sym (removed o))))) in
     record {
       indexed = indexed;
       noted =
-          noted_less table c.remove.new.self.table c.self.inside.noted.entries c.forget_if.new.noted.entries c.self.invariant.noted
-          (λ r o is. left_named r (nat_eq c.args.teid.0 o) (get table o) (ap (names r) (sym (removed o)) ∙ is))
-          (λ r o is. c.forget_if.ensures r o (indexed r o ∙ is));
+          noted_less table c.remove.new.self.table c.self.inside.noted.entries c.unname_if.new.noted.entries c.self.invariant.noted
+          (λ r o is. left_named r (nat_eq c.args.teid o) (get table o) (ap (names r) (sym (removed o)) ∙ is))
+          (λ r o is. c.unname_if.ensures.noted r o (indexed r o ∙ is));
     }

@@ -11,16 +11,16 @@ use Rattle.gtp_tables.proofs.bearers.Bearers.replace.Goals as goal
 
 pub replace-requires : goal.replace-requires
 replace-requires c =
-    let old : IsAt c.self.inside.table.table c.args.teid.0 c.args.bearer.remote = subst (λ (m : FiniteMap Bearer). IsAt m c.args.teid.0 c.args.bearer.remote) (sym c.self.view_is) c.requires.same in
+    let old : IsAt c.self.inside.table.table c.args.teid c.args.bearer.remote = subst (λ (m : FiniteMap Bearer). IsAt m c.args.teid c.args.bearer.remote) (sym c.self.view_is) c.requires.same in
     record { stands = subst IsSome (sym old.stands) refl }
 
 pub invariant_of-self : goal.invariant_of-self
 invariant_of-self c =
     let table : FiniteMap Bearer = c.self.inside.table.table in
-    let old : IsAt table c.args.teid.0 c.args.bearer.remote = subst (λ (m : FiniteMap Bearer). IsAt m c.args.teid.0 c.args.bearer.remote) (sym c.self.view_is) c.requires.same in
+    let old : IsAt table c.args.teid c.args.bearer.remote = subst (λ (m : FiniteMap Bearer). IsAt m c.args.teid c.args.bearer.remote) (sym c.self.view_is) c.requires.same in
     let same : (r o : ℕ) → names r (get table o) ≡ names r (get c.replace.new.self.table o) = λ r o.
-    renamed c.args.teid.0 r o c.args.bearer (get table o) (λ e. ap (λ (k : ℕ). names r (get table k)) (sym (same_number c.args.teid.0 o e)) ∙ (ap (names r) old.stands ∙ ap (is_number r) old.same))
-    ∙ (ap (names r) (sym (get_inserted table c.args.teid.0 c.args.bearer o))
+    renamed c.args.teid r o c.args.bearer (get table o) (λ e. ap (λ (k : ℕ). names r (get table k)) (sym (same_number c.args.teid o e)) ∙ (ap (names r) old.stands ∙ ap (is_number r) old.same))
+    ∙ (ap (names r) (sym (get_inserted table c.args.teid c.args.bearer o))
     ∙ ap (λ (t : Rows Bearer). names r (get t.table o)) (sym c.replace.ensures)) in
     record {
       indexed = λ r o. c.self.invariant.indexed r o ∙ same r o;

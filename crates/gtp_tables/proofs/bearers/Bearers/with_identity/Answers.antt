@@ -5,8 +5,8 @@ use Rattle.gtp_tables.proofs.bearers.Bearers.with_identity.Goals as goal
 
 pub returns-in-loop-index-clause-found : goal.returns-in-loop-index-clause-found
 returns-in-loop-index-clause-found c =
-    is_bearer_with c.args.self.now c.args.session.0 c.args.identity c.loop-index.index (c.in-Some.teid.0, c.in-Some.bearer) (sym c.in-Some.ensures) (sym c.has.ensures ∙ c.if-has.true) c.loop-index.invariant
+    is_bearer_with c.args.self.now c.args.session c.args.identity c.loop-index.index _ (sym c.in-Some.ensures) (sym c.has.ensures ∙ c.if-has.true) c.loop-index.invariant
 
 pub returns-clause-none : goal.returns-clause-none
 returns-clause-none c =
-    is_unused c.args.self.now c.args.session.0 c.args.identity (λ j e at. let within = at_within c.args.self.now j e at in c.loop-index.invariant j e (omega (arith, within, c.loop-index-test.false, c.len-index-end.ensures)) at)
+    is_unused c.args.self.now c.args.session c.args.identity (λ j e at. let within = at_within c.args.self.now j e at in c.loop-index.invariant j e (omega (arith, within, c.loop-index-test.false, c.len-index-end.ensures)) at)

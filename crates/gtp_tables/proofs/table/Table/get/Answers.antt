@@ -8,5 +8,5 @@ pub returns : goal.returns
 returns g c =
     let copy : c.copied.result ≡ option_copied c.get.result = search rules in
     copy ∙ c.get.ensures.value
-    ∙ sym (get_row c.self.inside.rows.entries c.args.teid.0)
-    ∙ ap (λ (r : Rows _). map.get r.table c.args.teid.0) c.self.view_is
+    ∙ sym (get_row c.self.inside.rows.entries c.args.teid)
+    ∙ ap (λ (r : Rows _). map.get r.table c.args.teid) c.self.view_is

@@ -14,14 +14,14 @@ pub invariant_of-self : goal.invariant_of-self
 invariant_of-self g c = record {
   keys =
       c.cut_key.ensures.keys
-      ∙ ap (filter (λ k. not (nat_eq c.args.teid.0 k))) c.self.invariant.keys
-      ∙ sym (ap map.keys (table_remove c.self.inside.rows.entries c.take_out.new.rows.entries c.args.teid.0 c.take_out.ensures.rows)
-      ∙ keys_removed (map.from_entries {R = nat_cmp} c.self.inside.rows.entries) c.args.teid.0);
+      ∙ ap (filter (λ k. not (nat_eq c.args.teid k))) c.self.invariant.keys
+      ∙ sym (ap map.keys (table_remove c.self.inside.rows.entries c.take_out.new.rows.entries c.args.teid c.take_out.ensures.rows)
+      ∙ keys_removed (map.from_entries {R = nat_cmp} c.self.inside.rows.entries) c.args.teid);
   distinct = c.take_out.ensures.distinct;
   room = λ h. let was = c.self.invariant.room h in (omega (arith, was.0, c.take_out.ensures.room), c.cut_key.ensures.room was.1);
 }
 
 pub returns : goal.returns
 returns g c =
-    ap (λ (t : _). record { table = t; has_room = c.self.inside.ready }) (table_remove c.self.inside.rows.entries c.take_out.new.rows.entries c.args.teid.0 c.take_out.ensures.rows)
-    ∙ ap (λ (r : Rows _). record r { table = map.remove r.table c.args.teid.0 }) c.self.view_is
+    ap (λ (t : _). record { table = t; has_room = c.self.inside.ready }) (table_remove c.self.inside.rows.entries c.take_out.new.rows.entries c.args.teid c.take_out.ensures.rows)
+    ∙ ap (λ (r : Rows _). record r { table = map.remove r.table c.args.teid }) c.self.view_is

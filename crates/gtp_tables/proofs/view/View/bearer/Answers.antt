@@ -11,7 +11,7 @@ pub returns-in-Some : goal.returns-in-Some
 returns-in-Some c =
     let all : Contexts = record { sessions = c.self.inside.sessions.now.table; bearers = c.self.inside.bearers.now } in
     let test : Bearer → Bool = λ b. are_seen c.self.inside.restarted (get all.sessions b.session) in
-    let t = c.args.teid.0 in
+    let t = c.args.teid in
     sym (ap (λ (k : Contexts). get k.bearers t) (sym c.self.view_is)
     ∙ (ap (λ (m : FiniteMap Bearer). get m t) (seen_bearers c.self.inside.restarted all)
     ∙ stands_kept test all.bearers t c.in-Some.bearer (sym c.in-Some.ensures) (sym c.are_seen.ensures ∙ c.if-are_seen.true)))
@@ -20,7 +20,7 @@ pub returns-in_default : goal.returns-in_default
 returns-in_default c =
     let all : Contexts = record { sessions = c.self.inside.sessions.now.table; bearers = c.self.inside.bearers.now } in
     let test : Bearer → Bool = λ b. are_seen c.self.inside.restarted (get all.sessions b.session) in
-    let t = c.args.teid.0 in
+    let t = c.args.teid in
     sym (ap (λ (k : Contexts). get k.bearers t) (sym c.self.view_is)
     ∙ (ap (λ (m : FiniteMap Bearer). get m t) (seen_bearers c.self.inside.restarted all)
     ∙ elim c.in_default.branch [

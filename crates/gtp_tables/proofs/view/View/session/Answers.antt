@@ -10,7 +10,7 @@ use Rattle.gtp_tables.proofs.view.View.session.Goals.{in_default-via-in-Some+els
 pub returns-in-Some : goal.returns-in-Some
 returns-in-Some c =
     let all : Contexts = record { sessions = c.self.inside.sessions.now.table; bearers = c.self.inside.bearers.now } in
-    let t = c.args.teid.0 in
+    let t = c.args.teid in
     sym (ap (λ (k : Contexts). get k.sessions t) (sym c.self.view_is)
     ∙ (ap (λ (m : FiniteMap Session). get m t) (seen_sessions c.self.inside.restarted all)
     ∙ stands_kept (is_seen c.self.inside.restarted) all.sessions t c.in-Some.session (sym c.in-Some.ensures) (sym c.is_seen.ensures ∙ c.if-is_seen.true)))
@@ -18,7 +18,7 @@ returns-in-Some c =
 pub returns-in_default : goal.returns-in_default
 returns-in_default c =
     let all : Contexts = record { sessions = c.self.inside.sessions.now.table; bearers = c.self.inside.bearers.now } in
-    let t = c.args.teid.0 in
+    let t = c.args.teid in
     sym (ap (λ (k : Contexts). get k.sessions t) (sym c.self.view_is)
     ∙ (ap (λ (m : FiniteMap Session). get m t) (seen_sessions c.self.inside.restarted all)
     ∙ elim c.in_default.branch [

@@ -13,18 +13,18 @@ pub returns-then-are_seen-clause-found : goal.returns-then-are_seen-clause-found
 returns-then-are_seen-clause-found c =
     let all : Contexts = record { sessions = c.self.inside.sessions.now.table; bearers = c.self.inside.bearers.now } in
     IfSome_then c.with_identity.result c.with_identity.ensures.found (λ teid h.
-    subst (λ (k : Contexts). IsBearerWith k.bearers c.args.session.0 c.args.identity teid.0) c.self.view_is
-    (bearer_seen c.self.inside.restarted all c.args.session.0 c.args.identity teid.0 (sym c.are_seen.ensures ∙ c.if-are_seen.true) h))
+    subst (λ (k : Contexts). IsBearerWith k.bearers c.args.session c.args.identity teid) c.self.view_is
+    (bearer_seen c.self.inside.restarted all c.args.session c.args.identity teid (sym c.are_seen.ensures ∙ c.if-are_seen.true) h))
 
 pub returns-then-are_seen-clause-none : goal.returns-then-are_seen-clause-none
 returns-then-are_seen-clause-none c =
     let all : Contexts = record { sessions = c.self.inside.sessions.now.table; bearers = c.self.inside.bearers.now } in
     none_then c.with_identity.result c.with_identity.ensures.none (λ h.
-    subst (λ (k : Contexts). IsUnused k.bearers c.args.session.0 c.args.identity) c.self.view_is
-    (unused_seen c.self.inside.restarted all c.args.session.0 c.args.identity h))
+    subst (λ (k : Contexts). IsUnused k.bearers c.args.session c.args.identity) c.self.view_is
+    (unused_seen c.self.inside.restarted all c.args.session c.args.identity h))
 
 pub returns-else-are_seen-clause-none : goal.returns-else-are_seen-clause-none
 returns-else-are_seen-clause-none c =
     let all : Contexts = record { sessions = c.self.inside.sessions.now.table; bearers = c.self.inside.bearers.now } in
-    subst (λ (k : Contexts). IsUnused k.bearers c.args.session.0 c.args.identity) c.self.view_is
-    (unused_unseen c.self.inside.restarted all c.args.session.0 c.args.identity (sym c.are_seen.ensures ∙ c.if-are_seen.false))
+    subst (λ (k : Contexts). IsUnused k.bearers c.args.session c.args.identity) c.self.view_is
+    (unused_unseen c.self.inside.restarted all c.args.session c.args.identity (sym c.are_seen.ensures ∙ c.if-are_seen.false))

@@ -1,11 +1,9 @@
 use Rattle.std.proofs.Common.{◌≡◌, ℕ, ◌<◌, ◌^◌, Option, Some, None, refl, subst}
-use Rattle.std.specs.Prelude.{option_map}
-use Rattle.gtp_values.specs.declared.identifiers.Teid.{Teid}
 use Rattle.gtp_v2.specs.Priority.{PriorityNeedsTeid}
 use Rattle.gtp_v2.specs.Encoding.{HeaderMeets}
 use Rattle.gtp_v2.proofs.header.writing.write_header.Goals as goal
 
-none_meets : (teid : Option Teid) (seq : ℕ) (priority : Option ℕ) → teid ≡ None → PriorityNeedsTeid teid priority → seq < 2 ^ 24 → HeaderMeets (option_map (λ (t : Teid). t.0) teid) seq priority
+none_meets : (teid : Option ℕ) (seq : ℕ) (priority : Option ℕ) → teid ≡ None → PriorityNeedsTeid teid priority → seq < 2 ^ 24 → HeaderMeets teid seq priority
 none_meets None seq None is place small = small
 none_meets None seq (Some p) is place small = absurd (let t = place refl in cc)
 none_meets (Some t) seq priority is place small = absurd cc

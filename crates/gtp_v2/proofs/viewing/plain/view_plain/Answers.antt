@@ -1,14 +1,14 @@
-use Rattle.std.proofs.Common.{◌∷◌, Some, sym, rules, ◌∙◌}
+use Rattle.std.proofs.Common.{◌∷◌, Some, sym, rules}
 use Rattle.std.specs.Prelude.{IsTrue}
 use Rattle.gtp_v2.specs.reading.Headed.{headed_of}
-use Rattle.gtp_v2.proofs.Passing.{passing, is_some_mapped}
+use Rattle.gtp_v2.proofs.Passing.{passing}
 use Rattle.gtp_v2.proofs.Lies.{reads_so, viewed_lies}
 use Rattle.gtp_v2.proofs.viewing.plain.view_plain.Goals as goal
 
 pub invariant_of-result : goal.invariant_of-result
 invariant_of-result c =
     let pass : IsTrue c.passes.result = search rules in
-    passing (headed_of c.in-Ok.header) c.in-Ok-indexed_at.elements c.is_some.result (is_some_mapped (λ t. t.0) c.in-Ok.header.teid ∙ sym c.is_some.ensures) c.in-Ok-indexed_at.ensures.walked (c.passes.ensures pass)
+    passing (headed_of c.in-Ok.header) c.in-Ok-indexed_at.elements c.is_some.result (sym c.is_some.ensures) c.in-Ok-indexed_at.ensures.walked (c.passes.ensures pass)
 
 pub returns-clause-message : goal.returns-clause-message
 returns-clause-message c =

@@ -2,7 +2,7 @@ use Rattle.std.proofs.Common.{◌≡◌, ◌+◌, ◌≤◌, map, ◌++◌, leng
 use Rattle.std.specs.Vec.Iter.{into_iter_items, into_iter_len}
 use Rattle.gtp_machine.specs.World.{signed}
 use Rattle.gtp_gateway.specs.messages.Sent.{datagram_by}
-use Rattle.gtp_world.specs.Kept.{sent_by}
+use Rattle.gtp_world.specs.Record.{sent_by}
 use Rattle.gtp_world.proofs.records.Records.keep_all_sent.Given as goal
 
 -- what is kept so far and what is left are all, and there is room for what is left

@@ -1,5 +1,5 @@
 use Rattle.std.proofs.Common.{[], ◌∷◌, ◌++◌, map, ◌∙◌, ap}
-use Rattle.gtp_world.specs.Kept.{Log, sent_by, entry_by, told_by, late_among, counted}
+use Rattle.gtp_world.specs.Record.{Log, sent_by, entry_by, told_by, late_among, counted}
 use Rattle.gtp_world.proofs.Logs.{told_last, note_kept, late_kept}
 use Rattle.gtp_world.proofs.records.Records.pass_over.Goals as goal
 

@@ -11,7 +11,7 @@ pub returns : goal.returns
 returns c =
     let role = c.args.node in
     let node = c.args.self.now.gateway.node in
-    let bearer = c.in-SendUser.bearer.0 in
+    let bearer = c.in-SendUser.bearer in
     IfOk-weaker c.of_any.result _ _ (λ handed is.
     subst (λ (e : Event). IsHanded role node (command_of e) handed) (sym c.in-SendUser.is)
     (subst (λ (k : List ℕ). IsEntryAt role node bearer None k handed) (c.in_ok-payload.ensures.items ∙ c.as_slice.ensures.value)

@@ -3,7 +3,7 @@ use Rattle.gtp_values.specs.declared.counter.Counter.{Counter}
 use Rattle.gtp_gateway.specs.Parts.{arrival_of}
 use Rattle.gtp_gateway.specs.receive.Taken.{made_for}
 use Rattle.gtp_gateway.specs.Tick.{arrivals_of}
-use Rattle.gtp_world.specs.Kept.{Half, half_of}
+use Rattle.gtp_world.specs.Record.{GatewayRecord, gateway_record_of}
 use Rattle.gtp_world.specs.Sides.{IsBrought}
 use Rattle.gtp_world.specs.declared.side.Side.{Side}
 use Rattle.gtp_world.proofs.Telling.{taken, heard_kept, came_of_step}
@@ -22,6 +22,6 @@ returns-clause-taken c =
     ∙ ap (λ (s : Side). arrivals_of s.made.items ++ made_for (arrival_of c.args.source c.in_ok-from_slice.field-0.items) step.report.made) c.hear.ensures.rest
     ∙ ap (λ l. arrivals_of l ++ made_for (arrival_of c.args.source c.in_ok-from_slice.field-0.items) step.report.made) c.try_reserve-2.ensures.items
     ∙ ap (λ l. arrivals_of old.made.items ++ made_for (arrival_of c.args.source l) step.report.made) (c.in_ok-from_slice.ensures.items ∙ c.requires.last) in
-    let after = ap half_of both ∙ (λ i. record (half_of old) { station = c.receive.new.self; seen = seen i; made = made i }) in
-    subst (λ (h : Half). IsBrought c.args.node c.args.plane c.args.source octets (half_of old) (came_of_step step c.in_ok-accepted.accepted) h) (sym after)
-    (taken c.args.node c.args.plane c.args.source octets (half_of old) step c.receive.new.self c.in_ok-accepted.accepted c.in_ok-step.ensures.received c.in_ok-step.ensures.queues c.in_ok-step.ensures.choices c.in_ok-step.ensures.packet c.in_ok-accepted.ensures.accepted)
+    let after = ap gateway_record_of both ∙ (λ i. record (gateway_record_of old) { state = c.receive.new.self; seen = seen i; made = made i }) in
+    subst (λ (h : GatewayRecord). IsBrought c.args.node c.args.plane c.args.source octets (gateway_record_of old) (came_of_step step c.in_ok-accepted.accepted) h) (sym after)
+    (taken c.args.node c.args.plane c.args.source octets (gateway_record_of old) step c.receive.new.self c.in_ok-accepted.accepted c.in_ok-step.ensures.received c.in_ok-step.ensures.queues c.in_ok-step.ensures.choices c.in_ok-step.ensures.packet c.in_ok-accepted.ensures.accepted)

@@ -1,7 +1,7 @@
 use Rattle.std.proofs.Common.{ℕ, List, ◌++◌, map, option_to_list, sym, ◌∙◌, ap, append-nil}
 use Rattle.gtp_machine.specs.Input.{Out}
 use Rattle.gtp_gateway.specs.Tick.{arrivals_of}
-use Rattle.gtp_world.specs.Kept.{oldest_first}
+use Rattle.gtp_world.specs.Record.{oldest_first}
 use Rattle.gtp_world.proofs.Forgets.{forgets_due}
 use Rattle.gtp_world.proofs.side.Side.ticks.Goals as goal
 
@@ -20,7 +20,7 @@ returns-clause-ticked c =
       readable = t.tells.sent.read;
       role_stays = t.role;
       counts = c.in_ok-ticked.ensures.counts;
-      becomes = λ i. record { settings = old.config; station = c.tick.new.self; first = old.first.0; restarts = old.restarts; seen = heard i; forgotten = forgotten i; made = none_made i };
+      becomes = λ i. record { settings = old.config; state = c.tick.new.self; first = old.first.0; restarts = old.restarts; seen = heard i; forgotten = forgotten i; made = none_made i };
       sent = t.tells.sent.octets;
       gave_up = t.tells.gave_up;
       forgot = t.tells.forgot;

@@ -2,8 +2,8 @@ use Rattle.std.proofs.Common.{◌≡◌, ◌<◌, inl, inr, ℕ, length, sym, �
 use Rattle.std.proofs.lemmas.Option.{slice_get_read}
 use Rattle.std.proofs.lemmas.Result.{on_ok_weaker}
 use Rattle.gtp_machine.specs.World.{Cut}
-use Rattle.gtp_world.specs.Kept.{Kept, Log, kept_of, log_of}
-use Rattle.gtp_world.specs.Stepped.{Comes}
+use Rattle.gtp_world.specs.Record.{WorldRecord, Log, world_record_of, log_of}
+use Rattle.gtp_world.specs.Stepped.{EventLeaves}
 use Rattle.gtp_world.proofs.Finding.{there, octets_at, cut_short}
 use Rattle.gtp_world.proofs.sides.Sides.cut.Goals as goal
 
@@ -11,8 +11,8 @@ pub returns-then-count-length-clause-comes : goal.returns-then-count-length-clau
 returns-then-count-length-clause-comes c =
     let old = c.args.self.now in
     let room = c.make_room.new.self in
-    let v : Kept = record (kept_of old) { log = log_of room } in
-    let same : v ≡ kept_of old = ap (λ (l : Log). record (kept_of old) { log = l }) c.in_ok-make_room.ensures.same in
+    let v : WorldRecord = record (world_record_of old) { log = log_of room } in
+    let same : v ≡ world_record_of old = ap (λ (l : Log). record (world_record_of old) { log = l }) c.in_ok-make_room.ensures.same in
     let is = c.in-Some.ensures.some in
     let i = c.in-Some.index in
     let datagrams = room.datagrams.items in
@@ -22,17 +22,17 @@ returns-then-count-length-clause-comes c =
     let at = slice_get_read datagrams _ i d refl within c.index.ensures in
     let long = c.len-length.ensures ∙ d.sent.octets.ok.0 ∙ sym (octets_at datagrams i d found at) in
     let past : c.args.count < length found.sent.what.octets → ⊥ = λ short. omega (arith, c.if-count-length.true, long, short) in
-    let new : Kept = record (kept_of old) { log = log_of c.pass_over-then-count-length.new.self } in
-    subst (λ (n : ℕ). Comes (kept_of old) (Cut n c.args.count) new) is.0
-    (subst (λ (k : Kept). Comes k (Cut i c.args.count) new) same
-    (inr (found, inl (past, ap (λ (l : Log). record (kept_of old) { log = l }) c.pass_over-then-count-length.ensures.log))))
+    let new : WorldRecord = record (world_record_of old) { log = log_of c.pass_over-then-count-length.new.self } in
+    subst (λ (n : ℕ). EventLeaves (world_record_of old) (Cut n c.args.count) new) is.0
+    (subst (λ (k : WorldRecord). EventLeaves k (Cut i c.args.count) new) same
+    (inr (found, inl (past, ap (λ (l : Log). record (world_record_of old) { log = l }) c.pass_over-then-count-length.ensures.log))))
 
 pub returns-clause-comes : goal.returns-clause-comes
 returns-clause-comes c =
     let old = c.args.self.now in
     let room = c.make_room.new.self in
-    let v : Kept = record (kept_of old) { log = log_of room } in
-    let same : v ≡ kept_of old = ap (λ (l : Log). record (kept_of old) { log = l }) c.in_ok-make_room.ensures.same in
+    let v : WorldRecord = record (world_record_of old) { log = log_of room } in
+    let same : v ≡ world_record_of old = ap (λ (l : Log). record (world_record_of old) { log = l }) c.in_ok-make_room.ensures.same in
     let is = c.in-Some.ensures.some in
     let i = c.in-Some.index in
     let datagrams = room.datagrams.items in
@@ -42,9 +42,9 @@ returns-clause-comes c =
     let at = slice_get_read datagrams _ i d refl within c.index.ensures in
     let long = c.len-length.ensures ∙ d.sent.octets.ok.0 ∙ sym (octets_at datagrams i d found at) in
     let short : c.args.count < length found.sent.what.octets = omega (arith, c.if-count-length.false, long) in
-    let new = kept_of c.bring.new.self in
+    let new = world_record_of c.bring.new.self in
     on_ok_weaker c.bring.result (λ brings.
-    subst (λ (n : ℕ). Comes (kept_of old) (Cut n c.args.count) new) is.0
-    (subst (λ (k : Kept). Comes k (Cut i c.args.count) new) same
+    subst (λ (n : ℕ). EventLeaves (world_record_of old) (Cut n c.args.count) new) is.0
+    (subst (λ (k : WorldRecord). EventLeaves k (Cut i c.args.count) new) same
     (inr (found, inr (short, cut_short v found.sent c.args.count new (brings found))))))
     c.bring.ensures.brings

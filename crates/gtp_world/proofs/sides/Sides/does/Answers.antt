@@ -1,7 +1,7 @@
 use Rattle.std.proofs.Common.{false, sym, subst}
 use Rattle.gtp_machine.specs.Input.{Commanded}
 use Rattle.gtp_world.specs.Commands.{command_of}
-use Rattle.gtp_world.specs.Kept.{half_of}
+use Rattle.gtp_world.specs.Record.{gateway_record_of}
 use Rattle.gtp_world.specs.Sides.{IsInput}
 use Rattle.gtp_world.specs.Stepped.{AsksFor}
 use Rattle.gtp_world.specs.declared.side.Came.{Came}
@@ -16,13 +16,13 @@ returns-clause-takes c =
     let input = Commanded (command_of c.args.event.now) in
     elim c.match-node.branch [
       | in-Serving+in_ok-came-in-Serving w ↦
-          takes_at old mid c.args.node input AsksFor (half_of old.serving) (half_of w.does.new.self) c.match-node.came c.settle.new.self false
+          takes_at old mid c.args.node input AsksFor (gateway_record_of old.serving) (gateway_record_of w.does.new.self) c.match-node.came c.settle.new.self false
           (at_serving old mid c.args.node w.does.new.self c.make_room.new.self w.in-Serving.is w.self-is c.in_ok-make_room.ensures.same)
-          (subst (λ (k : Came). IsInput c.args.node input AsksFor (half_of old.serving) k (half_of w.does.new.self)) (sym w.came-is) w.in_ok-came-in-Serving.ensures.done)
+          (subst (λ (k : Came). IsInput c.args.node input AsksFor (gateway_record_of old.serving) k (gateway_record_of w.does.new.self)) (sym w.came-is) w.in_ok-came-in-Serving.ensures.done)
           c.settle.ensures.log
       | in-Packet+in_ok-came-in-Packet w ↦
-          takes_at old mid c.args.node input AsksFor (half_of old.packet) (half_of w.does-in-Packet.new.self) c.match-node.came c.settle.new.self false
+          takes_at old mid c.args.node input AsksFor (gateway_record_of old.packet) (gateway_record_of w.does-in-Packet.new.self) c.match-node.came c.settle.new.self false
           (at_packet old mid c.args.node w.does-in-Packet.new.self c.make_room.new.self w.in-Packet.is w.self-is c.in_ok-make_room.ensures.same)
-          (subst (λ (k : Came). IsInput c.args.node input AsksFor (half_of old.packet) k (half_of w.does-in-Packet.new.self)) (sym w.came-is) w.in_ok-came-in-Packet.ensures.done)
+          (subst (λ (k : Came). IsInput c.args.node input AsksFor (gateway_record_of old.packet) k (gateway_record_of w.does-in-Packet.new.self)) (sym w.came-is) w.in_ok-came-in-Packet.ensures.done)
           c.settle.ensures.log
     ]

@@ -3,7 +3,7 @@ use Rattle.std.specs.Prelude.{IsTrue}
 use Rattle.std.proofs.lemmas.Option.{slice_get-map, slice_get-get_or}
 use Rattle.gtp_machine.specs.Input.{Entry}
 use Rattle.gtp_machine.specs.World.{By, HasBy, other}
-use Rattle.gtp_world.specs.Kept.{Kept, kept_of, entry_by}
+use Rattle.gtp_world.specs.Record.{WorldRecord, world_record_of, entry_by}
 use Rattle.gtp_machine.proofs.Basics.FiniteMaps.{among_at}
 use Rattle.gtp_world.proofs.Reached.{is_so}
 use Rattle.gtp_world.proofs.Safe.{run_safe}
@@ -22,13 +22,13 @@ returns-clause-some c =
     let e = c.in_ok-accepted.accepted.now in (
       entry_by e,
       subst (λ (l : List (By Entry)). slice_get l c.args.index ≡ Some (entry_by e)) c.accepted.ensures (at c),
-      subst (λ (k : Kept). IsTrue c.is_owed.result ↔ HasBy k.log.handed (other e.node) (entry_by e).what) c.self.view_is c.is_owed.ensures,
+      subst (λ (k : WorldRecord). IsTrue c.is_owed.result ↔ HasBy k.log.handed (other e.node) (entry_by e).what) c.self.view_is c.is_owed.ensures,
     )
 
 pub returns-clause-safe : goal.returns-clause-safe
 returns-clause-safe c = λ none.
     let e = c.in_ok-accepted.accepted.now in
-    let inside = kept_of c.self.inside.sides in
-    let accepted = subst (λ (l : List (By Entry)). HasBy l e.node (entry_by e).what) (c.accepted.ensures ∙ ap (λ (k : Kept). k.log.accepted) (sym c.self.view_is)) (among_at (map entry_by c.accepted.result.now) c.args.index (entry_by e) (at c)) in
-    let timely : inside.log.late ≡ 0 = ap (λ (k : Kept). k.log.late) c.self.view_is ∙ none in
+    let inside = world_record_of c.self.inside.sides in
+    let accepted = subst (λ (l : List (By Entry)). HasBy l e.node (entry_by e).what) (c.accepted.ensures ∙ ap (λ (k : WorldRecord). k.log.accepted) (sym c.self.view_is)) (among_at (map entry_by c.accepted.result.now) c.args.index (entry_by e) (at c)) in
+    let timely : inside.log.late ≡ 0 = ap (λ (k : WorldRecord). k.log.late) c.self.view_is ∙ none in
     is_so inside c.is_owed.result c.self.invariant (λ reached. c.is_owed.ensures.1 ((run_safe reached.setup reached.events inside reached.run).owed timely e.node (entry_by e).what accepted))

@@ -3,7 +3,7 @@ use Rattle.gtp_ie.specs.Value.{OfAmbr}
 use Rattle.gtp_v2.specs.Viewed.{always_has, has_row, row_of}
 use Rattle.gtp_machine.specs.Decoded.{row_in, ambr_in, octets_at, number_at, end_at, requested}
 use Rattle.gtp_machine.specs.MessageType.{type_at}
-use Rattle.gtp_machine.proofs.Octets.Readings.{session_request_read}
+use Rattle.gtp_machine.proofs.Octets.Readings.{create_session_request_read}
 use Rattle.gtp_gateway.specs.receive.CreateSessionRequest.{default_values}
 use Rattle.gtp_gateway.proofs.InPlace.{row_said}
 use Rattle.gtp_gateway.proofs.receive.create_session_request.read.create_session_request_in.Goals as goal
@@ -31,7 +31,7 @@ pub returns : goal.returns
 unfolding row_in
 returns c =
     let m = c.args.view.now.message in
-    let q = session_request_read c.requires.spelled.0 m c.requires.spelled.1 (ap type_at c.requires.of) in
+    let q = create_session_request_read c.requires.spelled.0 m c.requires.spelled.1 (ap type_at c.requires.of) in
     let d = c.requested_default in
     let contexts = same_first q.0 (default_values d.result) q.1 d.ensures.further (sym q.3 ∙ d.ensures.contexts) in (
       _,

@@ -1,4 +1,4 @@
--- Which message octets spell, by the procedure that takes it, and what either gateway does with it.
+-- Which message octets spell, by its type, and what either gateway does with it.
 use Rattle.std.proofs.Common.{◌≡◌, ℕ, true, List, [], ◌∷◌, Some, None, refl, sym, ◌∙◌, ap}
 use Rattle.gtp_values.specs.declared.cause.Cause.{Cause}
 use Rattle.gtp_ie.specs.Value.{OfCause, OfEbi}
@@ -13,7 +13,7 @@ use Rattle.gtp_machine.specs.Input.{Effect}
 use Rattle.gtp_machine.specs.declared.message_type.MessageType.{MessageType}
 use Rattle.gtp_machine.specs.declared.message_type.MessageType.TheVariants as types
 use Rattle.gtp_machine.proofs.Basics.Types.{type_kind}
-use Rattle.gtp_machine.proofs.Octets.Readings.{reads_as, session_request_read, bearer_request_read}
+use Rattle.gtp_machine.proofs.Octets.Readings.{reads_as, create_session_request_read, create_bearer_request_read}
 use Rattle.gtp_gateway.specs.declared.receive.delete_request.DeleteRequest.{DeleteRequest}
 use Rattle.gtp_gateway.specs.declared.receive.restart_counter.Heard.{Heard}
 use Rattle.gtp_gateway.specs.declared.step.ControlStep.{ControlStep}
@@ -25,7 +25,7 @@ use Rattle.gtp_gateway.specs.GatewayState.{GatewayState}
 use Rattle.gtp_machine.specs.MessageType.{type_at, type_of, takes_type, takes_some, takes_message, type_row}
 use Rattle.gtp_machine.specs.Step.{TakesBy}
 use Rattle.gtp_gateway.proofs.InPlace.{row_said}
-use Rattle.gtp_gateway.proofs.Procedures.{AtTakers, at_taker}
+use Rattle.gtp_gateway.proofs.TakenTypes.{AtTakers, at_taker}
 use Rattle.gtp_gateway.proofs.Rows.{as_row}
 
 -- ---- Echo Request and Echo Response
@@ -43,9 +43,9 @@ echo_response_is octets m is at = record { echo = _; is = reads_as types.EchoRes
 
 -- ---- Delete Session Request
 
-pub deletion_request_is : (octets : List ℕ) (m : MessageValue) (r : DeleteRequest) → IsMessage octets m → type_at m.kind ≡ Some types.DeleteSessionRequest → ReadsDelete m r → message_of m ≡ Delete_session_request (delete_session_by r)
+pub delete_session_request_is : (octets : List ℕ) (m : MessageValue) (r : DeleteRequest) → IsMessage octets m → type_at m.kind ≡ Some types.DeleteSessionRequest → ReadsDelete m r → message_of m ≡ Delete_session_request (delete_session_by r)
 unfolding row_in
-deletion_request_is octets m r is at reads =
+delete_session_request_is octets m r is at reads =
     let linked = row_said OfEbi number_of (λ n. refl) (row_of 73 0 m) r.linked (reads.linked (ap (λ k. has_row k 73 0) (type_kind m.kind types.DeleteSessionRequest at))) in
     reads_as types.DeleteSessionRequest octets m is at ∙ (λ i. Delete_session_request (record { header = sym reads.header i; number = sym reads.number i; linked = linked i }))
 
@@ -64,20 +64,20 @@ pub record IsResponse {A : Type 0} (message : A → Message) (header_of seq_of :
   pub number : seq_of response ≡ m.seq
   pub cause : cause_of response ≡ c
 
-pub deletion_response_is : (octets : List ℕ) (m : MessageValue) (c : Cause) → IsMessage octets m → type_at m.kind ≡ Some types.DeleteSessionResponse → row_of 2 0 m ≡ OfCause c ∷ [] → IsResponse Delete_session_response (λ d. d.header) (λ d. d.number) (λ d. d.cause) m c
+pub delete_session_response_is : (octets : List ℕ) (m : MessageValue) (c : Cause) → IsMessage octets m → type_at m.kind ≡ Some types.DeleteSessionResponse → row_of 2 0 m ≡ OfCause c ∷ [] → IsResponse Delete_session_response (λ d. d.header) (λ d. d.number) (λ d. d.cause) m c
 unfolding row_in
-deletion_response_is octets m c is at read = record { response = _; is = reads_as types.DeleteSessionResponse octets m is at; header = refl; number = refl; cause = ap cause_at read }
+delete_session_response_is octets m c is at read = record { response = _; is = reads_as types.DeleteSessionResponse octets m is at; header = refl; number = refl; cause = ap cause_at read }
 
-pub removal_response_is : (octets : List ℕ) (m : MessageValue) (c : Cause) → IsMessage octets m → type_at m.kind ≡ Some types.DeleteBearerResponse → row_of 2 0 m ≡ OfCause c ∷ [] → IsResponse Delete_bearer_response (λ d. d.header) (λ d. d.number) (λ d. d.cause) m c
+pub delete_bearer_response_is : (octets : List ℕ) (m : MessageValue) (c : Cause) → IsMessage octets m → type_at m.kind ≡ Some types.DeleteBearerResponse → row_of 2 0 m ≡ OfCause c ∷ [] → IsResponse Delete_bearer_response (λ d. d.header) (λ d. d.number) (λ d. d.cause) m c
 unfolding row_in
-removal_response_is octets m c is at read = record { response = _; is = reads_as types.DeleteBearerResponse octets m is at; header = refl; number = refl; cause = ap cause_at read }
+delete_bearer_response_is octets m c is at read = record { response = _; is = reads_as types.DeleteBearerResponse octets m is at; header = refl; number = refl; cause = ap cause_at read }
 
 -- ---- a gateway takes the messages of the types that it takes
 
 -- a message in a datagram has the type that its number names
 pub type_read : (octets : List ℕ) (m : MessageValue) (t : MessageType) → IsMessage octets m → type_at m.kind ≡ Some t → type_of (message_of m) ≡ Some t
-type_read octets m types.CreateSessionRequest is at = ap type_of (session_request_read octets m is at).2
-type_read octets m types.CreateBearerRequest is at = ap type_of (bearer_request_read octets m is at).2
+type_read octets m types.CreateSessionRequest is at = ap type_of (create_session_request_read octets m is at).2
+type_read octets m types.CreateBearerRequest is at = ap type_of (create_bearer_request_read octets m is at).2
 type_read octets m t is at = ap type_of (reads_as t octets m is at)
 
 pub is_taken : (role : Role) (octets : List ℕ) (m : MessageValue) (t : MessageType) → IsMessage octets m → type_at m.kind ≡ Some t → takes_type role t ≡ true → takes_message role (message_of m) ≡ true

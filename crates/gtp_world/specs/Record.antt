@@ -27,9 +27,9 @@ oldest_first (x ∷ xs) = oldest_first xs ++ (x ∷ [])
 
 -- a gateway, and what is kept of it since it started: the counters that it heard, the requests whose answers it has given up, and the create requests for
 -- which it made a context, each in order; how it is set up, with which counter it began, and how often it was restarted
-pub record Half : Type 0 where
+pub record GatewayRecord : Type 0 where
   pub settings : Settings
-  pub station : GatewayState
+  pub state : GatewayState
   pub first : ℕ
   pub restarts : ℕ
   pub seen : List ℕ
@@ -38,7 +38,7 @@ pub record Half : Type 0 where
 
 -- what is told of an event: what it came to, and the second message of a datagram, where two were taken one after the other; the later counter that was learned,
 -- how many datagrams it sent, the requests that it gave up, and those whose answers it forgot
-pub record Told : Type 0 where
+pub record EventRecord : Type 0 where
   pub outcome : EventOutcome
   pub second : Option OfMessage
   pub learned : Option ℕ
@@ -53,30 +53,30 @@ pub record Log : Type 0 where
   pub handed : List (By Entry)
   pub accepted : List (By Entry)
   pub late : ℕ
-  pub notes : List Told
+  pub notes : List EventRecord
 
 -- what each event came to, in order
 abbrev pub outcomes_in : Log → List EventOutcome
-outcomes_in log = map (λ (t : Told). t.outcome) log.notes
+outcomes_in log = map (λ (t : EventRecord). t.outcome) log.notes
 
 -- both gateways, and the log of what they did
-pub record Kept : Type 0 where
-  pub serving : Half
-  pub packet : Half
+pub record WorldRecord : Type 0 where
+  pub serving : GatewayRecord
+  pub packet : GatewayRecord
   pub log : Log
 
-abbrev pub half_in : Kept → Role → Half
-half_in v Serving = v.serving
-half_in v Packet = v.packet
+abbrev pub gateway_in : WorldRecord → Role → GatewayRecord
+gateway_in v Serving = v.serving
+gateway_in v Packet = v.packet
 
-abbrev pub with_half : Kept → Role → Half → Kept
-with_half v Serving half = record v { serving = half }
-with_half v Packet half = record v { packet = half }
+abbrev pub with_gateway : WorldRecord → Role → GatewayRecord → WorldRecord
+with_gateway v Serving half = record v { serving = half }
+with_gateway v Packet half = record v { packet = half }
 
 -- the same of what the program keeps
 
-abbrev pub half_of : Side → Half
-half_of s = record { settings = s.config; station = s.gateway; first = s.first.0; restarts = s.restarts; seen = map (λ c. c.0) s.seen.items; forgotten = s.forgotten.list; made = arrivals_of s.made.items }
+abbrev pub gateway_record_of : Side → GatewayRecord
+gateway_record_of s = record { settings = s.config; state = s.gateway; first = s.first.0; restarts = s.restarts; seen = map (λ c. c.0) s.seen.items; forgotten = s.forgotten.list; made = arrivals_of s.made.items }
 
 abbrev pub outcome_of : Outcome → EventOutcome
 outcome_of (outcomes.CameTo outcome) = Came_to outcome
@@ -89,7 +89,7 @@ outcome_of outcomes.CutTooLong = Cut_too_long
 abbrev pub sent_by : LoggedDatagram → By Datagram
 sent_by d = record { role = d.node; what = datagram_by d.sent }
 
-abbrev pub told_by : Note → Told
+abbrev pub told_by : Note → EventRecord
 told_by n = record { outcome = outcome_of n.outcome; second = n.second; learned = option_map (λ c. c.0) n.restart; sent = n.sent; gave_up = n.gave_up.items; forgot = arrivals_of n.forgotten.items }
 
 -- one more where a delivery was late
@@ -104,5 +104,5 @@ late_among (n ∷ notes) = counted n.late (late_among notes)
 abbrev pub log_of : Records → Log
 log_of r = record { datagrams = map sent_by r.datagrams.items; handed = r.handed.list; accepted = map entry_by r.accepted.items; late = late_among r.notes.items; notes = map told_by r.notes.items }
 
-abbrev pub kept_of : Sides → Kept
-kept_of w = record { serving = half_of w.serving; packet = half_of w.packet; log = log_of w.records }
+abbrev pub world_record_of : Sides → WorldRecord
+world_record_of w = record { serving = gateway_record_of w.serving; packet = gateway_record_of w.packet; log = log_of w.records }
