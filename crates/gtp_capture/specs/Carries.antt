@@ -17,7 +17,9 @@ CarriesV6 octets p = (headers : ℕ) × IsV6 octets p headers
 
 -- any number of tags, and then a packet whose type is 0800 or 86dd, written with the base 16
 abbrev pub CarriesTyped : ℕ → List ℕ → Parcel → Type 0
-CarriesTyped kind octets p = (tags : ℕ) × (type : ℕ) × (inside : List ℕ) × IsTagged tags kind octets type inside × (((type ≡ 2048) × CarriesV4 inside p) ⊎ ((type ≡ 34525) × CarriesV6 inside p))
+CarriesTyped kind octets p =
+    (tags : ℕ) × (type : ℕ) × (inside : List ℕ) × IsTagged tags kind octets type inside
+    × (((type ≡ 2048) × CarriesV4 inside p) ⊎ ((type ≡ 34525) × CarriesV6 inside p))
 
 -- a frame of which so many octets stand before what it carries, and the type of that here
 abbrev pub CarriesAt : ℕ → ℕ → List ℕ → Parcel → Type 0
@@ -49,4 +51,7 @@ Carries ports link frame d = (p : Parcel) × (u : Udp) × InFrame link frame p �
 
 -- what is read of a frame is what it carries, and what it carries is read
 abbrev pub ReadsWhatIsCarried : Type 0
-ReadsWhatIsCarried = (ports : Ports) (link : ℕ) (frame : List ℕ) (d : Packet) → (packet_in ports link frame ≡ Some d → Carries ports link frame d) × (Carries ports link frame d → packet_in ports link frame ≡ Some d)
+ReadsWhatIsCarried =
+    (ports : Ports) (link : ℕ) (frame : List ℕ) (d : Packet)
+    → (packet_in ports link frame ≡ Some d → Carries ports link frame d)
+    × (Carries ports link frame d → packet_in ports link frame ≡ Some d)

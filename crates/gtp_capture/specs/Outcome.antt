@@ -97,7 +97,9 @@ IsStopped ports takes refuses file before after Refused = StopsAt ports takes re
 abbrev pub IsRead : {S : Type 0} → Ports → (takes refuses : S → Seen → S → Type 0) → List ℕ → S → S → Result ℕ CaptureFault → Type 0
 IsRead ports takes refuses file before after (Ok count) = (state : State) × (frames : List Frame) × HandsOn ports takes file before after state frames [] × (count ≡ length frames)
 IsRead ports takes refuses file before after (Err NoCapture) = (before ≡ after) × ((state : State) (frames : List Frame) (rest : List ℕ) → IsCapture file state frames rest → ⊥)
-IsRead ports takes refuses file before after (Err (Broken at)) = (state : State) × (frames : List Frame) × (rest : List ℕ) × HandsOn ports takes file before after state frames rest × IsBroken state rest × (at + length rest ≡ length file)
+IsRead ports takes refuses file before after (Err (Broken at)) =
+    (state : State) × (frames : List Frame) × (rest : List ℕ)
+    × HandsOn ports takes file before after state frames rest × IsBroken state rest × (at + length rest ≡ length file)
 IsRead ports takes refuses file before after (Err (Stopped stop)) = IsStopped ports takes refuses file before after stop
 
 -- so far

@@ -130,7 +130,14 @@ abbrev pub seen_sent : (ports : Ports) → ℕ → (d : Sent) → HasRoom ports 
 seen_sent ports n d room = record {
   frame = n;
   time = record { seconds = d.seconds; fraction = d.microseconds; unit = Microseconds };
-  packet = record { from = record { ip = ip_from d.ends; port = d.from_port }; to = record { ip = ip_to d.ends; port = d.to_port }; plane = room.plane; fragment = false; had = length d.octets; octets = d.octets };
+  packet = record {
+    from = record { ip = ip_from d.ends; port = d.from_port };
+    to = record { ip = ip_to d.ends; port = d.to_port };
+    plane = room.plane;
+    fragment = false;
+    had = length d.octets;
+    octets = d.octets;
+  };
 }
 
 abbrev pub seen_all : (ports : Ports) → ℕ → (ds : List Sent) → AllByRecursion (HasRoom ports) ds → List Seen

@@ -83,7 +83,9 @@ second_member ms = member (codes "second") (object_of ms)
 
 -- the members of two messages, of which the first announces the second
 abbrev pub PairMembers : List ℕ → List (List ℕ × Json) → Type 0
-PairMembers octets ms = (front : List ℕ) × (back : List ℕ) × Announces octets front back × ((a : List (List ℕ × Json)) × (b : List (List ℕ × Json)) × MessageMembers front a × MessageMembers back b × (ms ≡ a ++ second_member b))
+PairMembers octets ms =
+    (front : List ℕ) × (back : List ℕ) × Announces octets front back
+    × ((a : List (List ℕ × Json)) × (b : List (List ℕ × Json)) × MessageMembers front a × MessageMembers back b × (ms ≡ a ++ second_member b))
 
 -- the same of elements that are at hand
 abbrev pub carried_members : Content → List Element → List (List ℕ × Json)
@@ -141,7 +143,9 @@ fault_detail (faults.Short held) = member (codes "held") (number_of held)
 fault_detail (faults.Version version) = member (codes "version") (number_of version)
 fault_detail (faults.Length stated held) = member (codes "stated") (number_of stated) ++ member (codes "held") (number_of held)
 fault_detail (faults.FlagT kind) = member (codes "type") (number_of kind)
-fault_detail (faults.Missing kind instance conditional head) = member (codes "type") (number_of kind) ++ (member (codes "instance") (number_of instance) ++ member (codes "mark") (string (mark_word conditional)))
+fault_detail (faults.Missing kind instance conditional head) =
+    member (codes "type") (number_of kind)
+    ++ (member (codes "instance") (number_of instance) ++ member (codes "mark") (string (mark_word conditional)))
 fault_detail (faults.Element fault head) = member (codes "element") (object_of (element_fault_members fault))
 fault_detail (faults.BadPiggyback at) = member (codes "at") (number_of at)
 fault_detail fault = []

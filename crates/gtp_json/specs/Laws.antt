@@ -30,7 +30,8 @@ OneLine =
 -- and so has a datagram of a capture
 abbrev pub OneFrameLine : Type 0
 OneFrameLine =
-    (members : Members) (d : Seen) (text : List ℕ) (faulty : Bool) (other : List ℕ) (wrong : Bool) → FrameJson members d text faulty → FrameJson members d other wrong → (text ≡ other) × (faulty ≡ wrong)
+    (members : Members) (d : Seen) (text : List ℕ) (faulty : Bool) (other : List ℕ) (wrong : Bool)
+    → FrameJson members d text faulty → FrameJson members d other wrong → (text ≡ other) × (faulty ≡ wrong)
 
 -- the lines of a datagram: those of its message or of its two, or of its first fault; or all that can be shown of it, and then the fault
 abbrev pub LinesBy : Members → Plane → List ℕ → List ℕ → Bool → Type 0
@@ -54,9 +55,11 @@ EndsInFault members plane octets fault j = (ms : List (List ℕ × Json)) × Wit
 -- the text and the object say the one fault of the octets, or their one message of the user plane; of a datagram of the control plane the octets spell one and
 -- no other, so both are of that
 abbrev pub OfOne : Members → Plane → List ℕ → Bool → List ℕ → Json → Type 0
-OfOne members planes.Control octets true text j = (f : V2Fault) × IsDatagramFault octets f × EndsInLine members planes.Control octets (fault_line f) text × EndsInFault members planes.Control octets (fault_members f) j
+OfOne members planes.Control octets true text j =
+    (f : V2Fault) × IsDatagramFault octets f × EndsInLine members planes.Control octets (fault_line f) text × EndsInFault members planes.Control octets (fault_members f) j
 OfOne members planes.Control octets false text j = (d : DatagramValue) × IsDatagram octets d × ((other : DatagramValue) → IsDatagram octets other → other ≡ d)
-OfOne members planes.User octets true text j = (f : UserFault) × IsUserFault octets f × EndsInLine members planes.User octets (user_fault_line f) text × EndsInFault members planes.User octets (user_fault_members f) j
+OfOne members planes.User octets true text j =
+    (f : UserFault) × IsUserFault octets f × EndsInLine members planes.User octets (user_fault_line f) text × EndsInFault members planes.User octets (user_fault_members f) j
 OfOne members planes.User octets false text j = (m : UserValue) × IsUserMessage octets m × (text ≡ user_lines m) × (j ≡ object_of (plane_member planes.User ++ user_members m))
 
 -- the lines of a datagram and its object are of one reading

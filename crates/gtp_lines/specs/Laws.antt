@@ -10,7 +10,8 @@ use Rattle.gtp_lines.specs.All.{IsFront, AllControl, AllLines}
 -- octets begin with one list of whole elements, and one rest
 abbrev pub OneFront : Type 0
 OneFront =
-    (at : ℕ) (octets : List ℕ) (es : List Element) (rest : List ℕ) (others : List Element) (left : List ℕ) → IsFront at octets es rest → IsFront at octets others left → (es ≡ others) × (rest ≡ left)
+    (at : ℕ) (octets : List ℕ) (es : List Element) (rest : List ℕ) (others : List Element) (left : List ℕ)
+    → IsFront at octets es rest → IsFront at octets others left → (es ≡ others) × (rest ≡ left)
 
 -- a message whose type has a table
 abbrev pub IsTyped : MessageValue → Type 0
@@ -23,4 +24,6 @@ WholeShown =
 
 -- what is shown of a datagram is one text, and whether it has a fault is determined
 abbrev pub OneText : Type 0
-OneText = (plane : Plane) (octets : List ℕ) (text : List ℕ) (faulty : Bool) (other : List ℕ) (wrong : Bool) → AllLines plane octets text faulty → AllLines plane octets other wrong → (text ≡ other) × (faulty ≡ wrong)
+OneText =
+    (plane : Plane) (octets : List ℕ) (text : List ℕ) (faulty : Bool) (other : List ℕ) (wrong : Bool)
+    → AllLines plane octets text faulty → AllLines plane octets other wrong → (text ≡ other) × (faulty ≡ wrong)

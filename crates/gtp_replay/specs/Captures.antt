@@ -18,9 +18,18 @@ ends_between (ip.V4 from) (ip.V4 to) = Some (V4 from to)
 ends_between (ip.V6 from) (ip.V6 to) = Some (V6 from to)
 ends_between from to = None
 
--- a datagram of a run under its number, as it is captured between these ends: as many seconds after 1970 as events came before the one that sent it, modulo 2^32, and its number in microseconds, modulo 1,000,000, and as the identification of its packet, modulo 65,536 (RFC 791, 3.2)
+-- a datagram of a run under its number, as it is captured between these ends: as many seconds after 1970 as events came
+-- before the one that sent it, modulo 2^32, and its number in microseconds, modulo 1,000,000, and as the identification of its packet, modulo 65,536 (RFC 791, 3.2)
 abbrev pub sent_between : ℕ → ℕ × By Datagram → Ends → Sent
-sent_between event d ends = record { seconds = event % 4294967296; microseconds = d.0 % 1000000; ends = ends; from_port = d.1.what.from.port; to_port = d.1.what.to.port; identification = d.0 % 65536; octets = d.1.what.octets }
+sent_between event d ends = record {
+  seconds = event % 4294967296;
+  microseconds = d.0 % 1000000;
+  ends = ends;
+  from_port = d.1.what.from.port;
+  to_port = d.1.what.to.port;
+  identification = d.0 % 65536;
+  octets = d.1.what.octets;
+}
 
 -- a datagram that this event sent, as it is captured, where its addresses are of one version
 abbrev pub captured_in : ℕ → ℕ × By Datagram → Option Sent

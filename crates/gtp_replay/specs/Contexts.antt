@@ -28,7 +28,10 @@ abbrev pub ends_text : Role → ℕ → Option ℕ → List ℕ
 ends_text node own remote = role_text node ++ codes " " ++ teid_text own ++ codes " " ++ or_dash teid_text remote
 
 abbrev pub session_line : Role → ℕ × Session → List ℕ
-session_line node e = codes "session " ++ ends_text node e.0 e.1.remote ++ codes " " ++ digits_text e.1.subscriber.imsi ++ codes " " ++ apn_text e.1.subscriber.access_point ++ codes " " ++ decimal e.1.subscriber.identity ++ codes " " ++ or_dash address_text e.1.address ++ codes " " ++ state_word e.1.state ++ codes "\n"
+session_line node e =
+    codes "session " ++ ends_text node e.0 e.1.remote ++ codes " " ++ digits_text e.1.subscriber.imsi
+    ++ codes " " ++ apn_text e.1.subscriber.access_point ++ codes " " ++ decimal e.1.subscriber.identity
+    ++ codes " " ++ or_dash address_text e.1.address ++ codes " " ++ state_word e.1.state ++ codes "\n"
 
 -- the state of a bearer
 abbrev pub bearer_state : Bearer → List ℕ

@@ -14,7 +14,8 @@ use Rattle.gtp_replay.specs.Verdicts.{mutual_line, taken_line}
 abbrev pub late_line : ℕ → List ℕ
 late_line late = codes "late " ++ decimal late ++ codes "\n"
 
--- A report: each event and what it came to; the contexts of the serving and then of the packet gateway; those that name each other, and whether they agree; the packets that were accepted, and whether they are owed; and how many deliveries were late.
+-- A report: each event and what it came to; the contexts of the serving and then of the packet gateway; those that name
+-- each other, and whether they agree; the packets that were accepted, and whether they are owed; and how many deliveries were late.
 pub record IsReport (events : List Event) (v : WorldRecord) (text : List ℕ) : Type 0 where
   pub pairs : List ℕ
   pub agreeing : TellsEach (DoAgree v) mutual_line (mutual_pairs v) pairs

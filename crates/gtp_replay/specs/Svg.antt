@@ -57,8 +57,10 @@ arrow_svg d class path label = arrow_start (plane_word d.1.what.plane) class ++ 
 
 -- what happens at a gateway
 unfoldable pub mark_svg : Role → List ℕ → List ℕ → List ℕ
-mark_svg Serving class label = codes "<g class=\"" ++ (class ++ (codes "\"><rect x=\"145\" y=\"-5\" width=\"10\" height=\"10\"/><text x=\"162\" y=\"4\">" ++ (label ++ codes "</text></g>")))
-mark_svg Packet class label = codes "<g class=\"" ++ (class ++ (codes "\"><rect x=\"645\" y=\"-5\" width=\"10\" height=\"10\"/><text class=\"end\" x=\"638\" y=\"4\">" ++ (label ++ codes "</text></g>")))
+mark_svg Serving class label =
+    codes "<g class=\"" ++ (class ++ (codes "\"><rect x=\"145\" y=\"-5\" width=\"10\" height=\"10\"/><text x=\"162\" y=\"4\">" ++ (label ++ codes "</text></g>")))
+mark_svg Packet class label =
+    codes "<g class=\"" ++ (class ++ (codes "\"><rect x=\"645\" y=\"-5\" width=\"10\" height=\"10\"/><text class=\"end\" x=\"638\" y=\"4\">" ++ (label ++ codes "</text></g>")))
 
 unfoldable pub event_class : Event → List ℕ
 event_class (Restart node) = codes "restart"
@@ -73,7 +75,9 @@ event_svg event told = told_svg told
 -- ---- rows
 
 abbrev pub IsRowSvg : Row → List ℕ → Type 0
-IsRowSvg (Comes place d coming told) piece = (label : List ℕ) × IsLabel d label × (piece ≡ place_svg place ++ (arrow_svg d (coming_class coming) (arrow_path d.1.role) (label ++ coming_text coming) ++ told_svg told))
+IsRowSvg (Comes place d coming told) piece =
+    (label : List ℕ) × IsLabel d label
+    × (piece ≡ place_svg place ++ (arrow_svg d (coming_class coming) (arrow_path d.1.role) (label ++ coming_text coming) ++ told_svg told))
 IsRowSvg (Lost d) piece = (label : List ℕ) × IsLabel d label × (piece ≡ arrow_svg d (codes " lost") (short_path d.1.role) label)
 IsRowSvg (Happens place event told) piece = piece ≡ place_svg place ++ (mark_svg (stands_at event) (event_class event) (event_label event told) ++ event_svg event told)
 IsRowSvg (Idles place node count) piece = piece ≡ place_svg place ++ mark_svg node (codes "tick") (counted count (codes "tick"))
@@ -88,7 +92,17 @@ height_of rows = 60 + 30 * rows
 
 -- how lines and texts look, the two ends of arrows, and the names of both gateways
 unfoldable pub svg_style : List ℕ
-svg_style = codes "<style>path{stroke:#333;fill:none}.user path{stroke:#06c;stroke-dasharray:6 3}.again path{stroke:#999}.lost path,.cut path{stroke:#b00}.life{stroke:#bbb}.label{text-anchor:middle}.place,.end{text-anchor:end}.place,.tick text{fill:#777}.tick rect{fill:#bbb}.restart rect,.refused{fill:#b00}</style>\n<defs><marker id=\"arrow\" viewBox=\"0 0 8 8\" refX=\"8\" refY=\"4\" markerWidth=\"8\" markerHeight=\"8\" orient=\"auto\"><path d=\"M0 0L8 4L0 8\"/></marker><marker id=\"cross\" viewBox=\"0 0 8 8\" refX=\"4\" refY=\"4\" markerWidth=\"8\" markerHeight=\"8\"><path d=\"M0 0L8 8M8 0L0 8\"/></marker></defs>\n<rect width=\"100%\" height=\"100%\" fill=\"#fff\"/>\n<text class=\"label\" x=\"150\" y=\"25\">serving</text><text class=\"label\" x=\"650\" y=\"25\">packet</text>\n"
+svg_style =
+    codes "<style>path{stroke:#333;fill:none}.user path{stroke:#06c;stroke-dasharray:6 3}"
+    ++ codes ".again path{stroke:#999}.lost path,.cut path{stroke:#b00}.life{stroke:#bbb}"
+    ++ codes ".label{text-anchor:middle}.place,.end{text-anchor:end}.place,.tick text{fill:#777}"
+    ++ codes ".tick rect{fill:#bbb}.restart rect,.refused{fill:#b00}</style>\n"
+    ++ codes "<defs><marker id=\"arrow\" viewBox=\"0 0 8 8\" refX=\"8\" refY=\"4\" markerWidth=\"8\" markerHeight=\"8\" orient=\"auto\">"
+    ++ codes "<path d=\"M0 0L8 4L0 8\"/></marker>"
+    ++ codes "<marker id=\"cross\" viewBox=\"0 0 8 8\" refX=\"4\" refY=\"4\" markerWidth=\"8\" markerHeight=\"8\">"
+    ++ codes "<path d=\"M0 0L8 8M8 0L0 8\"/></marker></defs>\n"
+    ++ codes "<rect width=\"100%\" height=\"100%\" fill=\"#fff\"/>\n"
+    ++ codes "<text class=\"label\" x=\"150\" y=\"25\">serving</text><text class=\"label\" x=\"650\" y=\"25\">packet</text>\n"
 
 -- the tag that opens a picture of this height
 abbrev pub svg_opening : ℕ → List ℕ

@@ -20,8 +20,16 @@ use gtp_world::{Datagram, Event, Note, World};
 use std::alloc::{AllocError, Global};
 
 /// How lines and texts look, the two ends of arrows, and the names of both gateways.
-const STYLE: &[u8] =
-    b"<style>path{stroke:#333;fill:none}.user path{stroke:#06c;stroke-dasharray:6 3}.again path{stroke:#999}.lost path,.cut path{stroke:#b00}.life{stroke:#bbb}.label{text-anchor:middle}.place,.end{text-anchor:end}.place,.tick text{fill:#777}.tick rect{fill:#bbb}.restart rect,.refused{fill:#b00}</style>\n<defs><marker id=\"arrow\" viewBox=\"0 0 8 8\" refX=\"8\" refY=\"4\" markerWidth=\"8\" markerHeight=\"8\" orient=\"auto\"><path d=\"M0 0L8 4L0 8\"/></marker><marker id=\"cross\" viewBox=\"0 0 8 8\" refX=\"4\" refY=\"4\" markerWidth=\"8\" markerHeight=\"8\"><path d=\"M0 0L8 8M8 0L0 8\"/></marker></defs>\n<rect width=\"100%\" height=\"100%\" fill=\"#fff\"/>\n<text class=\"label\" x=\"150\" y=\"25\">serving</text><text class=\"label\" x=\"650\" y=\"25\">packet</text>\n";
+const STYLE: &[u8] = b"<style>path{stroke:#333;fill:none}.user path{stroke:#06c;stroke-dasharray:6 3}\
+    .again path{stroke:#999}.lost path,.cut path{stroke:#b00}.life{stroke:#bbb}\
+    .label{text-anchor:middle}.place,.end{text-anchor:end}.place,.tick text{fill:#777}\
+    .tick rect{fill:#bbb}.restart rect,.refused{fill:#b00}</style>\n\
+    <defs><marker id=\"arrow\" viewBox=\"0 0 8 8\" refX=\"8\" refY=\"4\" markerWidth=\"8\" markerHeight=\"8\" orient=\"auto\">\
+    <path d=\"M0 0L8 4L0 8\"/></marker>\
+    <marker id=\"cross\" viewBox=\"0 0 8 8\" refX=\"4\" refY=\"4\" markerWidth=\"8\" markerHeight=\"8\">\
+    <path d=\"M0 0L8 8M8 0L0 8\"/></marker></defs>\n\
+    <rect width=\"100%\" height=\"100%\" fill=\"#fff\"/>\n\
+    <text class=\"label\" x=\"150\" y=\"25\">serving</text><text class=\"label\" x=\"650\" y=\"25\">packet</text>\n";
 
 /// The height of the first row, and of what stands over the rows.
 const TOP: u64 = 60;

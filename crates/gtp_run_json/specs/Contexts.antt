@@ -33,7 +33,9 @@ session_json node e = object_of (ends_members node e.0 e.1.remote ++ (subscriber
 
 -- the session of a bearer, its identity where it has one, its state, and whether an End Marker was sent or came
 abbrev pub bearer_members : Bearer → List (List ℕ × Json)
-bearer_members b = teid_member (codes "session") b.session ++ (where_some (number_member (codes "ebi")) b.identity ++ (word_member (codes "state") (state_word b.state) ++ member (codes "ended") (boolean b.ended)))
+bearer_members b =
+    teid_member (codes "session") b.session
+    ++ (where_some (number_member (codes "ebi")) b.identity ++ (word_member (codes "state") (state_word b.state) ++ member (codes "ended") (boolean b.ended)))
 
 abbrev pub bearer_json : Role → ℕ × Bearer → Json
 bearer_json node e = object_of (ends_members node e.0 e.1.remote ++ bearer_members e.1)

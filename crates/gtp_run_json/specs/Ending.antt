@@ -15,4 +15,5 @@ pub record IsEndJson (v : WorldRecord) (j : Json) : Type 0 where
   pub agreeing : JudgesEach (DoAgree v) mutual_json (mutual_pairs v) pairs
   pub packets : List Json
   pub owed : JudgesEach (WasOwed v.log) accepted_json v.log.accepted packets
-  pub whole : j ≡ object_of (sessions_members v ++ (bearers_members v ++ (member (codes "mutual") (array_of pairs) ++ (member (codes "accepted") (array_of packets) ++ number_member (codes "late") v.log.late))))
+  pub whole : j ≡ object_of (sessions_members v ++ (bearers_members v ++ (member (codes "mutual") (array_of pairs)
+      ++ (member (codes "accepted") (array_of packets) ++ number_member (codes "late") v.log.late))))

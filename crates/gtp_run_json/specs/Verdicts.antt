@@ -16,7 +16,8 @@ JudgesEach Holds shape xs judged = TellsEach Holds (λ x verdict. shape x verdic
 
 -- the kind and both TEIDs of contexts that name each other, the serving gateway's first, and whether they agree
 abbrev pub pair_json : List ℕ → ℕ → ℕ → Bool → Json
-pair_json kind serving packet agree = object_of (word_member (codes "kind") kind ++ (teid_member (codes "serving") serving ++ (teid_member (codes "packet") packet ++ member (codes "agree") (boolean agree))))
+pair_json kind serving packet agree =
+    object_of (word_member (codes "kind") kind ++ (teid_member (codes "serving") serving ++ (teid_member (codes "packet") packet ++ member (codes "agree") (boolean agree))))
 
 -- two contexts that name each other
 abbrev pub mutual_json : Pair → Bool → Json
@@ -25,4 +26,6 @@ mutual_json (Bearers serving packet) agree = pair_json (codes "bearer") serving 
 
 -- a packet that was accepted
 abbrev pub accepted_json : By Entry → Bool → Json
-accepted_json a owed = object_of (word_member (codes "node") (role_text a.role) ++ (teid_member (codes "teid") a.what.target ++ (member (codes "payload") (hexadecimal a.what.payload) ++ member (codes "owed") (boolean owed))))
+accepted_json a owed =
+    object_of (word_member (codes "node") (role_text a.role) ++ (teid_member (codes "teid") a.what.target
+    ++ (member (codes "payload") (hexadecimal a.what.payload) ++ member (codes "owed") (boolean owed))))

@@ -77,7 +77,8 @@ of_tick ticked =
 -- a datagram that is to be sent: its plane, its ends and its octets
 abbrev pub sent_json : Datagram → Json
 sent_json d =
-    object_of (word_member (codes "plane") (plane_word d.plane) ++ (member (codes "from") (object_of (end_members d.from)) ++ (member (codes "to") (object_of (end_members d.to)) ++ octets_members d.octets)))
+    object_of (word_member (codes "plane") (plane_word d.plane) ++ (member (codes "from") (object_of (end_members d.from))
+    ++ (member (codes "to") (object_of (end_members d.to)) ++ octets_members d.octets)))
 
 abbrev pub sent_members : List Datagram → List (List ℕ × Json)
 sent_members sent = member (codes "sent") (array_of (map sent_json sent))

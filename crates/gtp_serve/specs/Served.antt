@@ -14,7 +14,9 @@ use Rattle.gtp_serve.specs.Replies.{word_json}
 -- Lines are answered one after the other, each from where the one before it left the gateway; the text has the lines of all answers.
 abbrev pub AnswersAll : GatewayState → List (List ℕ) → GatewayState → List ℕ → Type 0
 AnswersAll old [] new text = (new ≡ old) × (text ≡ [])
-AnswersAll old (line ∷ lines) new text = (next : GatewayState) × (answer : Json) × (rest : List ℕ) × Answers line old answer next × AnswersAll next lines new rest × (text ≡ line_of answer ++ rest)
+AnswersAll old (line ∷ lines) new text =
+    (next : GatewayState) × (answer : Json) × (rest : List ℕ)
+    × Answers line old answer next × AnswersAll next lines new rest × (text ≡ line_of answer ++ rest)
 
 -- The lines before the rest were answered, and nothing else was written.
 pub record AreAnswered (octets rest : List ℕ) (old new : GatewayState) (before after : Option (List ℕ)) : Type 0 where

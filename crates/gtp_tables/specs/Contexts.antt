@@ -36,7 +36,8 @@ left c = record {
 
 abbrev pub contexts_code : Coded Session → Coded Bearer → Coded Contexts
 contexts_code session bearer =
-    code_by (FiniteMap Session × FiniteMap Bearer) (coded× (map.code coded_ℕ session) (map.code coded_ℕ bearer)) (λ c. (c.sessions, c.bearers)) (λ p. record { sessions = p.0; bearers = p.1 }) (λ _. refl)
+    code_by (FiniteMap Session × FiniteMap Bearer) (coded× (map.code coded_ℕ session) (map.code coded_ℕ bearer))
+    (λ c. (c.sessions, c.bearers)) (λ p. record { sessions = p.0; bearers = p.1 }) (λ _. refl)
 
 -- all that stands, or what a restart leaves of it
 abbrev pub seen : Bool → Contexts → Contexts

@@ -22,11 +22,13 @@ SpellsAddress octets (addresses.V6 address) rest = (octets ≡ 0 ∷ 16 ∷ (add
 -- the octets are an element and then the rest (8.1): below type 128 the length is the type's own, from 128 on it stands in two octets, in one for type 141 (8.5)
 abbrev pub BeginsElement : List ℕ → Element → List ℕ → Type 0
 BeginsElement octets Recovery rest = (counter : ℕ) × (octets ≡ 14 ∷ counter ∷ rest)
-BeginsElement octets (TeidData teid) rest = (a : ℕ) × (b : ℕ) × (c : ℕ) × (d : ℕ) × (octets ≡ 16 ∷ a ∷ b ∷ c ∷ d ∷ rest) × (teid ≡ from_be_bytes w32 (a ∷ b ∷ c ∷ d ∷ []))
+BeginsElement octets (TeidData teid) rest =
+    (a : ℕ) × (b : ℕ) × (c : ℕ) × (d : ℕ) × (octets ≡ 16 ∷ a ∷ b ∷ c ∷ d ∷ rest) × (teid ≡ from_be_bytes w32 (a ∷ b ∷ c ∷ d ∷ []))
 BeginsElement octets (Peer address) rest = (tail : List ℕ) × (octets ≡ 133 ∷ tail) × SpellsAddress tail address rest
 BeginsElement octets (Types types) rest = octets ≡ 141 ∷ length types ∷ (types ++ rest)
 BeginsElement octets Skipped rest =
-    (kind : ℕ) × (high : ℕ) × (low : ℕ) × (body : List ℕ) × (octets ≡ kind ∷ high ∷ low ∷ (body ++ rest)) × (length body ≡ 256 * high + low) × (128 ≤ kind) × (kind ≢ 133) × (kind ≢ 141)
+    (kind : ℕ) × (high : ℕ) × (low : ℕ) × (body : List ℕ) × (octets ≡ kind ∷ high ∷ low ∷ (body ++ rest))
+    × (length body ≡ 256 * high + low) × (128 ≤ kind) × (kind ≢ 133) × (kind ≢ 141)
 
 -- the octets are elements in order, and then the rest
 abbrev pub Spans : List ℕ → List Element → List ℕ → Type 0
@@ -40,7 +42,8 @@ AreElements octets es = Spans octets es []
 -- after whole elements there are octets which begin with none, and which are the last ones of `end` octets
 abbrev pub IsCut : ℕ → List ℕ → UserFault → Type 0
 IsCut end octets f =
-    (es : List Element) × (rest : List ℕ) × Spans octets es rest × (0 < length rest) × ((e : Element) (after : List ℕ) → BeginsElement rest e after → ⊥) × (f ≡ faults.Element (end - length rest))
+    (es : List Element) × (rest : List ℕ) × Spans octets es rest × (0 < length rest)
+    × ((e : Element) (after : List ℕ) → BeginsElement rest e after → ⊥) × (f ≡ faults.Element (end - length rest))
 
 -- whether there is a Recovery element
 abbrev pub has_recovery : List Element → Bool

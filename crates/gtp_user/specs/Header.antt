@@ -31,8 +31,10 @@ IsHeaded octets h = HeadedPlain octets h ⊎ HeadedByFlags octets h
 abbrev pub HeaderFails : List ℕ → UserFault → Type 0
 HeaderFails octets f =
     ((length octets < 8) × (f ≡ faults.Short (length octets)))
-    ⊎ ((first : ℕ) × (kind : ℕ) × (high : ℕ) × (low : ℕ) × (a : ℕ) × (b : ℕ) × (c : ℕ) × (d : ℕ) × (tail : List ℕ) × (octets ≡ first ∷ kind ∷ high ∷ low ∷ a ∷ b ∷ c ∷ d ∷ tail)
+    ⊎ ((first : ℕ) × (kind : ℕ) × (high : ℕ) × (low : ℕ) × (a : ℕ) × (b : ℕ) × (c : ℕ) × (d : ℕ) × (tail : List ℕ)
+    × (octets ≡ first ∷ kind ∷ high ∷ low ∷ a ∷ b ∷ c ∷ d ∷ tail)
     × (((first / 32 ≢ 1) × (f ≡ faults.Version (first / 32)))
     ⊎ (((flags : ℕ) × (flags < 16) × (first ≡ version_1 + flags) × (f ≡ faults.Protocol))
     ⊎ (((flags : ℕ) × (flags < 16) × (first ≡ version_1 + protocol_type + flags) × (256 * high + low ≢ length tail) × (f ≡ faults.Length (256 * high + low) (length tail)))
-    ⊎ ((flags : ℕ) × (flags < 16) × (first ≡ version_1 + protocol_type + flags) × (0 < flags % 8) × (256 * high + low ≡ length tail) × (length tail < 4) × (f ≡ faults.Short (8 + length tail)))))))
+    ⊎ ((flags : ℕ) × (flags < 16) × (first ≡ version_1 + protocol_type + flags) × (0 < flags % 8)
+        × (256 * high + low ≡ length tail) × (length tail < 4) × (f ≡ faults.Short (8 + length tail)))))))

@@ -131,7 +131,10 @@ SeveralFail needed kind instance missed es =
 abbrev pub LineIs : State → Line → List Element → Field → Type 0
 LineIs state (Single row) es field = (values : List Value) × RowIs state.accepting row es values × (field ≡ Plain values)
 LineIs state (Grouped row rows) es field =
-    (groups : List (List (List Value))) × SomeGroups (need_of state.accepting row) (kind_of row) (instance_of row) state.accepting rows (all_of (kind_of row) (instance_of row) es) groups × (field ≡ Groups groups)
+    (groups : List (List (List Value)))
+    × SomeGroups (need_of state.accepting row) (kind_of row) (instance_of row) state.accepting rows
+        (all_of (kind_of row) (instance_of row) es) groups
+    × (field ≡ Groups groups)
 LineIs state (Several kind instance missed) es field = (values : List Value) × SeveralAre state.silent kind instance es values × (field ≡ Plain values)
 
 abbrev pub LineFails : State → Line → List Element → RowFault → Type 0

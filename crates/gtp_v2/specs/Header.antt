@@ -19,7 +19,8 @@ HeadedPlain octets h =
 -- with a TEID in four octets; the last octet has the priority where the third flag says so
 abbrev pub HeadedByTeid : List ℕ → Headed → Type 0
 HeadedByTeid octets h =
-    (flags : ℕ) × (a : ℕ) × (b : ℕ) × (c : ℕ) × (d : ℕ) × (e : ℕ) × (f : ℕ) × (g : ℕ) × (last : ℕ) × (flags < 8) × Opens octets (with_teid + flags) h.kind (a ∷ b ∷ c ∷ d ∷ e ∷ f ∷ g ∷ last ∷ h.rest)
+    (flags : ℕ) × (a : ℕ) × (b : ℕ) × (c : ℕ) × (d : ℕ) × (e : ℕ) × (f : ℕ) × (g : ℕ) × (last : ℕ) × (flags < 8)
+    × Opens octets (with_teid + flags) h.kind (a ∷ b ∷ c ∷ d ∷ e ∷ f ∷ g ∷ last ∷ h.rest)
     × (h ≡ record {
       kind = h.kind;
       teid = Some (big_number 4 (a ∷ b ∷ c ∷ d ∷ []));
@@ -41,5 +42,7 @@ HeaderFails octets f =
     × (((first / 32 ≢ 2) × (f ≡ faults.Version (first / 32)))
     ⊎ (((flags : ℕ) × (flags < 16) × (first ≡ version_2 + piggybacking + flags) × (f ≡ faults.BadPiggyback 0))
     ⊎ (((flags : ℕ) × (flags < 16) × (first ≡ version_2 + flags) × (256 * high + low ≢ length following) × (f ≡ faults.Length (256 * high + low) (length following)))
-    ⊎ (((flags : ℕ) × (flags < 8) × (first ≡ version_2 + flags) × (256 * high + low ≡ length following) × (length following < 4) × (f ≡ faults.Short (4 + length following)))
-    ⊎ ((flags : ℕ) × (flags < 8) × (first ≡ version_2 + with_teid + flags) × (256 * high + low ≡ length following) × (length following < 8) × (f ≡ faults.Short (4 + length following))))))))
+    ⊎ (((flags : ℕ) × (flags < 8) × (first ≡ version_2 + flags) × (256 * high + low ≡ length following) × (length following < 4)
+        × (f ≡ faults.Short (4 + length following)))
+    ⊎ ((flags : ℕ) × (flags < 8) × (first ≡ version_2 + with_teid + flags) × (256 * high + low ≡ length following)
+        × (length following < 8) × (f ≡ faults.Short (4 + length following))))))))

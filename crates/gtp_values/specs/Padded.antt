@@ -13,5 +13,6 @@ pub record IsPadded (n : ℕ) (cells : List ℕ) (len : ℕ) : Type 0 where
   pub count : length (take len cells) ≡ len
 
 -- padding the first len cells gives the cells back
-pub padded_back : {X : Type 0} (make : List ℕ → ℕ → X) (n : ℕ) (cells : List ℕ) (len : ℕ) → IsPadded n cells len → make (padded n (take len cells)) (length (take len cells)) ≡ make cells len
+pub padded_back : {X : Type 0} (make : List ℕ → ℕ → X) (n : ℕ) (cells : List ℕ) (len : ℕ) → IsPadded n cells len
+    → make (padded n (take len cells)) (length (take len cells)) ≡ make cells len
 padded_back make n cells len h = rw (h.zeros, h.count) refl

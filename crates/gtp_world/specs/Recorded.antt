@@ -30,7 +30,14 @@ log_of_came log role came late =
       handed = log.handed ++ option_to_list came.handed;
       accepted = log.accepted ++ entries came.accepted;
       late = counted late log.late;
-      notes = log.notes ++ (record { outcome = Came_to came.outcome; second = came.second; learned = option_map (λ c. c.0) came.restart; sent = length (datagrams came.out); gave_up = []; forgot = [] } ∷ []);
+      notes = log.notes ++ (record {
+        outcome = Came_to came.outcome;
+        second = came.second;
+        learned = option_map (λ c. c.0) came.restart;
+        sent = length (datagrams came.out);
+        gave_up = [];
+        forgot = [];
+      } ∷ []);
     }
 
 -- the log, after a tick of that gateway
@@ -38,5 +45,12 @@ abbrev pub log_of_tick : Log → Role → Tick → Log
 log_of_tick log role ticked =
     record log {
       datagrams = log.datagrams ++ signed role (map datagram_by ticked.resent.items);
-      notes = log.notes ++ (record { outcome = Ticked; second = None; learned = None; sent = length ticked.resent.items; gave_up = ticked.gave_up.items; forgot = arrivals_of ticked.forgotten.items } ∷ []);
+      notes = log.notes ++ (record {
+        outcome = Ticked;
+        second = None;
+        learned = None;
+        sent = length ticked.resent.items;
+        gave_up = ticked.gave_up.items;
+        forgot = arrivals_of ticked.forgotten.items;
+      } ∷ []);
     }

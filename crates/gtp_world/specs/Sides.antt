@@ -82,7 +82,10 @@ pub record AreInputs (role : Role) (source : Endpoint) (octets : List ℕ) (answ
 
 -- The gateway took a datagram of a plane: of the control plane a pair that it takes message by message, and any other as a whole.
 abbrev pub IsBrought : Role → Plane → Endpoint → List ℕ → GatewayRecord → Came → GatewayRecord → Type 0
-IsBrought role Control source octets old came new = ByPair source octets old.state (IsInput role (coming Control source octets) (KeepsOn Control source octets) old came new) (λ answer asked. AreInputs role source octets answer asked old came new)
+IsBrought role Control source octets old came new =
+    ByPair source octets old.state
+    (IsInput role (coming Control source octets) (KeepsOn Control source octets) old came new)
+    (λ answer asked. AreInputs role source octets answer asked old came new)
 IsBrought role User source octets old came new = IsInput role (coming User source octets) (KeepsOn User source octets) old came new
 
 -- The gateway ticked.
@@ -105,7 +108,12 @@ named_or (Some teid) remote = teid
 
 -- the entry of a packet on a bearer, where that and its session stand
 abbrev pub IsEntryAt : Role → Node → ℕ → Option Teid → List ℕ → Option (By Entry) → Type 0
-IsEntryAt role node bearer names payload packet = (at : HasBearer node bearer) (of : HasSession node at.bearer.session) → option_to_list packet ≡ record { role = role; what = entry_for (named_or names at.bearer.remote) payload of.session.subscriber at.bearer.identity } ∷ []
+IsEntryAt role node bearer names payload packet =
+    (at : HasBearer node bearer) (of : HasSession node at.bearer.session)
+    → option_to_list packet ≡ record {
+      role = role;
+      what = entry_for (named_or names at.bearer.remote) payload of.session.subscriber at.bearer.identity;
+    } ∷ []
 
 -- the entry of a packet that is handed in, where its bearer and that bearer's session stand; no other command has one
 abbrev pub IsHanded : Role → Node → Command → Option (By Entry) → Type 0

@@ -131,7 +131,10 @@ pub record TakesBoth (old : WorldRecord) (role : Role) (source : Endpoint) (octe
 
 -- A gateway takes a datagram of a plane: of the control plane a pair that it takes message by message, and any other as a whole.
 abbrev pub TakesOn : WorldRecord → Role → Plane → Endpoint → List ℕ → Bool → WorldRecord → Type 0
-TakesOn old role Control source octets late new = ByPair source octets (gateway_in old role).state (StepsOn old role (coming Control source octets) (KeepsOn Control source octets) late new) (λ answer asked. TakesBoth old role source octets answer asked late new)
+TakesOn old role Control source octets late new =
+    ByPair source octets (gateway_in old role).state
+    (StepsOn old role (coming Control source octets) (KeepsOn Control source octets) late new)
+    (λ answer asked. TakesBoth old role source octets answer asked late new)
 TakesOn old role User source octets late new = StepsOn old role (coming User source octets) (KeepsOn User source octets) late new
 
 -- The octets of a datagram come to the gateway that did not send it.

@@ -33,7 +33,9 @@ pub record IsMade (v : WorldRecord) (number count : ℕ) : Type 0 where
 
 -- at the end of a run in which no delivery of the datagram was late, since its receiver started, at most one context was made for it
 abbrev pub IsMadeOnce : WorldRecord → ℕ → ℕ → Type 0
-IsMadeOnce v number count = (setup : Setup) (events : List Event) (r : LeftByRun setup events v) (found : IsThere v.log.datagrams number) → (Among (as_it_came found.sent) (side_of r.world (other found.sent.role)).late_requests → ⊥) → count ≤ 1
+IsMadeOnce v number count =
+    (setup : Setup) (events : List Event) (r : LeftByRun setup events v) (found : IsThere v.log.datagrams number)
+    → (Among (as_it_came found.sent) (side_of r.world (other found.sent.role)).late_requests → ⊥) → count ≤ 1
 
 -- a step of a gateway that took the last message of the datagram, as a create request, and the messages of a datagram that was sent in answer to it
 pub record IsAnswer (receiver : Role) (d : By Datagram) (request : Message) (done : Done) (answer : List Message) : Type 0 where
@@ -44,6 +46,8 @@ pub record IsAnswer (receiver : Role) (d : By Datagram) (request : Message) (don
 -- at the end of a run in which no delivery of the datagram was late, since its receiver started, all that was sent in answer to it since then is the same octets
 abbrev pub IsAnsweredAlike : WorldRecord → ℕ → Type 0
 IsAnsweredAlike v number =
-    (setup : Setup) (events : List Event) (r : LeftByRun setup events v) (found : IsThere v.log.datagrams number) → (Among (as_it_came found.sent) (side_of r.world (other found.sent.role)).late_requests → ⊥)
+    (setup : Setup) (events : List Event) (r : LeftByRun setup events v) (found : IsThere v.log.datagrams number)
+    → (Among (as_it_came found.sent) (side_of r.world (other found.sent.role)).late_requests → ⊥)
     → (first second : Done) → Follow (steps_of r.world (other found.sent.role)) first second
-    → (request : Message) (a b : List Message) → IsAnswer (other found.sent.role) found.sent request first a → IsAnswer (other found.sent.role) found.sent request second b → spelled_all a ≡ spelled_all b
+    → (request : Message) (a b : List Message) → IsAnswer (other found.sent.role) found.sent request first a
+    → IsAnswer (other found.sent.role) found.sent request second b → spelled_all a ≡ spelled_all b

@@ -32,12 +32,14 @@ counted c p faulty = record { gtp = c.gtp + 1; faults = c.faults + from_bool fau
 -- the line that counts
 abbrev pub counts_line : ℕ → Counts → List ℕ
 counts_line frames c =
-    codes "frames " ++ (decimal frames ++ (codes " gtp " ++ (decimal c.gtp ++ (codes " faults " ++ (decimal c.faults ++ (codes " cut " ++ (decimal c.cut ++ (codes " fragments " ++ (decimal c.fragments ++ codes "\n")))))))))
+    codes "frames " ++ (decimal frames ++ (codes " gtp " ++ (decimal c.gtp
+    ++ (codes " faults " ++ (decimal c.faults ++ (codes " cut " ++ (decimal c.cut ++ (codes " fragments " ++ (decimal c.fragments ++ codes "\n")))))))))
 
 -- and the same as a JSON object
 abbrev pub counts_json : ℕ → Counts → List ℕ
 counts_json frames c =
-    codes "{\"frames\":" ++ (decimal frames ++ (codes ",\"gtp\":" ++ (decimal c.gtp ++ (codes ",\"faults\":" ++ (decimal c.faults ++ (codes ",\"cut\":" ++ (decimal c.cut ++ (codes ",\"fragments\":" ++ (decimal c.fragments ++ codes "}\n")))))))))
+    codes "{\"frames\":" ++ (decimal frames ++ (codes ",\"gtp\":" ++ (decimal c.gtp
+    ++ (codes ",\"faults\":" ++ (decimal c.faults ++ (codes ",\"cut\":" ++ (decimal c.cut ++ (codes ",\"fragments\":" ++ (decimal c.fragments ++ codes "}\n")))))))))
 
 -- in each form
 abbrev pub last_line : CaptureForm → ℕ → Counts → List ℕ
@@ -104,7 +106,10 @@ IsBrokenShown form ports file before now at = (state : State) × (frames : List 
 
 -- The datagrams of some first frames were shown, or nothing was.
 abbrev pub IsFirstShown : CaptureForm → Ports → List ℕ → Option (List ℕ) → Option (List ℕ) → Type 0
-IsFirstShown form ports file before now = (before ≡ now) ⊎ ((state : State) × (frames : List Frame) × (rest : List ℕ) × (counts : Counts) × IsCapture file state frames rest × AreWritten form ports frames before now counts)
+IsFirstShown form ports file before now =
+    (before ≡ now)
+    ⊎ ((state : State) × (frames : List Frame) × (rest : List ℕ) × (counts : Counts)
+    × IsCapture file state frames rest × AreWritten form ports frames before now counts)
 
 -- The file is no capture, and nothing was shown.
 abbrev pub IsNoCapture : List ℕ → Option (List ℕ) → Option (List ℕ) → Type 0

@@ -18,7 +18,12 @@ v4_after size octets =
     if nat_lt size 20 then None
     else (if nat_lt (two_at 2 octets) size then None
     else (if nat_lt (length octets) size then None
-    else Some (record { from = V4 (slice_range octets 12 16); to = V4 (slice_range octets 16 20); fragment = two_at 6 octets / 8192 % 2 == 1; octets = take (two_at 2 octets - size) (drop size octets) })))
+    else Some (record {
+      from = V4 (slice_range octets 12 16);
+      to = V4 (slice_range octets 16 20);
+      fragment = two_at 6 octets / 8192 % 2 == 1;
+      octets = take (two_at 2 octets - size) (drop size octets);
+    })))
 
 unfoldable pub v4_in : List ℕ → Option Parcel
 v4_in octets =

@@ -14,4 +14,8 @@ after_held source request answer pairs = pairs ++ (just_kept source request answ
 
 -- an answer goes to where the request came from, as one datagram, and is held; a context may have been made for the request
 abbrev pub answering : Bool → Arrival → List Message → ℕ → Node → Effect
-answering made request answer cause new = record { out = record (says_all request.source answer) { made = made_for request made }; outcome = Came_to (Answered cause); node = holding request answer new }
+answering made request answer cause new = record {
+  out = record (says_all request.source answer) { made = made_for request made };
+  outcome = Came_to (Answered cause);
+  node = holding request answer new;
+}

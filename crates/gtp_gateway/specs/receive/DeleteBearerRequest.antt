@@ -141,4 +141,5 @@ EndsNamed source octets r identities old step new =
 
 -- a Delete Bearer Request was taken, with the identities in the list of its message
 abbrev pub TakesDeleteBearerRequest : Endpoint → List ℕ → MessageValue → DeleteRequest → GatewayState → ControlStep → GatewayState → Type 0
-TakesDeleteBearerRequest source octets m r old step new = IsRow (DeleteBearerAsked (arrival_of source octets) (delete_bearer_by r (identities_of m))) (arrival_of source octets) old.role old.node step new
+TakesDeleteBearerRequest source octets m r old step new =
+    IsRow (DeleteBearerAsked (arrival_of source octets) (delete_bearer_by r (identities_of m))) (arrival_of source octets) old.role old.node step new

@@ -65,7 +65,8 @@ IsSecondTaken source octets r settled step new = (q : messages.CreateBearerReque
 
 -- the second message is always answered by a gateway that has applied the first
 abbrev pub SecondMayRunOut : Endpoint → List ℕ → BearerRequest → GatewayState → Type 0
-SecondMayRunOut source octets r settled = (q : messages.CreateBearerRequest) → SaysCreateBearer r q → StepSendsOrOpens (arrival_of source octets) (Control_message (Create_bearer_request q)) settled
+SecondMayRunOut source octets r settled =
+    (q : messages.CreateBearerRequest) → SaysCreateBearer r q → StepSendsOrOpens (arrival_of source octets) (Control_message (Create_bearer_request q)) settled
 
 -- where no memory could be had, the response opens a session or the second message is answered
 abbrev pub EitherMayRunOut : ResponseVerdict → Endpoint → List ℕ → BearerRequest → GatewayState → Type 0
