@@ -6,7 +6,7 @@ use Rattle.gtp_values.proofs.Outcomes.{none_some}
 use Rattle.gtp_machine.specs.Input.{Command, Commanded, Create_session, refused}
 use Rattle.gtp_machine.specs.Step.{Step as MachineStep}
 use Rattle.gtp_gateway.specs.command.CreateSession.{specification}
-use Rattle.gtp_gateway.specs.command.Command.{IsCarriedOut, IsRefusedWhere}
+use Rattle.gtp_gateway.specs.command.Command.{IsCarriedOut, IsRefusedWhere, IsTimed}
 use Rattle.gtp_gateway.specs.GatewayState.{GatewayState}
 use Rattle.gtp_gateway.specs.declared.command.create_session.SessionSpec.{SessionSpec}
 use Rattle.gtp_gateway.specs.declared.fault.CommandFault.{CommandFault}
@@ -17,7 +17,7 @@ use Rattle.gtp_c.specs.Commands.{IsCommanded, IsSettled}
 use Rattle.gtp_c.specs.Common.{IsOneOf}
 use Rattle.gtp_c.specs.Sessions.{IsSpecified, IsGoodSession, IsSessionAsked}
 use Rattle.gtp_c.specs.Statuses.{HasStatus, command_statuses, IsFull, LacksRoom, CommandMayRunOut}
-use Rattle.gtp_c.specs.Steps.{Keeps, HasBegun, IsRefused, IsTimed, IsUntold, begun_number}
+use Rattle.gtp_c.specs.Steps.{Keeps, HasBegun, IsRefused, IsUntold, begun_number}
 use Rattle.gtp_c.specs.Told.{begun_told}
 use Rattle.gtp_c.specs.declared.desk.Desk.{Desk}
 use Rattle.gtp_c.specs.declared.session.Session.{Session}

@@ -6,7 +6,7 @@ use Rattle.gtp_machine.specs.Input.{Command, Mark_end, Send_user, Commanded, ref
 use Rattle.gtp_machine.specs.Message.{Plane, Control, User}
 use Rattle.gtp_machine.specs.Step.{Step as MachineStep}
 use Rattle.gtp_machine.specs.declared.outcome.Refusal.{Refusal}
-use Rattle.gtp_gateway.specs.command.Command.{IsCarriedOut, SendsRequestNext}
+use Rattle.gtp_gateway.specs.command.Command.{IsCarriedOut, IsTimed}
 use Rattle.gtp_gateway.specs.receive.Choosing.{ChoosesLowest}
 use Rattle.gtp_gateway.specs.receive.Received.{IsReceived, QueuesAfterReceive}
 use Rattle.gtp_gateway.specs.GatewayState.{GatewayState}
@@ -64,12 +64,6 @@ abbrev pub begun_number : Command → ℕ
 begun_number (Mark_end bearer) = 2
 begun_number (Send_user bearer payload) = 2
 begun_number command = 1
-
--- what ticks go by, after a command: its request waits from now on, and a packet or an End Marker changes nothing
-abbrev pub IsTimed : Command → GatewayState → Begun → GatewayState → Type 0
-IsTimed (Mark_end bearer) old begun new = new.queues ≡ old.queues
-IsTimed (Send_user bearer payload) old begun new = new.queues ≡ old.queues
-IsTimed command old begun new = SendsRequestNext old begun new
 
 -- a packet or an End Marker is sent for no context of its own, so there is no TEID of one
 abbrev pub IsUntold : Command → Begun → Type 0

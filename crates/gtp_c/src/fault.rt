@@ -79,7 +79,7 @@ impl Fault {
         let mut told = Fault::numbered(fault.number());
         match fault {
             V2Fault::Short { held } => told.held = held as u64,
-            V2Fault::Version(version) => told.version = version,
+            V2Fault::Version { version } => told.version = version,
             V2Fault::Length { stated, held } => {
                 told.stated = stated as u64;
                 told.held = held as u64;

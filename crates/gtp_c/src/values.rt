@@ -199,7 +199,7 @@ impl Tunnel {
         };
         Tunnel {
             teid: end.teid().0,
-            interface: end.interface(),
+            interface: end.interface().number(),
             has_v4,
             has_v6,
             v4,

@@ -9,10 +9,7 @@ use crate::control::Head;
 use crate::status::{BAD_VALUE, DONE, TOO_SMALL};
 use gtp_user::flags::GTP;
 use gtp_user::kinds::G_PDU;
-use gtp_v2::flags::{MESSAGE_PRIORITY, TEID, VERSION_2};
-
-/// The first octet of a message with a TEID.
-const WITH_TEID: u8 = VERSION_2 | 1 << TEID;
+use gtp_v2::flags::{MESSAGE_PRIORITY, VERSION_2, WITH_TEID};
 
 /// The most octets that two octets can state.
 const LONGEST: usize = 65_535;

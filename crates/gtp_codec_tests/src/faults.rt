@@ -116,7 +116,7 @@ fn faults_of_messages_in_words(rt: HostRuntime) -> Result<(), Fail> {
         rt.alloc(),
         &[
             (V2Fault::Short { held: 3 }, "only 3 octets"),
-            (V2Fault::Version(1), "version 1"),
+            (V2Fault::Version { version: 1 }, "version 1"),
             (
                 V2Fault::BadPiggyback { at: 13 },
                 "the message at 13 is missing, or announces a third",

@@ -27,6 +27,7 @@ use Rattle.gtp_gateway.specs.messages.Spelled.{IsAsked, AreAsked}
 use Rattle.gtp_gateway.specs.GatewayState.{GatewayState}
 use Rattle.gtp_gateway.specs.Tick.{GivesUpOne, GivesUpEach}
 use Rattle.gtp_gateway.specs.user.Receive.{RequestsWaitOn}
+use Rattle.gtp_gateway.proofs.UserRows.{all_wait}
 
 -- ---- the moves
 
@@ -181,3 +182,6 @@ wait_on a b c first second =
       queues = second.queues ∙ ((λ i. record (first.queues i) { waiting = filter second.stays (first.queues i).waiting }) ∙ (λ i. record a.queues { waiting = filter_twice second.stays first.stays a.queues.waiting i }));
       pending = second.pending;
     }
+
+-- which requests wait on, where only some are given up
+pub ruleset waiting = (all_wait, wait_on)

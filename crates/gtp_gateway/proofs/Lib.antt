@@ -15,7 +15,6 @@ pub mod Rules
 pub mod Commands
 pub mod RequestsToSend
 pub mod Teids
-pub mod Listed
 pub mod DedicatedBearers
 pub mod CreateBearerRequests
 pub mod DeleteBearerRequests

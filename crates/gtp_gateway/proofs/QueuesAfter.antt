@@ -71,3 +71,6 @@ module _ (source : Endpoint) (octets : List ℕ) where
         queues = gives ∙ (λ i. record (begins i) { held = after_held source octets answer (begins i).held }) ∙ (λ i. record (after_begun number purpose to kept (first.queues i)) { held = after_held source octets answer (first.queues i).held });
         tied = tied;
       }
+
+-- what is found of the queues after a datagram, where no request is begun
+pub ruleset queues_after = (tied_of, on_goes, same_goes, given_goes, answered_goes)

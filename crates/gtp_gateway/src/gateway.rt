@@ -10,13 +10,12 @@ ghost use Rattle.gtp_gateway.specs.Tick.{IsIdle, ForgetsNone, IsTicked, QueuesAf
 ghost use Rattle.gtp_gateway.specs.receive.Received.{IsReceived, QueuesAfterReceive, MayRunOut};
 
 use crate::config::Config;
-use crate::listing::{BearerList, SessionList};
 use crate::parts::Parts;
 use crate::step::Step;
 use crate::tick::Ticked;
 use gtp_machine::{Plane, Role};
 use gtp_reliable::Request;
-use gtp_tables::{Bearer, Session};
+use gtp_tables::{Bearer, BearerList, Session, SessionList};
 use gtp_values::{Counter, Endpoint, Memory, Teid};
 use std::alloc::Global;
 use std::marker::Model;
@@ -96,14 +95,14 @@ impl Gateway {
         // What holds of a gateway at all times.
         ensures always { NodeMatchesQueues self.now }
     {
-        SessionList::of(&self.parts.sessions)
+        self.parts.sessions.iter()
     }
 
     /// The bearers, in order of the gateway's own TEIDs. Allocates nothing.
     pub fn bearers(&self) -> BearerList<'_>
         ensures { result ≡ map.entries self.now.node.bearers }
     {
-        BearerList::of(&self.parts.bearers)
+        self.parts.bearers.iter()
     }
 
     /// The session at a place in order of the gateway's own TEIDs, from 0; none behind the last. Takes the same time at

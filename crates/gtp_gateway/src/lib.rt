@@ -6,7 +6,6 @@ mod config;
 mod fault;
 mod gateway;
 pub mod laws;
-mod listing;
 mod messages;
 mod parts;
 mod receive;
@@ -20,7 +19,6 @@ pub use command::create_session::SessionSpec;
 pub use config::{Addresses, Config, Timers};
 pub use fault::CommandFault;
 pub use gateway::Gateway;
-pub use listing::{BearerList, SessionList};
 pub use receive::second_at;
 pub use sent::{Begun, Sent};
 pub use step::{Accepted, Report, Step};
@@ -29,7 +27,9 @@ pub use tick::Ticked;
 /// What the signatures and contracts here name of the crates below.
 pub use gtp_machine::{DropReason, FaultName, Outcome, Plane, Refusal, Role};
 pub use gtp_reliable::Request;
-pub use gtp_tables::{Bearer, Kind, Pool, Pools, Prefixes, Session, State, Subscriber};
+pub use gtp_tables::{
+    Bearer, BearerList, Kind, Pool, Pools, Prefixes, Session, SessionList, State, Subscriber,
+};
 pub use gtp_v2::{PdnType, Rat, Selection};
 pub use gtp_values::{
     Addr, Ambr, Apn, Counter, Ebi, Endpoint, Ip, Memory, Plmn, Qos, Seq, Teid, Tft, ValueFault,

@@ -128,7 +128,7 @@ impl Parts {
 
     /// Takes a datagram of the control plane. Of two messages the pair that the gateway takes is done
     /// message by message, and any other is dropped as one, before a restart counter is heard.
-    #[tactic(auto, using(crate::proofs::QueuesAfter::tied_of, crate::proofs::QueuesAfter::on_goes, crate::proofs::QueuesAfter::same_goes, crate::proofs::QueuesAfter::given_goes, crate::proofs::QueuesAfter::answered_goes))]
+    #[tactic(auto, using(crate::proofs::QueuesAfter::queues_after))]
     pub fn receive_control(
         &mut self,
         alloc: Global,

@@ -304,7 +304,7 @@ fn code(fault: &V2Fault) -> &'static str
 {
     match fault {
         V2Fault::Short { .. } => "H1",
-        V2Fault::Version(_) => "H2",
+        V2Fault::Version { .. } => "H2",
         V2Fault::Length { .. } => "H3",
         V2Fault::FlagT { .. } => "H4",
         V2Fault::BadPiggyback { .. } => "H5",
@@ -322,7 +322,7 @@ fn put_fault_detail(out: &mut Output, fault: &V2Fault) -> Result<(), AllocError>
 {
     match fault {
         V2Fault::Short { held } => out.number_member("held", *held as u64),
-        V2Fault::Version(version) => out.number_member("version", u64::from(*version)),
+        V2Fault::Version { version } => out.number_member("version", u64::from(*version)),
         V2Fault::Length { stated, held } => {
             out.number_member("stated", *stated as u64)?;
             out.number_member("held", *held as u64)

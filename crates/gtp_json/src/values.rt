@@ -271,7 +271,7 @@ impl Write for FTeid {
     #[tactic(auto, unfolding(crate::specs::Values::value_json), using(crate::proofs::Tokens::nesting))]
     fn write_json(&self, out: &mut Output) -> Result<(), AllocError> {
         out.begin_object()?;
-        out.number_member("interface", u64::from(self.interface()))?;
+        out.number_member("interface", u64::from(self.interface().number()))?;
         out.display_member("teid", &self.teid())?;
         put_some_v4(out, &self.v4())?;
         put_some_v6(out, &self.v6())?;

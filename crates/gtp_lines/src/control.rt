@@ -199,7 +199,7 @@ fn put_fault_detail(out: &mut Vec<u8>, fault: &V2Fault) -> Result<(), AllocError
 {
     match fault {
         V2Fault::Short { held } => put_field(out, b" held ", *held as u64),
-        V2Fault::Version(version) => put_field(out, b" version ", u64::from(*version)),
+        V2Fault::Version { version } => put_field(out, b" version ", u64::from(*version)),
         V2Fault::Length { stated, held } => {
             put_field(out, b" stated ", *stated as u64)?;
             put_field(out, b" held ", *held as u64)

@@ -226,7 +226,7 @@ fn put_some_v6(out: &mut Vec<u8>, address: &Option<[u8; 16]>) -> Result<(), Allo
 impl Show for FTeid {
     #[tactic(auto, unfolding(crate::specs::Values::shown), using(crate::proofs::Appends::appending))]
     fn show(&self, out: &mut Vec<u8>) -> Result<(), AllocError> {
-        put_number(out, u64::from(self.interface()))?;
+        put_number(out, u64::from(self.interface().number()))?;
         put(out, b" ")?;
         put_teid(out, self.teid())?;
         put_some_v4(out, &self.v4())?;

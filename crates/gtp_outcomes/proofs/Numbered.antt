@@ -5,7 +5,7 @@ use Rattle.std.proofs.lemmas.Bool.{cases_lt}
 use Rattle.std.proofs.lemmas.List.{drop_all, take_all, length-map}
 use Rattle.std.proofs.lemmas.List.FromFn.{length-enumerate_from}
 use Rattle.std.proofs.lemmas.Option.{slice_get-get_or}
-use Rattle.gtp_gateway.proofs.Listed.{drop_at}
+use Rattle.gtp_tables.proofs.Listed.{drop_at}
 
 -- the first of them are numbered as before
 numbered_front : {X Y : Type 0} (f : X → Y) (first count : ℕ) (xs : List X) → enumerate_from first (map f (take count xs)) ≡ take count (enumerate_from first (map f xs))

@@ -20,7 +20,8 @@ use gtp_world::{Datagram, Event, Note, World};
 use std::alloc::{AllocError, Global};
 
 /// How lines and texts look, the two ends of arrows, and the names of both gateways.
-const STYLE: &[u8] = b"<style>path{stroke:#333;fill:none}.user path{stroke:#06c;stroke-dasharray:6 3}\
+const STYLE: &[u8] =
+    b"<style>path{stroke:#333;fill:none}.user path{stroke:#06c;stroke-dasharray:6 3}\
     .again path{stroke:#999}.lost path,.cut path{stroke:#b00}.life{stroke:#bbb}\
     .label{text-anchor:middle}.place,.end{text-anchor:end}.place,.tick text{fill:#777}\
     .tick rect{fill:#bbb}.restart rect,.refused{fill:#b00}</style>\n\

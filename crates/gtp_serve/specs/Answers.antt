@@ -5,7 +5,7 @@ use Rattle.gtp_json.specs.Tree.{line_of}
 use Rattle.gtp_machine.specs.Input.{Command, Commanded, refused}
 use Rattle.gtp_machine.specs.Step.{Step as MachineStep}
 use Rattle.gtp_machine.specs.declared.outcome.Refusal.{Refusal}
-use Rattle.gtp_gateway.specs.command.Command.{IsCarriedOut}
+use Rattle.gtp_gateway.specs.command.Command.{IsCarriedOut, IsTimed}
 use Rattle.gtp_gateway.specs.receive.Choosing.{ChoosesLowest}
 use Rattle.gtp_gateway.specs.receive.Received.{IsReceived, QueuesAfterReceive}
 use Rattle.gtp_gateway.specs.GatewayState.{GatewayState}
@@ -15,7 +15,6 @@ use Rattle.gtp_gateway.specs.declared.step.Step.{Step}
 use Rattle.gtp_gateway.specs.declared.tick.Ticked.{Ticked}
 use Rattle.gtp_values.specs.declared.address.Endpoint.{Endpoint}
 use Rattle.gtp_values.specs.declared.plane.Plane.{Plane}
-use Rattle.gtp_world.specs.Commands.{IsTimed}
 use Rattle.gtp_serve.specs.Requests.{Request, Commands, Receives, Ticks, Lists, request_in}
 use Rattle.gtp_serve.specs.Replies.{of_begun, of_refusal, of_step, of_tick, reply_json, word_json, contexts_json}
 

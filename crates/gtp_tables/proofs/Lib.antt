@@ -11,3 +11,4 @@ pub mod Undrawn
 pub mod Lowest
 pub mod Places
 pub mod Windows
+pub mod Listed

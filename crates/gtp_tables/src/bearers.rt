@@ -19,6 +19,7 @@ use crate::fault::TablesFault;
 use crate::index::{
     first_named, keep_named, keep_noted, name_if, next_named, noted_for, unname_if,
 };
+use crate::listing::BearerList;
 use crate::table::Table;
 use gtp_values::{Ebi, Teid};
 use indexmap::IndexMap;
@@ -120,6 +121,13 @@ impl Bearers {
         ensures { result ≡ slice_get (map.entries self.now) index }
     {
         self.table.at(index)
+    }
+
+    /// All bearers, in order of the TEIDs. Takes no memory.
+    pub fn iter(&self) -> BearerList<'_>
+        ensures { result ≡ map.entries self.now }
+    {
+        self.table.iter()
     }
 
     /// The bearer that has this remote TEID: of several the one under the lowest TEID.

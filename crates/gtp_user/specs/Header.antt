@@ -37,4 +37,4 @@ HeaderFails octets f =
     ⊎ (((flags : ℕ) × (flags < 16) × (first ≡ version_1 + flags) × (f ≡ faults.Protocol))
     ⊎ (((flags : ℕ) × (flags < 16) × (first ≡ version_1 + protocol_type + flags) × (256 * high + low ≢ length tail) × (f ≡ faults.Length (256 * high + low) (length tail)))
     ⊎ ((flags : ℕ) × (flags < 16) × (first ≡ version_1 + protocol_type + flags) × (0 < flags % 8)
-        × (256 * high + low ≡ length tail) × (length tail < 4) × (f ≡ faults.Short (8 + length tail)))))))
+    × (256 * high + low ≡ length tail) × (length tail < 4) × (f ≡ faults.Short (8 + length tail)))))))

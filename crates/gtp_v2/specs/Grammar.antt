@@ -133,7 +133,7 @@ LineIs state (Single row) es field = (values : List Value) × RowIs state.accept
 LineIs state (Grouped row rows) es field =
     (groups : List (List (List Value)))
     × SomeGroups (need_of state.accepting row) (kind_of row) (instance_of row) state.accepting rows
-        (all_of (kind_of row) (instance_of row) es) groups
+    (all_of (kind_of row) (instance_of row) es) groups
     × (field ≡ Groups groups)
 LineIs state (Several kind instance missed) es field = (values : List Value) × SeveralAre state.silent kind instance es values × (field ≡ Plain values)
 

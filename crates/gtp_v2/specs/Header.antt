@@ -43,6 +43,6 @@ HeaderFails octets f =
     ⊎ (((flags : ℕ) × (flags < 16) × (first ≡ version_2 + piggybacking + flags) × (f ≡ faults.BadPiggyback 0))
     ⊎ (((flags : ℕ) × (flags < 16) × (first ≡ version_2 + flags) × (256 * high + low ≢ length following) × (f ≡ faults.Length (256 * high + low) (length following)))
     ⊎ (((flags : ℕ) × (flags < 8) × (first ≡ version_2 + flags) × (256 * high + low ≡ length following) × (length following < 4)
-        × (f ≡ faults.Short (4 + length following)))
+    × (f ≡ faults.Short (4 + length following)))
     ⊎ ((flags : ℕ) × (flags < 8) × (first ≡ version_2 + with_teid + flags) × (256 * high + low ≡ length following)
-        × (length following < 8) × (f ≡ faults.Short (4 + length following))))))))
+    × (length following < 8) × (f ≡ faults.Short (4 + length following))))))))

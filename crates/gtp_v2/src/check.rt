@@ -160,7 +160,7 @@ fn check_rows(accepting: bool, rows: &[Row], elements: &Indexed) -> Result<bool,
     let mut so_far = accepting;
     for row in rows {
         let now = check_row(so_far, *row, elements)?;
-        so_far = so_far & now.accepting;
+        so_far &= now.accepting;
     }
     Ok(so_far)
 }
@@ -272,7 +272,7 @@ fn check_several(
     ensures { Gives (λ s. s) result (several_say needed kind instance missed elements.now) }
 {
     let said = check_values(kind, instance, elements)?;
-    if needed & said.silent {
+    if needed && said.silent {
         return Err(RowFault::Missing {
             kind,
             instance: missed,

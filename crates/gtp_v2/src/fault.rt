@@ -72,8 +72,10 @@ pub enum V2Fault {
         held: usize,
     },
     /// H2: the version, which is told, is not 2.
-    #[error("version {0}")]
-    Version(u8),
+    #[error("version {version}")]
+    Version {
+        version: u8,
+    },
     /// H5: the flag P announces a second message, and none follows, or P is set in the second. `at` is the
     /// place of the second message's first octet.
     #[error("the message at {at} is missing, or announces a third")]
@@ -127,7 +129,7 @@ impl V2Fault {
     {
         match self {
             V2Fault::Short { .. } => 1,
-            V2Fault::Version(_) => 2,
+            V2Fault::Version { .. } => 2,
             V2Fault::Length { .. } => 3,
             V2Fault::FlagT { .. } => 4,
             V2Fault::BadPiggyback { .. } => 5,

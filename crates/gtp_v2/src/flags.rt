@@ -14,6 +14,9 @@ pub const TEID: u8 = 3;
 /// The place of the flag MP: the header has a message priority.
 pub const MESSAGE_PRIORITY: u8 = 2;
 
+/// Version 2 and the flag T: the first octet of a message with a TEID.
+pub const WITH_TEID: u8 = VERSION_2 | 1 << TEID;
+
 /// Whether it is of version 2 and announces another message.
 #[inline(always)]
 pub fn announces_another(first: u8) -> bool

@@ -14,7 +14,7 @@ use std::marker::Model;
 /// least one address (TS 29.274 8.22). Contracts see it as a `TunnelEnd`.
 #[derive(Clone, Copy, Debug, PartialEq, Eq)]
 pub struct FTeid {
-    interface: u8,
+    interface: Below<64>,
     teid: Teid,
     v4: Option<[u8; 4]>,
     v6: Option<[u8; 16]>,
@@ -64,7 +64,7 @@ impl FTeid {
         ensures { result ≡ record { interface = interface; teid = teid; v4 = v4; v6 = v6 } }
     {
         FTeid {
-            interface: interface.number(),
+            interface,
             teid,
             v4,
             v6,
@@ -84,8 +84,8 @@ impl FTeid {
         FTeid::of(interface, teid, v4, v6)
     }
 
-    /// The interface type, below 64.
-    pub fn interface(&self) -> u8
+    /// The interface type (table 8.22-1).
+    pub fn interface(&self) -> Below<64>
         ensures value { result ≡ self.now.interface }
         ensures range { IsTunnelEnd self.now }
     {

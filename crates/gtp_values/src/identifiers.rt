@@ -17,13 +17,11 @@ use std::str::FromStr;
 pub struct Teid(pub u32);
 
 impl Model for Teid {
-    ghost use Rattle.std.specs.Prelude.{ℕ, ◌<◌, ◌^◌};
+    ghost use Rattle.std.specs.Prelude.{ℕ};
 
     ghost Value = { ℕ };
 
     ghost view = { λ a. a.0 };
-
-    ghost invariant = { λ a. a.0 < 2 ^ 32 };
 
     ghost inverse = { λ n. record { 0 = n } };
 }

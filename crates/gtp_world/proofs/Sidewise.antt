@@ -12,6 +12,7 @@ use Rattle.gtp_machine.specs.World.{EventOutcome, Ticked, signed}
 use Rattle.gtp_gateway.specs.GatewayState.{GatewayState}
 use Rattle.gtp_gateway.specs.messages.Sent.{datagram_by}
 use Rattle.gtp_gateway.specs.declared.tick.Ticked.{Ticked as Tick}
+use Rattle.gtp_world.specs.Gateways.{side_of, with_side}
 use Rattle.gtp_world.specs.Record.{GatewayRecord, Log, WorldRecord, gateway_in, with_gateway, counted, gateway_record_of, log_of, world_record_of}
 use Rattle.gtp_world.specs.Recorded.{log_of_came, log_of_tick}
 use Rattle.gtp_world.specs.Sides.{IsInput, AreInputs, IsBrought, IsTick}
@@ -116,30 +117,34 @@ ticks_by v role ticked half log new t is becomes =
       becomes = becomes ∙ (λ i. record (with_gateway v role (t.becomes i)) { log = logs i });
     }
 
--- One gateway of both took what came to it, and stands as this; the other is as before, and there is room in the log.
-pub record IsAt (old : Sides) (role : Role) (before after : GatewayRecord) (mid : Sides) : Type 0 where
-  pub was : before ≡ gateway_in (world_record_of old) role
-  pub sides : (settled : Records) → world_record_of (record mid { records = settled }) ≡ record (with_gateway (world_record_of old) role after) { log = log_of settled }
-  pub log : log_of mid.records ≡ log_of old.records
+-- the gateway of a role, as it was
+pub was_at : (old : Sides) (role : Role) (before : Side) → before ≡ side_of role old.gateways → gateway_record_of before ≡ gateway_in (world_record_of old) role
+was_at old Serving before is = ap gateway_record_of is
+was_at old Packet before is = ap gateway_record_of is
 
-pub at_serving : (old mid : Sides) (role : Role) (side : Side) (room : Records) → role ≡ Serving → mid ≡ record { serving = side; packet = old.packet; records = room } → log_of room ≡ log_of old.records → IsAt old role (gateway_record_of old.serving) (gateway_record_of side) mid
-at_serving old mid role side room is stands same =
-    subst (λ r. IsAt old r (gateway_record_of old.serving) (gateway_record_of side) mid) (sym is)
-    (record { was = refl; sides = λ settled. ap (λ (m : Sides). world_record_of (record m { records = settled })) stands; log = ap (λ (m : Sides). log_of m.records) stands ∙ same })
+-- it stands as this, the other is as before, and the log is another
+stands_at : (old : Sides) (role : Role) (side : Side) (settled : Records) → world_record_of (record { gateways = with_side role old.gateways side; records = settled }) ≡ record (with_gateway (world_record_of old) role (gateway_record_of side)) { log = log_of settled }
+stands_at old Serving side settled = refl
+stands_at old Packet side settled = refl
 
-pub at_packet : (old mid : Sides) (role : Role) (side : Side) (room : Records) → role ≡ Packet → mid ≡ record { serving = old.serving; packet = side; records = room } → log_of room ≡ log_of old.records → IsAt old role (gateway_record_of old.packet) (gateway_record_of side) mid
-at_packet old mid role side room is stands same =
-    subst (λ r. IsAt old r (gateway_record_of old.packet) (gateway_record_of side) mid) (sym is)
-    (record { was = refl; sides = λ settled. ap (λ (m : Sides). world_record_of (record m { records = settled })) stands; log = ap (λ (m : Sides). log_of m.records) stands ∙ same })
+-- One gateway of both took what came to it, and stands as another; there is room in the log.
+module _ (old : Sides) (role : Role) (before after : Side) (is : before ≡ side_of role old.gateways) (room settled : Records) (same : log_of room ≡ log_of old.records) where
+  abbrev later : Sides
+  later = record { gateways = with_side role old.gateways after; records = settled }
 
-pub takes_at : (old mid : Sides) (role : Role) (input : Input) (Timed : List Datagram → EventOutcome → GatewayState → GatewayState → Type 0) (before after : GatewayRecord) (came : Came) (settled : Records) (late : Bool) → IsAt old role before after mid → IsInput role input Timed before came after → log_of settled ≡ log_of_came (log_of mid.records) role came late → StepsOn (world_record_of old) role input Timed late (world_record_of (record mid { records = settled }))
-takes_at old mid role input Timed before after came settled late at t logs =
-    takes_by (world_record_of old) role input Timed came after (log_of settled) late _ (subst (λ h. IsInput role input Timed h came after) at.was t) (logs ∙ ap (λ l. log_of_came l role came late) at.log) (at.sides settled)
+  pub takes_at : (input : Input) (Timed : List Datagram → EventOutcome → GatewayState → GatewayState → Type 0) (came : Came) (late : Bool) → IsInput role input Timed (gateway_record_of before) came (gateway_record_of after) → log_of settled ≡ log_of_came (log_of room) role came late → StepsOn (world_record_of old) role input Timed late (world_record_of later)
+  takes_at input Timed came late t logs =
+      takes_by (world_record_of old) role input Timed came (gateway_record_of after) (log_of settled) late _ (subst (λ h. IsInput role input Timed h came (gateway_record_of after)) (was_at old role before is) t) (logs ∙ ap (λ l. log_of_came l role came late) same) (stands_at old role after settled)
 
-pub brought_at : (old mid : Sides) (role : Role) (plane : Plane) (source : Endpoint) (octets : List ℕ) (before after : GatewayRecord) (came : Came) (settled : Records) (late : Bool) → IsAt old role before after mid → IsBrought role plane source octets before came after → log_of settled ≡ log_of_came (log_of mid.records) role came late → TakesOn (world_record_of old) role plane source octets late (world_record_of (record mid { records = settled }))
-brought_at old mid role plane source octets before after came settled late at t logs =
-    brought_by (world_record_of old) role plane source octets came after (log_of settled) late _ (subst (λ h. IsBrought role plane source octets h came after) at.was t) (logs ∙ ap (λ l. log_of_came l role came late) at.log) (at.sides settled)
+  pub brought_at : (plane : Plane) (source : Endpoint) (octets : List ℕ) (came : Came) (late : Bool) → IsBrought role plane source octets (gateway_record_of before) came (gateway_record_of after) → log_of settled ≡ log_of_came (log_of room) role came late → TakesOn (world_record_of old) role plane source octets late (world_record_of later)
+  brought_at plane source octets came late t logs =
+      brought_by (world_record_of old) role plane source octets came (gateway_record_of after) (log_of settled) late _ (subst (λ h. IsBrought role plane source octets h came (gateway_record_of after)) (was_at old role before is) t) (logs ∙ ap (λ l. log_of_came l role came late) same) (stands_at old role after settled)
 
-pub ticks_at : (old mid : Sides) (role : Role) (before after : GatewayRecord) (ticked : Tick) (settled : Records) → IsAt old role before after mid → IsTick before ticked after → log_of settled ≡ log_of_tick (log_of mid.records) role ticked → TicksBy (world_record_of old) role (world_record_of (record mid { records = settled }))
-ticks_at old mid role before after ticked settled at t logs =
-    ticks_by (world_record_of old) role ticked after (log_of settled) _ (subst (λ h. IsTick h ticked after) at.was t) (logs ∙ ap (λ l. log_of_tick l role ticked) at.log) (at.sides settled)
+  pub ticks_at : (ticked : Tick) → IsTick (gateway_record_of before) ticked (gateway_record_of after) → log_of settled ≡ log_of_tick (log_of room) role ticked → TicksBy (world_record_of old) role (world_record_of later)
+  ticks_at ticked t logs =
+      ticks_by (world_record_of old) role ticked (gateway_record_of after) (log_of settled) _ (subst (λ h. IsTick h ticked (gateway_record_of after)) (was_at old role before is) t) (logs ∙ ap (λ l. log_of_tick l role ticked) same) (stands_at old role after settled)
+
+-- a gateway that is as it was leaves all as it was
+pub unchanged_at : (old : Sides) (role : Role) (before after : Side) (room : Records) → before ≡ side_of role old.gateways → gateway_record_of after ≡ gateway_record_of before → log_of room ≡ log_of old.records → world_record_of (record { gateways = with_side role old.gateways after; records = room }) ≡ world_record_of old
+unchanged_at old Serving before after room is same log = let stays = same ∙ ap gateway_record_of is in λ i. record (world_record_of old) { serving = stays i; log = log i }
+unchanged_at old Packet before after room is same log = let stays = same ∙ ap gateway_record_of is in λ i. record (world_record_of old) { packet = stays i; log = log i }

@@ -14,7 +14,7 @@ use Rattle.gtp_machine.specs.World.{By, EventOutcome, Came_to, signed, outcome_i
 use Rattle.gtp_machine.specs.declared.outcome.Outcome.{Outcome}
 use Rattle.gtp_machine.specs.declared.outcome.Outcome.TheVariants.{Begun as Asked, Refused, GoneOut}
 use Rattle.gtp_machine.specs.declared.outcome.Refusal.{Refusal}
-use Rattle.gtp_gateway.specs.command.Command.{IsCarriedOut, SendsRequestNext, outcome_by}
+use Rattle.gtp_gateway.specs.command.Command.{IsCarriedOut, SendsRequestNext, IsTimed, outcome_by}
 use Rattle.gtp_gateway.specs.receive.Choosing.{ChoosesLowest}
 use Rattle.gtp_gateway.specs.receive.Queues.{QueuesAfterMessage}
 use Rattle.gtp_gateway.specs.receive.TwoMessages.{second_part}
@@ -28,7 +28,6 @@ use Rattle.gtp_gateway.specs.declared.sent.Begun.{Begun}
 use Rattle.gtp_gateway.specs.declared.step.Step.{Step}
 use Rattle.gtp_gateway.specs.user.Accepted.{Accepted}
 use Rattle.gtp_gateway.proofs.SentBack.{none_sent}
-use Rattle.gtp_world.specs.Commands.{IsTimed}
 use Rattle.gtp_world.specs.Record.{oldest_first, GatewayRecord}
 use Rattle.gtp_world.specs.Last.{last_octets}
 use Rattle.gtp_world.specs.Sides.{entries, IsHanded, IsAccepted, IsInput, AreInputs, IsBrought}

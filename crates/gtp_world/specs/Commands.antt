@@ -1,13 +1,10 @@
 -- Events that are commands, as the machine's.
-use Rattle.std.specs.Prelude.{◌≡◌, Bool, Option, Some, None, is_some}
+use Rattle.std.specs.Prelude.{Bool, Option, Some, None, is_some}
 use Rattle.gtp_machine.specs.declared.role.Role.{Role}
 use Rattle.gtp_machine.specs.declared.role.Role.TheVariants.{Serving, Packet}
 use Rattle.gtp_machine.specs.Input as machine
 use Rattle.gtp_machine.specs.Input.{Create_session, Delete_session, Create_bearer, Delete_bearer, Release_session, Mark_end, Send_echo, Send_user}
-use Rattle.gtp_gateway.specs.command.Command.{SendsRequestNext}
 use Rattle.gtp_gateway.specs.command.CreateSession.{specification}
-use Rattle.gtp_gateway.specs.GatewayState.{GatewayState}
-use Rattle.gtp_gateway.specs.declared.sent.Begun.{Begun}
 use Rattle.gtp_world.specs.declared.event.Event.{Event}
 use Rattle.gtp_world.specs.declared.event.Event.TheVariants.{CreateSession, DeleteSession, CreateBearer, DeleteBearer, ReleaseSession, EndMarker, Echo, SendUser}
 
@@ -37,9 +34,3 @@ command_of (ReleaseSession session) = Release_session session
 command_of (EndMarker bearer) = Mark_end bearer
 command_of (SendUser node bearer payload) = Send_user bearer payload.items
 command_of _ = Send_echo
-
--- what ticks go by, after a command that was carried out: a request waits from now on; a packet or an End Marker changes nothing
-abbrev pub IsTimed : machine.Command → GatewayState → Begun → GatewayState → Type 0
-IsTimed (Mark_end bearer) old begun new = new.queues ≡ old.queues
-IsTimed (Send_user bearer payload) old begun new = new.queues ≡ old.queues
-IsTimed command old begun new = SendsRequestNext old begun new

@@ -1,4 +1,5 @@
 pub mod Indexes
+pub mod Gateways
 pub mod Record
 pub mod Last
 pub mod Stepped

@@ -76,7 +76,15 @@ with_gateway v Packet half = record v { packet = half }
 -- the same of what the program keeps
 
 abbrev pub gateway_record_of : Side → GatewayRecord
-gateway_record_of s = record { settings = s.config; state = s.gateway; first = s.first.0; restarts = s.restarts; seen = map (λ c. c.0) s.seen.items; forgotten = s.forgotten.list; made = arrivals_of s.made.items }
+gateway_record_of s = record {
+  settings = s.config;
+  state = s.gateway;
+  first = s.first.0;
+  restarts = s.restarts;
+  seen = map (λ c. c.0) s.seen.items;
+  forgotten = s.forgotten.list;
+  made = arrivals_of s.made.items;
+}
 
 abbrev pub outcome_of : Outcome → EventOutcome
 outcome_of (outcomes.CameTo outcome) = Came_to outcome
@@ -105,4 +113,4 @@ abbrev pub log_of : Records → Log
 log_of r = record { datagrams = map sent_by r.datagrams.items; handed = r.handed.list; accepted = map entry_by r.accepted.items; late = late_among r.notes.items; notes = map told_by r.notes.items }
 
 abbrev pub world_record_of : Sides → WorldRecord
-world_record_of w = record { serving = gateway_record_of w.serving; packet = gateway_record_of w.packet; log = log_of w.records }
+world_record_of w = record { serving = gateway_record_of w.gateways.serving; packet = gateway_record_of w.gateways.packet; log = log_of w.records }

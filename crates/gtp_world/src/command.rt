@@ -1,8 +1,8 @@
 //! Commands of a world.
 
 ghost use Rattle.std.specs.Prelude.{◌≡◌, true, option_map, IfOk, OnErr};
-ghost use Rattle.gtp_gateway.specs.command.Command.{IsCarriedOut, IsRefusedWhere, outcome_by};
-ghost use Rattle.gtp_world.specs.Commands.{command_of, is_command, IsTimed};
+ghost use Rattle.gtp_gateway.specs.command.Command.{IsCarriedOut, IsRefusedWhere, IsTimed, outcome_by};
+ghost use Rattle.gtp_world.specs.Commands.{command_of, is_command};
 
 use crate::event::Event;
 use gtp_gateway::{Begun, CommandFault, Gateway, Outcome, Teid};

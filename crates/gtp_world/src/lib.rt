@@ -5,6 +5,7 @@ mod asked;
 mod command;
 mod config;
 mod event;
+mod gateways;
 mod handed;
 mod last;
 pub mod laws;

@@ -13,6 +13,7 @@ ghost use Rattle.gtp_world.specs.Stepped.{EventLeaves, StepsOn, AsksFor, BringsF
 
 use crate::config::WorldConfig;
 use crate::event::{Event, EventOutcome};
+use crate::gateways::Gateways;
 use crate::last::last_message;
 use crate::records::Records;
 use crate::side::Side;
@@ -22,8 +23,7 @@ use std::alloc::Global;
 /// Both gateways, and what is kept of what they did.
 #[derive(Drop)]
 pub struct Sides {
-    pub serving: Side,
-    pub packet: Side,
+    pub gateways: Gateways,
     pub records: Records,
 }
 
@@ -38,7 +38,7 @@ impl Sides {
         ensures serving { OnOk result (config.now.serving_counter < 256) }
         ensures packet { OnOk result (config.now.packet_counter < 256) }
     {
-        Ok(Sides {
+        let gateways = Gateways {
             serving: Side::start(
                 alloc,
                 Role::Serving,
@@ -51,6 +51,9 @@ impl Sides {
                 config.packet(),
                 config.packet_counter(),
             )?,
+        };
+        Ok(Sides {
+            gateways,
             records: Records::new(alloc),
         })
     }
@@ -59,10 +62,7 @@ impl Sides {
     pub fn side(&self, role: Role) -> &Side
         ensures { gateway_record_of result.now ≡ gateway_in (world_record_of self.now) role }
     {
-        match role {
-            Role::Serving => &self.serving,
-            Role::Packet => &self.packet,
-        }
+        self.gateways.get(role)
     }
 
     /// How many contexts were made for the last message of the datagram of this number, if there is
@@ -89,10 +89,7 @@ impl Sides {
         ensures err { OnErr result (world_record_of self.new ≡ world_record_of self.old) }
     {
         self.records.make_room(1)?;
-        let came = match node {
-            Role::Serving => self.serving.does(alloc, node, event)?,
-            Role::Packet => self.packet.does(alloc, node, event)?,
-        };
+        let came = self.gateways.get_mut(node).does(alloc, node, event)?;
         Ok(self.records.settle(alloc, node, came, false))
     }
 
@@ -122,25 +119,13 @@ impl Sides {
         };
         let last = last_message(octets);
         let late = if whole {
-            match node {
-                Role::Serving => self
-                    .serving
-                    .has_given_up(alloc, sent.from, sent.plane, last)?,
-                Role::Packet => self
-                    .packet
-                    .has_given_up(alloc, sent.from, sent.plane, last)?,
-            }
+            let gateway = self.gateways.get(node);
+            gateway.has_given_up(alloc, sent.from, sent.plane, last)?
         } else {
             false
         };
-        let came = match node {
-            Role::Serving => self
-                .serving
-                .takes(alloc, node, sent.from, sent.plane, octets, last)?,
-            Role::Packet => self
-                .packet
-                .takes(alloc, node, sent.from, sent.plane, octets, last)?,
-        };
+        let gateway = self.gateways.get_mut(node);
+        let came = gateway.takes(alloc, node, sent.from, sent.plane, octets, last)?;
         Ok(self.records.settle(alloc, node, came, late))
     }
 
@@ -186,10 +171,7 @@ impl Sides {
         ensures err { OnErr result (world_record_of self.new ≡ world_record_of self.old) }
     {
         self.records.make_room(MOST_RESENT)?;
-        let ticked = match node {
-            Role::Serving => self.serving.ticks(alloc)?,
-            Role::Packet => self.packet.ticks(alloc)?,
-        };
+        let ticked = self.gateways.get_mut(node).ticks(alloc)?;
         Ok(self.records.settle_tick(node, ticked))
     }
 
@@ -201,17 +183,10 @@ impl Sides {
         ensures err { OnErr result (world_record_of self.new ≡ world_record_of self.old) }
     {
         self.records.make_room(1)?;
-        let restarts = match node {
-            Role::Serving => self.serving.restarts,
-            Role::Packet => self.packet.restarts,
-        };
-        if restarts >= 127 {
+        if self.gateways.get(node).restarts >= 127 {
             return Ok(self.records.pass_over(alloc, EventOutcome::RestartsUsed));
         }
-        let counter = match node {
-            Role::Serving => self.serving.restart(alloc, node)?,
-            Role::Packet => self.packet.restart(alloc, node)?,
-        };
+        let counter = self.gateways.get_mut(node).restart(alloc, node)?;
         Ok(
             self.records
                 .pass_over(alloc, EventOutcome::Restarted(counter)),

@@ -237,8 +237,8 @@ impl World {
         // Each such pair agrees.
         ensures safe { IfSome result (λ agree. IsTrue agree) }
     {
-        let serving = &self.sides.serving.gateway;
-        let packet = &self.sides.packet.gateway;
+        let serving = &self.sides.gateways.serving.gateway;
+        let packet = &self.sides.gateways.packet.gateway;
         let pair = Mutuals::of(serving, packet).nth(index)?;
         Some(do_agree(serving, packet, &pair))
     }

@@ -40,7 +40,7 @@ capture_words =
 abbrev pub replay_words : App
 replay_words =
     with_rule (with_rule (with_rule (with_rule (with_rule (new_app (codes "replay"))
-        (flag_word (codes "diagram"))) (flag_word (codes "svg"))) (flag_word (codes "pcap"))) (flag_word (codes "json"))) (plain_word (codes "file"))
+    (flag_word (codes "diagram"))) (flag_word (codes "svg"))) (flag_word (codes "pcap"))) (flag_word (codes "json"))) (plain_word (codes "file"))
 
 -- to run one gateway
 abbrev pub gateway_words : App
@@ -58,4 +58,4 @@ gtpshow_word = record (new_app (codes "gtpshow")).top { has_version = true; subc
 abbrev pub program_words : App
 program_words =
     with_subcommand (with_subcommand (with_subcommand (with_subcommand (with_subcommand
-        (record { top = gtpshow_word; subs = [] }) decode_words.top) capture_words.top) replay_words.top) gateway_words.top) explain_words.top
+    (record { top = gtpshow_word; subs = [] }) decode_words.top) capture_words.top) replay_words.top) gateway_words.top) explain_words.top

@@ -57,6 +57,12 @@ pub record SendsRequestNext (old : GatewayState) (begun : Begun) (new : GatewayS
   pub queues : new.queues ≡ after_begun number purpose begun.out.to begun.out.octets.items old.queues
   pub tied : NodeMatchesQueues new
 
+-- what ticks go by, after a command that was carried out: a request waits from now on; a packet or an End Marker changes nothing
+abbrev pub IsTimed : Command → GatewayState → Begun → GatewayState → Type 0
+IsTimed (Mark_end bearer) old begun new = new.queues ≡ old.queues
+IsTimed (Send_user bearer payload) old begun new = new.queues ≡ old.queues
+IsTimed command old begun new = SendsRequestNext old begun new
+
 -- an active session of the gateway that a command is for
 pub record IsActiveSession (only : Role) (s : GatewayState) (session : ℕ) (at : Session) : Type 0 where
   pub role : s.role ≡ only

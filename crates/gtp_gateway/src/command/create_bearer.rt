@@ -41,16 +41,13 @@ impl Parts {
             (node_of self.now)) }
         ensures ready { IfOk result (CanBeSent seq) }
     {
-        let header = written_teid(at.remote);
-        let linked = at.subscriber.identity;
         let user = own_end(S5S8_PGW_GTP_U, drawn.teid, self.config.own().user);
-        let charging = drawn.teid.0;
         Ok(RequestToSend {
             purpose: Purpose {
                 asked: Asked::CreateBearer,
                 session: Some(session),
                 bearer: Some(drawn.teid),
-                is_named: is_there(header),
+                is_named: is_there(written_teid(at.remote)),
             },
             change: Change::MakesBearer {
                 draws: drawn.draws,
@@ -58,7 +55,7 @@ impl Parts {
                 bearer: pending_dedicated(session),
             },
             teid: Some(drawn.teid),
-            message: create_bearer_request(alloc, header, seq, linked, *tft, *qos, user, charging)?,
+            message: create_bearer_request(alloc, at, seq, *tft, *qos, user)?,
         })
     }
 

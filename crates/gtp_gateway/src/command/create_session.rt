@@ -107,9 +107,8 @@ impl Parts {
         ensures identity { IsIdentity spec.now.subscriber.identity }
     {
         prove!(spec.subscriber.identity.number() <= 15);
-        match self.role {
-            Role::Packet => return Err(CommandFault::Refused(Refusal::WrongRole)),
-            Role::Serving => {}
+        if self.role != Role::Serving {
+            return Err(CommandFault::Refused(Refusal::WrongRole));
         }
         if !self.has_session_room() {
             return Err(CommandFault::Refused(Refusal::SessionsFull));

@@ -91,9 +91,8 @@ impl Parts {
             (state_of self.old) result }
         ensures err { OnErr result (state_of self.new ≡ state_of self.old) }
     {
-        match self.role {
-            Role::Serving => return Err(CommandFault::Refused(Refusal::WrongRole)),
-            Role::Packet => {}
+        if self.role != Role::Packet {
+            return Err(CommandFault::Refused(Refusal::WrongRole));
         }
         let Some(at) = self.sessions.get(session) else {
             return Err(CommandFault::Refused(Refusal::NoSuchContext));

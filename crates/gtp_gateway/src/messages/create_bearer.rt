@@ -5,12 +5,14 @@ ghost use Rattle.std.specs.Prelude.{◌≡◌, ◌∷◌, false, [], Some, None,
 ghost use Rattle.gtp_machine.specs.Message.{Create_bearer_request, Create_bearer_response};
 ghost use Rattle.gtp_machine.specs.Element.{cause_of};
 ghost use Rattle.gtp_machine.specs.Answer.{refusing};
+ghost use Rattle.gtp_machine.specs.Node.{written};
 ghost use Rattle.gtp_values.specs.Cause.{is_accepting_value};
 ghost use Rattle.gtp_machine.specs.Reading.{control_message};
 ghost use Rattle.gtp_gateway.specs.messages.Own.{IsOwn};
 
-use crate::messages::elements::plain_cause;
+use crate::messages::elements::{plain_cause, written_teid};
 use gtp_machine::causes::{NO_RESOURCES_AVAILABLE, REQUEST_ACCEPTED};
+use gtp_tables::Session;
 use gtp_v2::{
     BearerRequestContext, BearerResponseContext, Body, ChargingId, CreateBearerRequest,
     CreateBearerResponse, EbiValue, Listed, Message, Recovery,
@@ -18,31 +20,29 @@ use gtp_v2::{
 use gtp_values::{Below, Cause, Counter, Ebi, FTeid, Memory, Qos, Seq, Teid, Tft};
 use std::alloc::Global;
 
-/// A Create Bearer Request (TS 29.274 7.2.3) for one bearer, whose identity is to be given.
-#[allow(clippy::too_many_arguments)]
+/// A Create Bearer Request (TS 29.274 7.2.3) for one bearer of a session, whose identity is to be given. The bearer's
+/// charging identifier (8.29) is its TEID.
 #[tactic(auto, unfolding(gtp_machine::specs::Decoded::row_in, gtp_machine::specs::Decoded::list_in, gtp_machine::specs::Decoded::contexts_in))]
 pub fn create_bearer_request(
     alloc: Global,
-    header: Teid,
+    at: &Session,
     seq: Seq,
-    linked: Ebi,
     tft: Tft,
     qos: Qos,
     user: FTeid,
-    charging: u32,
 ) -> Result<Message, Memory>
     ensures says { IfOk result (λ message. control_message message
         ≡ Create_bearer_request (record {
-          header = header;
+          header = written at.now.remote;
           number = seq;
           transaction = None;
-          linked = linked;
+          linked = at.now.subscriber.identity;
           context = record {
             identity = 0;
             tft = tft;
             user = user;
             qos = qos;
-            charging = Some charging;
+            charging = Some user.teid;
           };
           further = [];
         })) }
@@ -53,16 +53,16 @@ pub fn create_bearer_request(
         tft,
         user,
         qos,
-        charging_id: Some(ChargingId(charging)),
+        charging_id: Some(ChargingId(user.teid().0)),
     };
     let contexts = Vec::from_slice(alloc, &[context])?;
     Ok(Message {
-        teid: Some(header),
+        teid: Some(written_teid(at.remote)),
         seq,
         priority: None,
         body: Body::CreateBearerRequest(CreateBearerRequest {
             pti: None,
-            linked_ebi: EbiValue::from(linked),
+            linked_ebi: EbiValue::from(at.subscriber.identity),
             contexts: Listed::of(contexts),
         }),
     })

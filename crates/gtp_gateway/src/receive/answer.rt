@@ -124,7 +124,7 @@ impl Parts {
 
     /// Gives an answer that is ready to a request for which none is held; from now on this one is.
     /// Allocates nothing.
-    #[tactic(auto, using(crate::proofs::QueuesAfter::tied_of, crate::proofs::QueuesAfter::on_goes, crate::proofs::QueuesAfter::same_goes, crate::proofs::QueuesAfter::given_goes, crate::proofs::QueuesAfter::answered_goes))]
+    #[tactic(auto, using(crate::proofs::QueuesAfter::queues_after))]
     pub fn send_answer(&mut self, source: Endpoint, ready: ReadyAnswer) -> Sent
         requires ready { IsReady self.old.held }
         requires fresh { IsHeld source ready.request.items self.old.held.pairs → ⊥ }
@@ -160,7 +160,7 @@ impl Parts {
 
     /// Changes sessions and bearers, and answers a request for which no answer is held; from now on
     /// this one is.
-    #[tactic(auto, using(crate::proofs::QueuesAfter::tied_of, crate::proofs::QueuesAfter::on_goes, crate::proofs::QueuesAfter::same_goes, crate::proofs::QueuesAfter::given_goes, crate::proofs::QueuesAfter::answered_goes))]
+    #[tactic(auto, using(crate::proofs::QueuesAfter::queues_after))]
     pub fn answer(
         &mut self,
         alloc: Global,

@@ -111,7 +111,7 @@ impl Parts {
     }
 
     /// Takes a Create Bearer Request.
-    #[tactic(auto, using(crate::proofs::QueuesAfter::tied_of, crate::proofs::QueuesAfter::on_goes, crate::proofs::QueuesAfter::same_goes, crate::proofs::QueuesAfter::given_goes, crate::proofs::QueuesAfter::answered_goes))]
+    #[tactic(auto, using(crate::proofs::QueuesAfter::queues_after))]
     pub fn take_create_bearer_request(
         &mut self,
         alloc: Global,

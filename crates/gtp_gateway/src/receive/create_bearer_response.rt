@@ -157,7 +157,7 @@ impl Parts {
     }
 
     /// Takes a Create Bearer Response: what does not accept, or clashes, removes the pending bearer.
-    #[tactic(auto, using(crate::proofs::UserRows::all_wait, crate::proofs::GivenUp::wait_on))]
+    #[tactic(auto, using(crate::proofs::GivenUp::waiting))]
     pub fn take_create_bearer_response(
         &mut self,
         answer: &BearerResponse,

@@ -71,7 +71,7 @@ fn granted_bearer(request: &SessionRequest, grant: &SessionGrant) -> Bearer
 impl Parts {
     /// A session is made with its default bearer, once a counter was heard: `Memory` where an
     /// allocation was refused, and then nothing has changed.
-    #[tactic(auto, using(crate::proofs::UserRows::all_wait, crate::proofs::GivenUp::wait_on))]
+    #[tactic(auto, using(crate::proofs::GivenUp::waiting))]
     fn make_granted(
         &mut self,
         request: &SessionRequest,
@@ -122,7 +122,7 @@ impl Parts {
     }
 
     /// Refuses a Create Session Request, once its counter was heard.
-    #[tactic(auto, using(crate::proofs::QueuesAfter::tied_of, crate::proofs::QueuesAfter::on_goes, crate::proofs::QueuesAfter::same_goes, crate::proofs::QueuesAfter::given_goes, crate::proofs::QueuesAfter::answered_goes))]
+    #[tactic(auto, using(crate::proofs::QueuesAfter::queues_after))]
     fn refuse_session(
         &mut self,
         alloc: Global,
@@ -160,7 +160,7 @@ impl Parts {
     }
 
     /// Grants a Create Session Request, once its counter was heard.
-    #[tactic(auto, using(crate::proofs::QueuesAfter::tied_of, crate::proofs::QueuesAfter::on_goes, crate::proofs::QueuesAfter::same_goes, crate::proofs::QueuesAfter::given_goes, crate::proofs::QueuesAfter::answered_goes))]
+    #[tactic(auto, using(crate::proofs::QueuesAfter::queues_after))]
     fn grant_session(
         &mut self,
         alloc: Global,
@@ -189,7 +189,7 @@ impl Parts {
     }
 
     /// Takes a Create Session Request, with the counter that it brought.
-    #[tactic(auto, using(crate::proofs::QueuesAfter::tied_of, crate::proofs::QueuesAfter::on_goes, crate::proofs::QueuesAfter::same_goes, crate::proofs::QueuesAfter::given_goes, crate::proofs::QueuesAfter::answered_goes))]
+    #[tactic(auto, using(crate::proofs::QueuesAfter::queues_after))]
     pub fn take_create_session_request(
         &mut self,
         alloc: Global,

@@ -182,7 +182,7 @@ impl Parts {
     }
 
     /// Takes a Create Session Response: what does not accept removes the pending session.
-    #[tactic(auto, using(crate::proofs::UserRows::all_wait, crate::proofs::GivenUp::wait_on))]
+    #[tactic(auto, using(crate::proofs::GivenUp::waiting))]
     pub fn take_create_session_response(
         &mut self,
         answer: &SessionResponse,

@@ -84,7 +84,7 @@ impl Parts {
     }
 
     /// Answers a request without bearer contexts.
-    #[tactic(auto, using(crate::proofs::QueuesAfter::tied_of, crate::proofs::QueuesAfter::on_goes, crate::proofs::QueuesAfter::same_goes, crate::proofs::QueuesAfter::given_goes, crate::proofs::QueuesAfter::answered_goes))]
+    #[tactic(auto, using(crate::proofs::QueuesAfter::queues_after))]
     fn answer_delete_bearer(
         &mut self,
         alloc: Global,
@@ -118,7 +118,7 @@ impl Parts {
     }
 
     /// Takes a Delete Bearer Request.
-    #[tactic(auto, using(crate::proofs::QueuesAfter::tied_of, crate::proofs::QueuesAfter::on_goes, crate::proofs::QueuesAfter::same_goes, crate::proofs::QueuesAfter::given_goes, crate::proofs::QueuesAfter::answered_goes))]
+    #[tactic(auto, using(crate::proofs::QueuesAfter::queues_after))]
     pub fn take_delete_bearer_request(
         &mut self,
         alloc: Global,

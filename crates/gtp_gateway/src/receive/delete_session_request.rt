@@ -67,7 +67,7 @@ impl Parts {
     }
 
     /// Takes a Delete Session Request, in any state of the session.
-    #[tactic(auto, using(crate::proofs::QueuesAfter::tied_of, crate::proofs::QueuesAfter::on_goes, crate::proofs::QueuesAfter::same_goes, crate::proofs::QueuesAfter::given_goes, crate::proofs::QueuesAfter::answered_goes))]
+    #[tactic(auto, using(crate::proofs::QueuesAfter::queues_after))]
     pub fn take_delete_session_request(
         &mut self,
         alloc: Global,

@@ -32,7 +32,7 @@ use std::alloc::Global;
 
 impl Parts {
     /// Takes a message, once its restart counter was weighed and is not of an earlier start.
-    #[tactic(auto, using(crate::proofs::QueuesAfter::tied_of, crate::proofs::QueuesAfter::on_goes, crate::proofs::QueuesAfter::same_goes, crate::proofs::QueuesAfter::given_goes, crate::proofs::QueuesAfter::answered_goes, crate::proofs::UserRows::all_wait, crate::proofs::GivenUp::wait_on))]
+    #[tactic(auto, using(crate::proofs::QueuesAfter::queues_after, crate::proofs::GivenUp::waiting))]
     fn dispatch(
         &mut self,
         alloc: Global,
@@ -105,7 +105,7 @@ impl Parts {
     }
 
     /// Takes a message of a kind that the gateway takes: first its restart counter is heard.
-    #[tactic(auto, using(crate::proofs::QueuesAfter::tied_of, crate::proofs::QueuesAfter::on_goes, crate::proofs::QueuesAfter::same_goes, crate::proofs::QueuesAfter::given_goes, crate::proofs::QueuesAfter::answered_goes, crate::proofs::UserRows::all_wait, crate::proofs::GivenUp::wait_on))]
+    #[tactic(auto, using(crate::proofs::QueuesAfter::queues_after, crate::proofs::GivenUp::waiting))]
     pub fn take_message(
         &mut self,
         alloc: Global,

@@ -17,7 +17,7 @@ use std::alloc::Global;
 
 impl Parts {
     /// Takes an Echo Request, which is answered with the same number; the answer is not held.
-    #[tactic(auto, using(crate::proofs::UserRows::all_wait, crate::proofs::GivenUp::wait_on))]
+    #[tactic(auto, using(crate::proofs::GivenUp::waiting))]
     pub fn take_echo_request(
         &mut self,
         alloc: Global,

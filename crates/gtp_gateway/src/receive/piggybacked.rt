@@ -48,7 +48,7 @@ impl Parts {
 
     /// Takes the second message of a pair, and applies the first, of which all is known: the second is
     /// taken by the gateway that the first leaves, whatever came of that.
-    #[tactic(auto, using(crate::proofs::QueuesAfter::tied_of, crate::proofs::QueuesAfter::on_goes, crate::proofs::QueuesAfter::same_goes, crate::proofs::QueuesAfter::given_goes, crate::proofs::QueuesAfter::answered_goes))]
+    #[tactic(auto, using(crate::proofs::QueuesAfter::queues_after))]
     fn take_second(
         &mut self,
         alloc: Global,

@@ -96,7 +96,7 @@ impl Parts {
 
     /// Takes a response that only ends its request: the request of this number is finished, and what it was about goes,
     /// where the response fits it. Takes no memory.
-    #[tactic(auto, using(crate::proofs::UserRows::all_wait, crate::proofs::GivenUp::wait_on))]
+    #[tactic(auto, using(crate::proofs::GivenUp::waiting))]
     pub fn end_request(
         &mut self,
         seq: Seq,

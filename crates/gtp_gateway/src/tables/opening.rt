@@ -135,7 +135,7 @@ impl Parts {
 
     /// Opens a bearer that has no remote, and hears the counter: `Memory` where an allocation was
     /// refused, and then nothing has changed.
-    #[tactic(auto, using(crate::proofs::UserRows::all_wait, crate::proofs::GivenUp::wait_on))]
+    #[tactic(auto, using(crate::proofs::GivenUp::waiting))]
     fn open_bearer(&mut self, heard: Heard, teid: Teid, bearer: Bearer) -> Result<(), Memory>
         requires weighed { IsHeard heard self.old.peer }
         requires can { IsOpenedAt (node_heard heard (node_of self.old)).bearers teid bearer }
@@ -153,7 +153,7 @@ impl Parts {
 
     /// Hears the counter of a response, and does what the response comes to: `Memory` where an
     /// allocation was refused, and then nothing has changed.
-    #[tactic(auto, using(crate::proofs::UserRows::all_wait, crate::proofs::GivenUp::wait_on))]
+    #[tactic(auto, using(crate::proofs::GivenUp::waiting))]
     pub fn apply_verdict(
         &mut self,
         seq: Seq,

@@ -150,9 +150,8 @@ impl Parts {
         ensures refused { IsRefusedWhere (Mark_end bearer) (state_of self.old) result }
         ensures err { OnErr result (state_of self.new ≡ state_of self.old) }
     {
-        match self.role {
-            Role::Serving => return Err(CommandFault::Refused(Refusal::WrongRole)),
-            Role::Packet => {}
+        if self.role != Role::Packet {
+            return Err(CommandFault::Refused(Refusal::WrongRole));
         }
         let Some(at) = self.bearers.get(bearer) else {
             return Err(CommandFault::Refused(Refusal::NoSuchContext));

@@ -98,7 +98,8 @@ impl IeValue for FTeid {
     fn write(&self, out: &mut Vec<u8>) -> Result<(), AllocError> {
         let v4 = self.v4();
         let v6 = self.v6();
-        let flags = 128 * u8::from(v4.is_some()) + 64 * u8::from(v6.is_some()) + self.interface();
+        let interface = self.interface().number();
+        let flags = 128 * u8::from(v4.is_some()) + 64 * u8::from(v6.is_some()) + interface;
         let mut teid = [0u8; 4];
         BigEndian::write_u32(&mut teid, self.teid().0);
         // Most ends have an address of version 4 alone. All octets are appended at once, since each

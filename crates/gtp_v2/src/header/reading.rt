@@ -67,7 +67,7 @@ pub fn read_header(
 {
     let version = first >> 5;
     if version != 2 {
-        return Err(V2Fault::Version(version));
+        return Err(V2Fault::Version { version });
     }
     if has_bit(first, PIGGYBACKING) {
         return Err(V2Fault::BadPiggyback { at: 0 });

@@ -7,14 +7,11 @@ ghost use Rattle.gtp_v2.specs.Encoding.{open_header, HeaderMeets};
 ghost use Rattle.gtp_v2.specs.Flags.{version_2};
 ghost use Rattle.gtp_values.specs.Numbers.{three, four};
 
-use crate::flags::{MESSAGE_PRIORITY, TEID, VERSION_2};
+use crate::flags::{MESSAGE_PRIORITY, VERSION_2, WITH_TEID};
 use crate::message::Message;
 use byteorder::{BigEndian, ByteOrder};
 use gtp_values::{Seq, Teid};
 use std::alloc::AllocError;
-
-/// The first octet of a message with a TEID.
-const WITH_TEID: u8 = VERSION_2 | 1 << TEID;
 
 /// Appends a header with a TEID, its length still 0.
 fn write_long_header(

@@ -21,7 +21,7 @@ ghost use Rattle.gtp_gateway.specs.receive.Taken.{IsFresh};
 use crate::command::purpose::{Asked, Purpose};
 use crate::messages::create_bearer::create_bearer_request;
 use crate::messages::create_session::session_cause;
-use crate::messages::elements::{is_there, own_end, written_teid};
+use crate::messages::elements::{is_there, own_end};
 use crate::messages::encode::{EncodedPair, encode_both};
 use crate::parts::Parts;
 use crate::receive::create_session_request::judge::{AddedBearer, SessionGrant};
@@ -50,19 +50,8 @@ impl Parts {
     {
         let session = granted_session(request, grant);
         let user = own_end(S5S8_PGW_GTP_U, added.drawn.teid, self.config.own().user);
-        let header = written_teid(session.remote);
-        let linked = session.subscriber.identity;
         let template = added.template;
-        create_bearer_request(
-            alloc,
-            header,
-            added.seq,
-            linked,
-            template.tft,
-            template.qos,
-            user,
-            added.drawn.teid.0,
-        )
+        create_bearer_request(alloc, &session, added.seq, template.tft, template.qos, user)
     }
 
     /// The answer that grants the session, and the request of the template's bearer, as octets.
@@ -91,7 +80,7 @@ impl Parts {
 
     /// A session is made with its default bearer and the bearer of the template, once a counter was
     /// heard: `Memory` where an allocation was refused, and then nothing has changed.
-    #[tactic(auto, using(crate::proofs::UserRows::all_wait, crate::proofs::GivenUp::wait_on))]
+    #[tactic(auto, using(crate::proofs::GivenUp::waiting))]
     fn make_granted_with(
         &mut self,
         request: &SessionRequest,

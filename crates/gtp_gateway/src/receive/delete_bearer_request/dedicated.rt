@@ -73,7 +73,7 @@ impl Parts {
     }
 
     /// The bearers go, in turn, with the requests about them. Allocates nothing.
-    #[tactic(auto, using(crate::proofs::UserRows::all_wait, crate::proofs::GivenUp::wait_on))]
+    #[tactic(auto, using(crate::proofs::GivenUp::waiting))]
     fn end_each(&mut self, named: &[NamedBearer])
         ensures node { node_of self.new ≡ without_each named.now (node_of self.old) }
         ensures waits { RequestsWaitOn (state_of self.old) (state_of self.new) }
@@ -113,7 +113,7 @@ impl Parts {
     }
 
     /// Ends the dedicated bearers with these identities. All allocations come first.
-    #[tactic(auto, using(crate::proofs::QueuesAfter::tied_of, crate::proofs::QueuesAfter::on_goes, crate::proofs::QueuesAfter::same_goes, crate::proofs::QueuesAfter::given_goes, crate::proofs::QueuesAfter::answered_goes))]
+    #[tactic(auto, using(crate::proofs::QueuesAfter::queues_after))]
     fn end_named(
         &mut self,
         alloc: Global,
@@ -146,7 +146,7 @@ impl Parts {
 
     /// Takes a Delete Bearer Request for the bearers in its list, which is counted before memory is
     /// taken for it.
-    #[tactic(auto, using(crate::proofs::QueuesAfter::tied_of, crate::proofs::QueuesAfter::on_goes, crate::proofs::QueuesAfter::same_goes, crate::proofs::QueuesAfter::given_goes, crate::proofs::QueuesAfter::answered_goes))]
+    #[tactic(auto, using(crate::proofs::QueuesAfter::queues_after))]
     pub fn end_listed(
         &mut self,
         alloc: Global,

@@ -99,7 +99,7 @@ impl Parts {
 
     /// Makes the bearer of the second message, and applies the first: `Memory` where an allocation was
     /// refused, and then nothing has changed.
-    #[tactic(auto, using(crate::proofs::UserRows::all_wait, crate::proofs::GivenUp::wait_on))]
+    #[tactic(auto, using(crate::proofs::GivenUp::waiting))]
     fn apply_and_make(
         &mut self,
         seq: Seq,
@@ -131,7 +131,7 @@ impl Parts {
 
     /// Applies the first message, and makes what the second one is granted: `Memory` where an
     /// allocation was refused, and then nothing has changed.
-    #[tactic(auto, using(crate::proofs::UserRows::all_wait, crate::proofs::GivenUp::wait_on))]
+    #[tactic(auto, using(crate::proofs::GivenUp::waiting))]
     fn apply_both(
         &mut self,
         seq: Seq,
@@ -173,7 +173,7 @@ impl Parts {
     }
 
     /// Answers the second message, which was judged, and applies the first.
-    #[tactic(auto, using(crate::proofs::QueuesAfter::tied_of, crate::proofs::QueuesAfter::on_goes, crate::proofs::QueuesAfter::same_goes, crate::proofs::QueuesAfter::given_goes, crate::proofs::QueuesAfter::answered_goes))]
+    #[tactic(auto, using(crate::proofs::QueuesAfter::queues_after))]
     pub fn answer_second(
         &mut self,
         alloc: Global,

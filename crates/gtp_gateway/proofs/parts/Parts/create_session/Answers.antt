@@ -1,4 +1,4 @@
-use Rattle.std.proofs.Common.{◌≡◌, ◌↔◌, inr, Result, refl, sym, subst}
+use Rattle.std.proofs.Common.{rules, ◌≡◌, ◌↔◌, inr, Result, refl, sym, subst}
 use Rattle.gtp_machine.specs.declared.role.Role.{Role}
 use Rattle.gtp_machine.specs.declared.role.Role.TheVariants.{Serving}
 use Rattle.gtp_machine.specs.Choice.{HasDraws, HasSessionRoom}
@@ -21,16 +21,18 @@ use Rattle.gtp_gateway.proofs.parts.Parts.create_session.Goals as goal
 
 pub returns-then-not-has_session_room-clause-refused : goal.returns-then-not-has_session_room-clause-refused
 returns-then-not-has_session_room-clause-refused c = λ why.
+    let role : (state_of c.args.self.now).role ≡ Serving = search rules in
     let node = node_of c.args.self.now in
     let spec : Specification = specification c.args.spec.now in
-    subst (λ (role : Role). Told _ why ↔ SessionBegun role spec node (refused node why)) (sym c.in-Serving.is)
+    subst (λ (role : Role). Told _ why ↔ SessionBegun role spec node (refused node why)) (sym role)
     (stops node _ SessionsFull refl (no c.has_session_room.ensures c.if-not-has_session_room.true) why)
 
 pub returns-in_default-clause-refused : goal.returns-in_default-clause-refused
 returns-in_default-clause-refused c = λ why.
+    let role : (state_of c.args.self.now).role ≡ Serving = search rules in
     let node = node_of c.args.self.now in
     let spec : Specification = specification c.args.spec.now in
-    subst (λ (role : Role). Told _ why ↔ SessionBegun role spec node (refused node why)) (sym c.in-Serving.is)
+    subst (λ (role : Role). Told _ why ↔ SessionBegun role spec node (refused node why)) (sym role)
     (goes node _ SessionsFull why (yes c.has_session_room.ensures c.if-not-has_session_room.false) (λ room.
     stops node _ TeidsUsed refl c.in_default.ensures.none why))
 
@@ -44,21 +46,25 @@ by_last s spec r role room left rule = λ why.
 
 pub returns-in_err-seq-clause-refused : goal.returns-in_err-seq-clause-refused
 returns-in_err-seq-clause-refused c =
-    by_last (state_of c.args.self.now) (specification c.args.spec.now) _ c.in-Serving.is (yes c.has_session_room.ensures c.if-not-has_session_room.false) c.in-Some.ensures.some.left (as_err (state_of c.args.self.now) c.in_err-seq.field-0.0 c.from_residual.result c.from_residual.ensures.1 c.in_err-seq.ensures.refused)
+    let role : (state_of c.args.self.now).role ≡ Serving = search rules in
+    by_last (state_of c.args.self.now) (specification c.args.spec.now) _ role (yes c.has_session_room.ensures c.if-not-has_session_room.false) c.in-Some.ensures.some.left (as_err (state_of c.args.self.now) c.in_err-seq.field-0.0 c.from_residual.result c.from_residual.ensures.1 c.in_err-seq.ensures.refused)
 
 pub returns-in_err-request-clause-refused : goal.returns-in_err-request-clause-refused
 returns-in_err-request-clause-refused c =
-    by_last (state_of c.args.self.now) (specification c.args.spec.now) _ c.in-Serving.is (yes c.has_session_room.ensures c.if-not-has_session_room.false) c.in-Some.ensures.some.left
+    let role : (state_of c.args.self.now).role ≡ Serving = search rules in
+    by_last (state_of c.args.self.now) (specification c.args.spec.now) _ role (yes c.has_session_room.ensures c.if-not-has_session_room.false) c.in-Some.ensures.some.left
     (no_memory (state_of c.args.self.now) c.in_ok-seq.ensures.room c.from_residual-in_err-request.result c.from_residual-in_err-request.ensures.1)
 
 pub returns-clause-refused : goal.returns-clause-refused
 returns-clause-refused c =
+    let role : (state_of c.args.self.now).role ≡ Serving = search rules in
     let r = c.send_request.result in
-    by_last (state_of c.args.self.now) (specification c.args.spec.now) r c.in-Serving.is (yes c.has_session_room.ensures c.if-not-has_session_room.false) c.in-Some.ensures.some.left
+    by_last (state_of c.args.self.now) (specification c.args.spec.now) r role (yes c.has_session_room.ensures c.if-not-has_session_room.false) c.in-Some.ensures.some.left
     c.send_request.ensures.refused
 
 pub returns-clause-done : goal.returns-clause-done
 returns-clause-done c =
+    let role : (state_of c.args.self.now).role ≡ Serving = search rules in
     let old = state_of c.args.self.now in
     let spec : Specification = specification c.args.spec.now in
     let drawn = c.in-Some.drawn in
@@ -66,7 +72,7 @@ returns-clause-done c =
     let seq = c.in_ok-seq.seq in
     done_by (Create_session spec) seq _ (request_to_create_session drawn c.args.spec.now seq old.node) c.send_request.result old (state_of c.send_request.new.self)
     c.in_ok-request.ensures.says (λ teid. refl)
-    (λ e room asks. subst (λ (role : Role). SessionBegun role spec old.node e) (sym c.in-Serving.is)
+    (λ e room asks. subst (λ (role : Role). SessionBegun role spec old.node e) (sym role)
     (inr (yes c.has_session_room.ensures c.if-not-has_session_room.false, inr (two.left, inr (room, record { control = drawn.control; user = drawn.user; number = seq; control_free = two.control_free; user_free = two.user_free; apart = two.apart; number_free = asks.number_free; gives = asks.gives })))))
     c.send_request.ensures.done
 

@@ -1,4 +1,4 @@
-use Rattle.std.proofs.Common.{◌≡◌, ◌↔◌, inr, ℕ, Some, Result, refl, sym, ◌∙◌, subst}
+use Rattle.std.proofs.Common.{rules, ◌≡◌, ◌↔◌, inr, ℕ, Some, Result, refl, sym, ◌∙◌, subst}
 use Rattle.std.specs.FinMap.{get}
 use Rattle.gtp_machine.specs.declared.role.Role.{Role}
 use Rattle.gtp_machine.specs.declared.role.Role.TheVariants.{Packet}
@@ -21,12 +21,13 @@ use Rattle.gtp_gateway.proofs.parts.Parts.delete_bearer.Goals as goal
 
 pub returns-then-not-are_active-clause-refused : goal.returns-then-not-are_active-clause-refused
 returns-then-not-are_active-clause-refused c = λ why.
+    let role : (state_of c.args.self.now).role ≡ Packet = search rules in
     let old = state_of c.args.self.now in
     let node = old.node in
     let session = c.args.session in
     let identity = c.args.identity in
     let d = c.in-Some-dedicated in
-    subst (λ (role : Role). Told _ why ↔ BearerDeleted role session identity node (refused node why)) (sym c.in-Packet.is)
+    subst (λ (role : Role). Told _ why ↔ BearerDeleted role session identity node (refused node why)) (sym role)
     (goes_session node _ (ends_session session identity node (refused node why)) session c.in-Some.at NoSuchContext why (sym c.get.ensures ∙ c.in-Some.is)
     (goes_named old c.requires.whole session identity _ (ends_named session identity node (refused node why) c.in-Some.at) d.named NoSuchContext why d.ensures.some
     (stops node _ NotActive refl (no c.are_active.ensures c.if-not-are_active.true) why)))
@@ -42,24 +43,28 @@ by_last s whole session identity at d r role stands named active rule = λ why.
 
 pub returns-in_err-seq-clause-refused : goal.returns-in_err-seq-clause-refused
 returns-in_err-seq-clause-refused c =
+    let role : (state_of c.args.self.now).role ≡ Packet = search rules in
     let d = c.in-Some-dedicated in
-    by_last (state_of c.args.self.now) c.requires.whole c.args.session c.args.identity c.in-Some.at d.named _ c.in-Packet.is (sym c.get.ensures ∙ c.in-Some.is) d.ensures.some (yes c.are_active.ensures c.if-not-are_active.false) (as_err (state_of c.args.self.now) c.in_err-seq.field-0.0 c.from_residual.result c.from_residual.ensures.1 c.in_err-seq.ensures.refused)
+    by_last (state_of c.args.self.now) c.requires.whole c.args.session c.args.identity c.in-Some.at d.named _ role (sym c.get.ensures ∙ c.in-Some.is) d.ensures.some (yes c.are_active.ensures c.if-not-are_active.false) (as_err (state_of c.args.self.now) c.in_err-seq.field-0.0 c.from_residual.result c.from_residual.ensures.1 c.in_err-seq.ensures.refused)
 
 pub returns-in_err-request-clause-refused : goal.returns-in_err-request-clause-refused
 returns-in_err-request-clause-refused c =
+    let role : (state_of c.args.self.now).role ≡ Packet = search rules in
     let d = c.in-Some-dedicated in
-    by_last (state_of c.args.self.now) c.requires.whole c.args.session c.args.identity c.in-Some.at d.named _ c.in-Packet.is (sym c.get.ensures ∙ c.in-Some.is) d.ensures.some (yes c.are_active.ensures c.if-not-are_active.false)
+    by_last (state_of c.args.self.now) c.requires.whole c.args.session c.args.identity c.in-Some.at d.named _ role (sym c.get.ensures ∙ c.in-Some.is) d.ensures.some (yes c.are_active.ensures c.if-not-are_active.false)
     (no_memory (state_of c.args.self.now) c.in_ok-seq.ensures.room c.from_residual-in_err-request.result c.from_residual-in_err-request.ensures.1)
 
 pub returns-clause-refused : goal.returns-clause-refused
 returns-clause-refused c =
+    let role : (state_of c.args.self.now).role ≡ Packet = search rules in
     let d = c.in-Some-dedicated in
     let r = c.send_request.result in
-    by_last (state_of c.args.self.now) c.requires.whole c.args.session c.args.identity c.in-Some.at d.named r c.in-Packet.is (sym c.get.ensures ∙ c.in-Some.is) d.ensures.some (yes c.are_active.ensures c.if-not-are_active.false)
+    by_last (state_of c.args.self.now) c.requires.whole c.args.session c.args.identity c.in-Some.at d.named r role (sym c.get.ensures ∙ c.in-Some.is) d.ensures.some (yes c.are_active.ensures c.if-not-are_active.false)
     c.send_request.ensures.refused
 
 pub returns-clause-done : goal.returns-clause-done
 returns-clause-done c =
+    let role : (state_of c.args.self.now).role ≡ Packet = search rules in
     let old = state_of c.args.self.now in
     let session = c.args.session in
     let identity = c.args.identity in
@@ -67,7 +72,7 @@ returns-clause-done c =
     let is = d.ensures.some in
     let seq = c.in_ok-seq.seq in
     done_by (Delete_bearer session identity) seq _ (request_to_delete_bearer d.named c.args.session c.in-Some.at identity seq) c.send_request.result old (state_of c.send_request.new.self) c.in_ok-request.ensures.says (λ teid. refl)
-    (λ e room asks. subst (λ (role : Role). BearerDeleted role session identity old.node e) (sym c.in-Packet.is)
+    (λ e room asks. subst (λ (role : Role). BearerDeleted role session identity old.node e) (sym role)
     (inr (
       record { session = c.in-Some.at; stands = sym c.get.ensures ∙ c.in-Some.is },
       inr (

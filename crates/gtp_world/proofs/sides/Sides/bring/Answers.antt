@@ -3,14 +3,13 @@ use Rattle.std.specs.Prelude.{IsTrue}
 use Rattle.std.proofs.lemmas.List.{take_all}
 use Rattle.std.proofs.lemmas.Option.{slice_get_read}
 use Rattle.gtp_gateway.specs.Parts.{arrival_of}
-use Rattle.gtp_world.specs.Record.{gateway_record_of, gateway_in, world_record_of}
-use Rattle.gtp_world.specs.Sides.{IsBrought}
+use Rattle.gtp_world.specs.Gateways.{with_side}
+use Rattle.gtp_world.specs.Record.{gateway_in, world_record_of}
 use Rattle.gtp_world.specs.Stepped.{IsGivenUp, TakesOn}
-use Rattle.gtp_world.specs.declared.side.Came.{Came}
 use Rattle.gtp_world.proofs.Finding.{brought}
-use Rattle.gtp_world.proofs.Sidewise.{at_serving, at_packet, brought_at}
+use Rattle.gtp_world.proofs.Sidewise.{was_at, brought_at}
 use Rattle.gtp_world.proofs.sides.Sides.bring.Goals as goal
-use Rattle.gtp_world.proofs.sides.Sides.bring.Goals.{in-Some, in-None, then-whole+in-Serving+in_ok-late-in-Serving, then-whole+in-Packet+in_ok-late-in-Packet, else-whole, in-Serving-node+in_ok-came-in-Serving-node, in-Packet-node+in_ok-came-in-Packet-node}
+use Rattle.gtp_world.proofs.sides.Sides.bring.Goals.{in-Some, in-None, then-whole+in_ok-late, else-whole}
 
 from_front : (count : ℕ) → count - 0 ≡ count
 from_front count = omega arith
@@ -27,25 +26,12 @@ reads c = elim c.match-get.branch [
 ]
 
 -- a gateway takes it
-taken : (c : goal.After-settle) → TakesOn (world_record_of c.args.self.now) c.other-node.result c.index-datagram.result.now.sent.plane c.index-datagram.result.now.sent.from c.match-get.octets.now c.if-whole.late (world_record_of record c.match-node-2.self { records = c.settle.new.self })
+taken : (c : goal.After-settle) → TakesOn (world_record_of c.args.self.now) c.other-node.result c.index-datagram.result.now.sent.plane c.index-datagram.result.now.sent.from c.match-get.octets.now c.if-whole.late (world_record_of record { gateways = with_side c.other-node.result c.args.self.now.gateways c.takes.new.self; records = c.settle.new.self })
 taken c =
     let old = c.args.self.now in
-    let mid = c.match-node-2.self in
     let sent = c.index-datagram.result.now.sent in
-    let node = c.other-node.result in
-    let octets = c.match-get.octets.now in
-    elim c.match-node-2.branch [
-      | in-Serving-node+in_ok-came-in-Serving-node w ↦
-          brought_at old mid node sent.plane sent.from octets (gateway_record_of old.serving) (gateway_record_of w.takes.new.self) c.match-node-2.came c.settle.new.self c.if-whole.late
-          (at_serving old mid node w.takes.new.self old.records w.in-Serving-node.is w.self-is refl)
-          (subst (λ (k : Came). IsBrought node sent.plane sent.from octets (gateway_record_of old.serving) k (gateway_record_of w.takes.new.self)) (sym w.came-is) w.in_ok-came-in-Serving-node.ensures.taken)
-          c.settle.ensures.log
-      | in-Packet-node+in_ok-came-in-Packet-node w ↦
-          brought_at old mid node sent.plane sent.from octets (gateway_record_of old.packet) (gateway_record_of w.takes-in-Packet-node.new.self) c.match-node-2.came c.settle.new.self c.if-whole.late
-          (at_packet old mid node w.takes-in-Packet-node.new.self old.records w.in-Packet-node.is w.self-is refl)
-          (subst (λ (k : Came). IsBrought node sent.plane sent.from octets (gateway_record_of old.packet) k (gateway_record_of w.takes-in-Packet-node.new.self)) (sym w.came-is) w.in_ok-came-in-Packet-node.ensures.taken)
-          c.settle.ensures.log
-    ]
+    brought_at old c.other-node.result c.get_mut-gateway.result.now c.takes.new.self c.get_mut-gateway.ensures.value old.records c.settle.new.self refl
+    sent.plane sent.from c.match-get.octets.now c.in_ok-came.came c.if-whole.late c.in_ok-came.ensures.taken c.settle.ensures.log
 
 late_now : (whole late given : Bool) (P : Type 0) → whole ≡ true → late ≡ given → (IsTrue given ↔ P) → IsTrue late ↔ IsTrue whole × P
 late_now whole late given P all is so = ((λ yes. (all, so.0 (sym is ∙ yes))), (λ both. is ∙ so.1 both.1))
@@ -56,12 +42,12 @@ never_late whole late P part is = ((λ yes. let e : false ≡ true = sym is ∙ 
 -- it is late where all of it comes and its answer was given up
 judged : (c : goal.After-settle) → IsTrue c.if-whole.late ↔ IsTrue c.args.whole × IsGivenUp (gateway_in (world_record_of c.args.self.now) c.other-node.result) c.index-datagram.result.now.sent.plane (arrival_of c.index-datagram.result.now.sent.from c.last_message-last.result.now)
 judged c =
-    let old = world_record_of c.args.self.now in
+    let old = c.args.self.now in
+    let node = c.other-node.result in
     let sent = c.index-datagram.result.now.sent in
     let request = arrival_of sent.from c.last_message-last.result.now in
     elim c.if-whole.branch [
-      | then-whole+in-Serving+in_ok-late-in-Serving w ↦ late_now c.args.whole c.if-whole.late _ _ w.if-whole.true w.late-is (subst (λ r. IsTrue w.in_ok-late-in-Serving.late ↔ IsGivenUp (gateway_in old r) sent.plane request) (sym w.in-Serving.is) w.in_ok-late-in-Serving.ensures)
-      | then-whole+in-Packet+in_ok-late-in-Packet w ↦ late_now c.args.whole c.if-whole.late _ _ w.if-whole.true w.late-is (subst (λ r. IsTrue w.in_ok-late-in-Packet.late ↔ IsGivenUp (gateway_in old r) sent.plane request) (sym w.in-Packet.is) w.in_ok-late-in-Packet.ensures)
+      | then-whole+in_ok-late w ↦ late_now c.args.whole c.if-whole.late _ _ w.if-whole.true w.late-is (subst (λ h. IsTrue w.in_ok-late.late ↔ IsGivenUp h sent.plane request) (was_at old node w.get-gateway.result.now w.get-gateway.ensures) w.in_ok-late.ensures)
       | else-whole w ↦ never_late c.args.whole c.if-whole.late _ w.if-whole.false w.late-is
     ]
 
