@@ -62,12 +62,17 @@ Among-cases x [] ys h = inr h
 Among-cases x (y ∷ xs) ys (inl here) = inl (inl here)
 Among-cases x (y ∷ xs) ys (inr there) = ⊎_elim (λ l. inl (inr l)) (λ r. inr r) (Among-cases x xs ys there)
 
+-- what is among one thing is that
+pub Among-only : {X : Type 0} (x y : X) → Among x (y ∷ []) → x ≡ y
+Among-only x y (inl is) = is
+Among-only x y (inr none) = absurd none
+
 -- the last of a list, and one of a list with one more after it
 pub Among-last : {X : Type 0} (x : X) (xs : List X) → Among x (xs ++ (x ∷ []))
 Among-last x xs = Among-right x xs (x ∷ []) (inl refl)
 
 pub Among-one_more : {X : Type 0} (x y : X) (xs : List X) → Among x (xs ++ (y ∷ [])) → Among x xs ⊎ (x ≡ y)
-Among-one_more x y xs h = ⊎_elim (λ l. inl l) (λ r. ⊎_elim (λ is. inr is) (λ none. absurd none) r) (Among-cases x xs (y ∷ []) h)
+Among-one_more x y xs h = ⊎_elim (λ l. inl l) (λ r. inr (Among-only x y r)) (Among-cases x xs (y ∷ []) h)
 
 pub get-insert_same : {X : Type 0} (m : FiniteMap X) (key : ℕ) (x : X) → get (insert m key x) key ≡ Some x
 get-insert_same m key x = grind (arith, gets, nat_tests)

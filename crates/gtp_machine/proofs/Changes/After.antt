@@ -259,7 +259,7 @@ module _ (role : Role) (history : List Sent) (taken : Arrival → Message → Ty
     knows = later (m ∷ n ∷ []);
     known = refl;
     told = nothing_told history (other role);
-    draws = Draws-again history role old (m ∷ n ∷ []) was.each (pair_apart m n was.few none);
+    draws = Draws-again history role old old (m ∷ n ∷ []) refl refl refl was.each (pair_apart m n was.few none);
     logs = Logs-again history role taken old old outcome (λ h stood. stood) destination (m ∷ n ∷ []) was.each;
     few = (was.few, tt);
   }

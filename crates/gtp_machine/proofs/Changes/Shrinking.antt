@@ -2,7 +2,7 @@
 use Rattle.std.proofs.Common.{◌≡◌, ◌≢◌, ◌⊎◌, inl, inr, ⊎_elim, ℕ, Bool, true, false, not, eqb, cond, ◌||◌, List, [], ◌∷◌, Option, Some, None, refl, sym, ◌∙◌, ap, subst}
 use Rattle.std.specs.FinMap.{get, insert}
 use Rattle.std.proofs.lemmas.Bool.{cases_eq, eq-eqb}
-use Rattle.gtp_values.specs.FiniteMap.{FiniteMap, kept}
+use Rattle.gtp_values.specs.FiniteMap.{FiniteMap, kept, changed}
 use Rattle.gtp_machine.specs.Node.{State, Pending, Active, Closing, Session, Bearer, PendingRequest, Node}
 use Rattle.gtp_machine.specs.Removal.{on, without, without_bearer, finished_about, closing_session, closing_bearer, session_closing, is_pending, is_opened}
 use Rattle.gtp_machine.specs.Recovery.{peer_restarted}
@@ -11,7 +11,7 @@ use Rattle.gtp_machine.specs.User.{ended_bearer}
 use Rattle.gtp_machine.specs.Serving.{RemovesEach}
 use Rattle.gtp_machine.proofs.Basics.FiniteMaps.{found-insert, found-remove, found-kept, found-changed, get-kept, get-insert_same, get-insert_other}
 use Rattle.gtp_machine.proofs.Origins.Contexts.{IsSame, IsSameBearer, IsSame-itself, IsSameBearer-itself, WasSession, StaysSession, Shrinks}
-use Rattle.gtp_machine.proofs.Basics.Facts.{pending_active}
+use Rattle.gtp_machine.proofs.Basics.Facts.{pending_active, not_or_right}
 
 -- the change of one node into another only shrinks its sessions and bearers
 abbrev pub NodeShrinks : Node → Node → Type 0
@@ -40,12 +40,13 @@ Shrinks-itself node = record {
   closed = λ t b s b_at s_at closing. inr (s, s_at, closing);
 }
 
-pub Shrunk-itself : (node : Node) → Shrunk node node
-Shrunk-itself node = record { shrinks = Shrinks-itself node; config = refl; counter = refl; drawn = refl; known = refl; held = refl; pending = λ number p e. e }
+-- sessions and bearers alone change
+contexts_shrunk : (node : Node) (sessions : FiniteMap Session) (bearers : FiniteMap Bearer) → Shrinks node.sessions node.bearers sessions bearers
+    → Shrunk node (record node { sessions = sessions; bearers = bearers })
+contexts_shrunk node sessions bearers shrinks = record { shrinks = shrinks; config = refl; counter = refl; drawn = refl; known = refl; held = refl; pending = λ number p e. e }
 
-not_or : (a b : Bool) → not (a || b) ≡ true → not b ≡ true
-not_or true b e = absurd (cc e)
-not_or false b e = e
+pub Shrunk-itself : (node : Node) → Shrunk node node
+Shrunk-itself node = contexts_shrunk node node.sessions node.bearers (Shrinks-itself node)
 
 pub Shrinks-without : (session_goes bearer_goes : ℕ → Bool) (node : Node) → NodeShrinks node (without session_goes bearer_goes node)
 Shrinks-without session_goes bearer_goes node = record {
@@ -56,7 +57,7 @@ Shrinks-without session_goes bearer_goes node = record {
         before = b;
         stood = found.1;
         same = IsSameBearer-itself b;
-        session = λ s stood. stays_itself (kept stays_session node.sessions) b.session s (get-kept stays_session node.sessions b.session s stood (not_or (bearer_goes t) (session_goes b.session) found.0));
+        session = λ s stood. stays_itself (kept stays_session node.sessions) b.session s (get-kept stays_session node.sessions b.session s stood (ap not (not_or_right (bearer_goes t) (session_goes b.session) found.0)));
       };
   closed = λ t b s b_at s_at closing. inr (s, (found-kept stays_session node.sessions b.session s s_at).1, closing);
 }
@@ -148,37 +149,23 @@ restart_leaves_pending node counter t s e =
 
 -- a bearer changes, but stays the same
 pub Shrunk-bearer : (node : Node) (key : ℕ) (b n : Bearer) → get node.bearers key ≡ Some b → IsSameBearer b n → Shrunk node (record node { bearers = insert node.bearers key n })
-Shrunk-bearer node key b n stands same = record {
-  shrinks = record {
-    sessions = λ t s e. was_itself node.sessions t s e;
-    bearers = λ t x e. ⊎_elim
-        (λ at. record { before = b; stood = ap (λ k. get node.bearers k) at.0 ∙ stands; same = subst (λ y. IsSameBearer b y) at.1 same; session = λ s stood. stays_itself node.sessions b.session s stood })
-        (λ old. record { before = x; stood = old.1; same = IsSameBearer-itself x; session = λ s stood. stays_itself node.sessions x.session s stood })
-        (found-insert node.bearers key n t x e);
-    closed = λ t x s x_at s_at closing. inr (s, s_at, closing);
-  };
-  config = refl;
-  counter = refl;
-  drawn = refl;
-  known = refl;
-  held = refl;
-  pending = λ number p e. e;
-}
+Shrunk-bearer node key b n stands same = contexts_shrunk node node.sessions (insert node.bearers key n) (record {
+  sessions = λ t s e. was_itself node.sessions t s e;
+  bearers = λ t x e. ⊎_elim
+      (λ at. record { before = b; stood = ap (λ k. get node.bearers k) at.0 ∙ stands; same = subst (λ y. IsSameBearer b y) at.1 same; session = λ s stood. stays_itself node.sessions b.session s stood })
+      (λ old. record { before = x; stood = old.1; same = IsSameBearer-itself x; session = λ s stood. stays_itself node.sessions x.session s stood })
+      (found-insert node.bearers key n t x e);
+  closed = λ t x s x_at s_at closing. inr (s, s_at, closing);
+})
 
 pub closing_same : (b : Bearer) → IsSameBearer b (record b { state = Closing })
-closing_same b = record { remote = refl; session = refl; identity = refl; kind = refl; active = λ h. absurd (impossible h); closing = λ h. refl }
-  where
-    impossible : Closing ≡ Active → ⊥
-    impossible h = cc
+closing_same b = record { remote = refl; session = refl; identity = refl; kind = refl; active = λ h. absurd (cc h); closing = λ h. refl }
 
 pub ended_same : (b : Bearer) → IsSameBearer b (ended_bearer b)
 ended_same b = record { remote = refl; session = refl; identity = refl; kind = refl; active = λ h. h; closing = λ h. h }
 
 closing_waited : (s : Session) → s.state ≡ Active → IsSame s (closing_session s)
-closing_waited s active = record { remote = refl; subscriber = refl; address = refl; waits = λ h. absurd (closing_not_pending h); waited = λ h. absurd (pending_active s.state h active) }
-  where
-    closing_not_pending : Closing ≡ Pending → ⊥
-    closing_not_pending e = cc
+closing_waited s active = record { remote = refl; subscriber = refl; address = refl; waits = λ h. absurd (cc h); waited = λ h. absurd (pending_active s.state h active) }
 
 same_if : (test : Bool) (b : Bearer) → IsSameBearer b (cond test (record b { state = Closing }) b)
 same_if true b = closing_same b
@@ -196,35 +183,27 @@ closed node session s stands active t x e (inr different) = stays_itself (insert
 
 -- an active session and its bearers are closing
 pub Shrunk-closing : (node : Node) (session : ℕ) (s : Session) → get node.sessions session ≡ Some s → s.state ≡ Active → Shrunk node (session_closing node session s)
-Shrunk-closing node session s stands active = record {
-  shrinks = record {
-    sessions = λ t x e. elim (found-insert node.sessions session (closing_session s) t x e) [
-      | inl same ↦ record { before = s; stood = ap (λ k. get node.sessions k) same.0 ∙ stands; same = subst (λ y. IsSame s y) same.1 (closing_waited s active) }
-      | inr old ↦ was_itself node.sessions t x old.1
-    ];
-    bearers = λ t b e.
-        let was = found-changed (closing_bearer session) node.bearers t b e in
-        record {
-          before = was.before;
-          stood = was.stood;
-          same = subst (λ y. IsSameBearer was.before y) (sym was.is) (same_if (eqb was.before.session session) was.before);
-          session = λ x stood. closed node session s stands active was.before.session x stood (cases_eq was.before.session session);
-        };
-    closed = λ t b x b_at x_at closing. ⊎_elim
-        (λ same.
-        let was = found-changed (closing_bearer session) node.bearers t b b_at in
-        let here : was.before.session ≡ session = (sym (same_if (eqb was.before.session session) was.before).session ∙ ap (λ (k : Bearer). k.session) (sym was.is)) ∙ same.0 in
-        inl (ap (λ (k : Bearer). k.state) was.is ∙ closes_if was.before session here))
-        (λ old. inr (x, old.1, closing))
-        (found-insert node.sessions session (closing_session s) b.session x x_at);
-  };
-  config = refl;
-  counter = refl;
-  drawn = refl;
-  known = refl;
-  held = refl;
-  pending = λ number p e. e;
-}
+Shrunk-closing node session s stands active = contexts_shrunk node (insert node.sessions session (closing_session s)) (changed (closing_bearer session) node.bearers) (record {
+  sessions = λ t x e. elim (found-insert node.sessions session (closing_session s) t x e) [
+    | inl same ↦ record { before = s; stood = ap (λ k. get node.sessions k) same.0 ∙ stands; same = subst (λ y. IsSame s y) same.1 (closing_waited s active) }
+    | inr old ↦ was_itself node.sessions t x old.1
+  ];
+  bearers = λ t b e.
+      let was = found-changed (closing_bearer session) node.bearers t b e in
+      record {
+        before = was.before;
+        stood = was.stood;
+        same = subst (λ y. IsSameBearer was.before y) (sym was.is) (same_if (eqb was.before.session session) was.before);
+        session = λ x stood. closed node session s stands active was.before.session x stood (cases_eq was.before.session session);
+      };
+  closed = λ t b x b_at x_at closing. ⊎_elim
+      (λ same.
+      let was = found-changed (closing_bearer session) node.bearers t b b_at in
+      let here : was.before.session ≡ session = (sym (same_if (eqb was.before.session session) was.before).session ∙ ap (λ (k : Bearer). k.session) (sym was.is)) ∙ same.0 in
+      inl (ap (λ (k : Bearer). k.state) was.is ∙ closes_if was.before session here))
+      (λ old. inr (x, old.1, closing))
+      (found-insert node.sessions session (closing_session s) b.session x x_at);
+})
 
 -- bearers that are removed one after the other
 pub removes_each : (session : ℕ) (identities : List ℕ) (from : Node) (contexts : List RemovedBearer) (new : Node) → RemovesEach session identities from contexts new → Shrunk from new

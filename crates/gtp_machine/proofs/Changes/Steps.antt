@@ -4,13 +4,15 @@ use Rattle.std.specs.FinMap.{get}
 use Rattle.gtp_values.specs.declared.address.Endpoint.{Endpoint}
 use Rattle.gtp_values.specs.FiniteMap.{Among}
 use Rattle.gtp_machine.specs.Message.{Message, CreateBearerRequest, CreateBearerResponse, Create_bearer_request, Create_bearer_response, Packet_data, Owns, recovery_of, first_given, first_returned}
-use Rattle.gtp_machine.specs.Node.{Role, Packet, Session, Arrival, Held, Node}
-use Rattle.gtp_machine.specs.Input.{EventOutcome, Entry, Out, Effect, nothing, says_all, says, messages}
+use Rattle.gtp_machine.specs.Node.{Role, Packet, Session, Arrival, Held, Node, holding}
+use Rattle.gtp_machine.specs.Input.{Sending, EventOutcome, Entry, Out, Effect, nothing, says_all, says, messages}
 use Rattle.gtp_machine.specs.Choice.{IsFree}
 use Rattle.gtp_machine.specs.World.{other, Sent, HasSent}
+use Rattle.gtp_machine.proofs.Basics.FiniteMaps.{Among-only, Among-left, Among-last}
 use Rattle.gtp_machine.proofs.Origins.Drawing.{Draws, IsMadeNow}
 use Rattle.gtp_machine.proofs.Origins.Entries.{IsFor}
 use Rattle.gtp_machine.proofs.Basics.Kinds.{creates}
+use Rattle.gtp_machine.specs.Answer.{making}
 use Rattle.gtp_values.proofs.Outcomes.{none_some}
 
 -- a packet that was handed in in this step
@@ -57,51 +59,53 @@ IsPlain (Create_bearer_response x) = first_given x.contexts ≡ None
 IsPlain _ = Unit {0}
 
 module _ (history : List Sent) (role : Role) (taken : Arrival → Message → Type 0) (old new : Node) (outcome : EventOutcome) (held : (h : Held) → Among h old.held → Among h new.held) where
+  -- no packet is handed in or accepted, and no context is made
+  Logs-said : (sent : List Sending) (gave_up : List ℕ)
+      → ((target : ℕ) (payload : List ℕ) → Among (Packet_data target payload) (messages sent) → HasSent history role (Packet_data target payload))
+      → ((x : CreateBearerResponse) (t : ℕ) → Among (Create_bearer_response x) (messages sent) → first_given x.contexts ≡ Some t → HasSent history role (Create_bearer_response x))
+      → Logs history role taken old (record { out = record nothing { sent = sent; gave_up = gave_up }; outcome = outcome; node = new })
+  Logs-said sent gave_up packets answers = record {
+    held_stays = λ h was. inl (held h was);
+    packets = λ target payload among. inl (packets target payload among);
+    handed = λ e none. absurd none;
+    accepted = λ e none. absurd none;
+    answers = λ x t among gives. inl (answers x t among gives);
+    made = inl refl;
+  }
+
   pub Logs-silent : (gave_up : List ℕ) → Logs history role taken old (record { out = record nothing { gave_up = gave_up }; outcome = outcome; node = new })
-  Logs-silent gave_up = record {
-    held_stays = λ h was. inl (held h was);
-    packets = λ target payload none. absurd none;
-    handed = λ e none. absurd none;
-    accepted = λ e none. absurd none;
-    answers = λ x t none. absurd none;
-    made = inl refl;
-  }
+  Logs-silent gave_up = Logs-said [] gave_up (λ target payload none. absurd none) (λ x t none. absurd none)
 
-  -- one message is said, and what it says of packets and bearers was said before
-  Logs-one : (destination : Endpoint) (m : Message) → ((target : ℕ) (payload : List ℕ) → Packet_data target payload ≡ m → HasSent history role (Packet_data target payload)) → ((x : CreateBearerResponse) (t : ℕ) → Create_bearer_response x ≡ m → first_given x.contexts ≡ Some t → HasSent history role (Create_bearer_response x)) → Logs history role taken old (record { out = says destination m; outcome = outcome; node = new })
-  Logs-one destination m packet answer = record {
-    held_stays = λ h was. inl (held h was);
-    packets = packets;
-    handed = λ e none. absurd none;
-    accepted = λ e none. absurd none;
-    answers = answers;
-    made = inl refl;
-  }
-    where
-      packets : (target : ℕ) (payload : List ℕ) → Among (Packet_data target payload) (m ∷ []) → HasSent history role (Packet_data target payload) ⊎ IsHandedNow (says destination m) target payload
-      packets target payload (inl is) = inl (packet target payload is)
-      packets target payload (inr none) = absurd none
-
-      answers : (x : CreateBearerResponse) (t : ℕ) → Among (Create_bearer_response x) (m ∷ []) → first_given x.contexts ≡ Some t → HasSent history role (Create_bearer_response x) ⊎ IsAnsweredNow history old new taken x
-      answers x t (inl is) gives = inl (answer x t is gives)
-      answers x t (inr none) gives = absurd none
-
+  -- one message is said, which is no packet and gives no bearer, or was said before
   pub Logs-plain : (destination : Endpoint) (m : Message) → IsPlain m → Logs history role taken old (record { out = says destination m; outcome = outcome; node = new })
-  Logs-plain destination m plain = Logs-one destination m (λ target payload is. absurd (subst IsPlain (sym is) plain)) (λ x t is gives. absurd (none_some t (sym (subst IsPlain (sym is) plain) ∙ gives)))
-
-  pub Logs-repeat : (destination : Endpoint) (m : Message) → HasSent history role m → Logs history role taken old (record { out = says destination m; outcome = outcome; node = new })
-  Logs-repeat destination m was = Logs-one destination m (λ target payload is. subst (λ k. HasSent history role k) (sym is) was) (λ x t is gives. subst (λ k. HasSent history role k) (sym is) was)
+  Logs-plain destination m plain =
+      Logs-said (says destination m).sent []
+      (λ target payload among. absurd (subst IsPlain (sym (Among-only _ m among)) plain))
+      (λ x t among gives. absurd (none_some t (sym (subst IsPlain (sym (Among-only _ m among)) plain) ∙ gives)))
 
   -- messages that were sent before are sent again
   pub Logs-again : (destination : Endpoint) (datagram : List Message) → ((m : Message) → Among m (messages (says_all destination datagram).sent) → HasSent history role m) → Logs history role taken old (record { out = says_all destination datagram; outcome = outcome; node = new })
-  Logs-again destination datagram was = record {
-    held_stays = λ h stood. inl (held h stood);
-    packets = λ target payload among. inl (was (Packet_data target payload) among);
-    handed = λ e none. absurd none;
-    accepted = λ e none. absurd none;
-    answers = λ x t among gives. inl (was (Create_bearer_response x) among);
-    made = inl refl;
-  }
+  Logs-again destination datagram was =
+      Logs-said (says_all destination datagram).sent []
+      (λ target payload among. was (Packet_data target payload) among)
+      (λ x t among gives. was (Create_bearer_response x) among)
+
+  pub Logs-repeat : (destination : Endpoint) (m : Message) → HasSent history role m → Logs history role taken old (record { out = says destination m; outcome = outcome; node = new })
+  Logs-repeat destination m was = Logs-again destination (m ∷ []) (λ n among. subst (λ k. HasSent history role k) (sym (Among-only n m among)) was)
+
+-- a context is made, and the answer that is held from now on says no packet
+pub Logs-made : (history : List Sent) (role : Role) (taken : Arrival → Message → Type 0) (old : Node) (request : Arrival) (answer : List Message) (cause : ℕ) (new : Node) (m : Message) → creates role m ≡ true → taken request m → new.held ≡ old.held
+    → ((target : ℕ) (payload : List ℕ) → Among (Packet_data target payload) (messages (making request answer cause new).out.sent) → ⊥)
+    → ((x : CreateBearerResponse) (t : ℕ) → Among (Create_bearer_response x) (messages (making request answer cause new).out.sent) → first_given x.contexts ≡ Some t → HasSent history role (Create_bearer_response x) ⊎ IsAnsweredNow history old (holding request answer new) taken x)
+    → Logs history role taken old (making request answer cause new)
+Logs-made history role taken old request answer cause new m creates came same packets answers = record {
+  held_stays = λ h stood. inl (Among-left h new.held _ (subst (Among h) (sym same) stood));
+  packets = λ target payload among. absurd (packets target payload among);
+  handed = λ e none. absurd none;
+  accepted = λ e none. absurd none;
+  answers = answers;
+  made = inr (record { arrival = request; is = refl; message = m; creates = creates; came = came; answer = answer; held = Among-last {X = Held} (record { request = request; answer = answer }) new.held });
+}
 
 -- a result of a row, from what the row says of it
 pub at_result : (P : Effect → Type 0) (e f : Effect) → e ≡ f → P f → P e

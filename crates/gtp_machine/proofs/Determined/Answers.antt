@@ -16,10 +16,8 @@ use Rattle.gtp_machine.specs.Sound.{AreApart}
 use Rattle.gtp_machine.proofs.Determined.Alike.{Fits, WaitsBeside, Alike, Determines, the_same, says_it, by_effects, unless_plain, unless_one}
 use Rattle.gtp_machine.proofs.Determined.Witnesses.{IsLeft, was_session, was_bearer, undrawn_before, apart_left, one_session, one_named}
 use Rattle.gtp_machine.proofs.Changes.Shrinking.{Shrinks-without}
+use Rattle.std.proofs.lemmas.Option.{same_Some}
 use Rattle.gtp_machine.proofs.Determined.Chosen.{last_drawn, rest_drawn, second_drawn, comes_beside, one_cause, one_address}
-
-same_some : {X : Type 0} (x y : X) → ◌≡◌ {A = Option X} (Some x) (Some y) → x ≡ y
-same_some x y e = cc
 
 -- the contexts of an answer, and the gateway that is left, for a list of identities
 removes_one : (session : ℕ) (identities : List ℕ) (old : Node) (contexts others : List RemovedBearer) (left right : Node) → AreApart old.bearers → RemovesEach session identities old contexts left → RemovesEach session identities old others right → (contexts ≡ others) × (left ≡ right)
@@ -100,7 +98,7 @@ module _ {first : Node} {reading : ControlReading} (request : Arrival) (old : No
     one = λ alike.
         let user : r.user ≡ s.user = last_drawn r.user s.user _ _ alike.drawn in
         let identity : r.identity ≡ s.identity =
-        same_some r.identity s.identity (alike.identities request reading refl refl (λ none. cc none) old.bearers r.user _ _
+        same_Some r.identity s.identity (alike.identities request reading refl refl (λ none. cc none) old.bearers r.user _ _
         (comes_beside first.bearers old.bearers first.drawn (was_bearer first old left) fits.bearers r.user r.user _ refl (undrawn_before first old r.user left r.user_free))
         (comes_beside first.bearers old.bearers first.drawn (was_bearer first old left) fits.bearers r.user s.user _ user (undrawn_before first old r.user left r.user_free)) refl) in
         cc;

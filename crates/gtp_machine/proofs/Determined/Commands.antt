@@ -5,7 +5,7 @@ use Rattle.gtp_values.specs.declared.qos.Qos.{Qos}
 use Rattle.gtp_machine.specs.Node.{Role, Serving, Packet, Closing, Session, Bearer, PendingRequest, Node}
 use Rattle.gtp_machine.specs.Input.{Specification, Command, Create_session, Delete_session, Create_bearer, Delete_bearer, Release_session, Mark_end, Send_echo, Send_user, Commanded, Effect}
 use Rattle.gtp_machine.specs.Removal.{session_closing}
-use Rattle.gtp_machine.specs.Command.{asks, BeginsSession, ClosesSession, ReleasesSession, BeginsBearer, ClosesBearer, SendsEcho, SendsPacket, SessionBegun, SessionDeleted, BearerBegun, BearerDeleted, SessionReleased, EndMarked, EchoBegun, PacketSent, CommandStep}
+use Rattle.gtp_machine.specs.Command.{asks, BeginsSession, ClosesSession, ReleasesSession, BeginsBearer, ClosesBearer, SendsEcho, SendsPacket, EndMarked, PacketSent, CommandStep}
 use Rattle.gtp_machine.specs.Sound.{AreApart}
 use Rattle.gtp_machine.proofs.Basics.Facts.{one_value}
 use Rattle.gtp_machine.proofs.Determined.Alike.{Alike, Determines, is_one, the_same, says_it, by_effects, unless_plain, unless_moved, unless_one}
@@ -54,37 +54,6 @@ module _ {role : Role} (command : Command) (old : Node) where
   sends_echo : Determines (Alike role old (Commanded command)) (SendsEcho old)
   sends_echo e f r s = asks_alike r.number s.number _ _ _ old e f (λ same. cc) r.number_free.unused r.gives s.gives
 
-  session_begun : (by : Role) (spec : Specification) → Determines (Alike role old (Commanded command)) (SessionBegun by spec old)
-  session_begun Packet spec = says_it
-  session_begun Serving spec = unless_plain says_it (unless_plain says_it (unless_plain says_it (begins_session spec)))
-
-  session_deleted : (by : Role) (session : ℕ) → Determines (Alike role old (Commanded command)) (SessionDeleted by session old)
-  session_deleted Packet session = says_it
-  session_deleted Serving session = unless_one (one_session old session) says_it (λ at. unless_plain says_it (unless_plain says_it (closes_session session at.session)))
-
-  bearer_begun : (by : Role) (session : ℕ) (tft : List ℕ) (qos : Qos) → Determines (Alike role old (Commanded command)) (BearerBegun by session tft qos old)
-  bearer_begun Serving session tft qos = says_it
-  bearer_begun Packet session tft qos = unless_one (one_session old session) says_it (λ at. unless_plain says_it (unless_plain says_it (unless_plain says_it (begins_bearer session at.session tft qos))))
-
-  bearer_deleted : (by : Role) (session identity : ℕ) → AreApart old.bearers → Determines (Alike role old (Commanded command)) (BearerDeleted by session identity old)
-  bearer_deleted Serving session identity apart = says_it
-  bearer_deleted Packet session identity apart =
-      unless_one (one_session old session) says_it (λ at.
-      unless_moved
-      (λ named other f s.
-      let key : other.key ≡ named.key = one_named old session identity apart other named in
-      let bearer : other.at.bearer ≡ named.at.bearer = cc in
-      rw (key, bearer) at s)
-      says_it
-      (λ named. unless_plain says_it (unless_plain says_it (closes_bearer session at.session identity named.key named.at.bearer))))
-
-  session_released : (by : Role) (session : ℕ) → Determines (Alike role old (Commanded command)) (SessionReleased by session old)
-  session_released Serving session = says_it
-  session_released Packet session = unless_one (one_session old session) says_it (λ at. unless_plain says_it (unless_plain says_it (releases_session session at.session)))
-
-  echo_begun : Determines (Alike role old (Commanded command)) (EchoBegun old)
-  echo_begun = unless_plain says_it sends_echo
-
 -- ---- nothing is chosen for an End Marker and a packet
 
 module _ (role : Role) (bearer : ℕ) (old : Node) where
@@ -99,11 +68,30 @@ end_marked Serving bearer old = is_one
 end_marked Packet bearer old = unless_one (one_bearer old bearer) is_one (λ at. unless_plain is_one (unless_plain is_one is_one))
 
 pub command_done : (role : Role) (command : Command) (old : Node) → AreApart old.bearers → Determines (Alike role old (Commanded command)) (CommandStep role command old)
-command_done role (Create_session spec) old apart = session_begun (Create_session spec) old role spec
-command_done role (Delete_session session) old apart = session_deleted (Delete_session session) old role session
-command_done role (Create_bearer session tft qos) old apart = bearer_begun (Create_bearer session tft qos) old role session tft qos
-command_done role (Delete_bearer session identity) old apart = bearer_deleted (Delete_bearer session identity) old role session identity apart
-command_done role (Release_session session) old apart = session_released (Release_session session) old role session
+command_done Packet (Create_session spec) old apart = says_it
+command_done Serving (Create_session spec) old apart = unless_plain says_it (unless_plain says_it (unless_plain says_it (begins_session (Create_session spec) old spec)))
+command_done Packet (Delete_session session) old apart = says_it
+command_done Serving (Delete_session session) old apart =
+    unless_one (one_session old session) says_it
+    (λ at. unless_plain says_it (unless_plain says_it (closes_session (Delete_session session) old session at.session)))
+command_done Serving (Create_bearer session tft qos) old apart = says_it
+command_done Packet (Create_bearer session tft qos) old apart =
+    unless_one (one_session old session) says_it
+    (λ at. unless_plain says_it (unless_plain says_it (unless_plain says_it (begins_bearer (Create_bearer session tft qos) old session at.session tft qos))))
+command_done Serving (Delete_bearer session identity) old apart = says_it
+command_done Packet (Delete_bearer session identity) old apart =
+    unless_one (one_session old session) says_it (λ at.
+    unless_moved
+    (λ named other f s.
+    let key : other.key ≡ named.key = one_named old session identity apart other named in
+    let bearer : other.at.bearer ≡ named.at.bearer = cc in
+    rw (key, bearer) at s)
+    says_it
+    (λ named. unless_plain says_it (unless_plain says_it (closes_bearer (Delete_bearer session identity) old session at.session identity named.key named.at.bearer))))
+command_done Serving (Release_session session) old apart = says_it
+command_done Packet (Release_session session) old apart =
+    unless_one (one_session old session) says_it
+    (λ at. unless_plain says_it (unless_plain says_it (releases_session (Release_session session) old session at.session)))
 command_done role (Mark_end bearer) old apart = λ e f r s. the_same e f (end_marked role bearer old e f r s)
-command_done role Send_echo old apart = echo_begun Send_echo old
+command_done role Send_echo old apart = unless_plain says_it (sends_echo Send_echo old)
 command_done role (Send_user bearer payload) old apart = λ e f r s. the_same e f (packet_sent role bearer old payload e f r s)

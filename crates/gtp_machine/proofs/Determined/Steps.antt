@@ -12,7 +12,7 @@ use Rattle.gtp_machine.specs.Node.{Role, Serving, Packet, Bearer, PendingRequest
 use Rattle.gtp_machine.specs.Input.{ControlReading, Control_message, Faulty, Control_fault, UserReading, User_message, Extension_needed, User_fault, Input, Commanded, Control_came, User_came, Moves_on, Out, Effect}
 use Rattle.gtp_machine.specs.MessageType.{answers_type}
 use Rattle.gtp_machine.specs.Recovery.{Judges, Weighs, Hears, peer_restarted}
-use Rattle.gtp_machine.specs.User.{Accepts, PacketCame, EndCame, UserTaken, UserRead, UserStep}
+use Rattle.gtp_machine.specs.User.{Accepts, EndCame, UserTaken, UserRead, UserStep}
 use Rattle.gtp_machine.specs.Answer.{Repeats, IsNew, TakesReading, ControlStep}
 use Rattle.gtp_machine.specs.Serving.{ServingTakes}
 use Rattle.gtp_machine.specs.Packet.{PacketTakes}
@@ -112,17 +112,14 @@ module _ (role : Role) (Takes : Arrival → Message → Node → Effect → Type
 accepts : (old : Node) (target : ℕ) (payload : List ℕ) (at : Bearer) → Determines ◌≡◌ (Accepts old target payload at)
 accepts old target payload at e f r s = let session : r.of.session ≡ s.of.session = one_value _ _ _ r.of.stands s.of.stands in cc
 
-packet_came : (role : Role) (target : ℕ) (payload : List ℕ) (old : Node) → Determines ◌≡◌ (PacketCame role target payload old)
-packet_came role target payload old = unless_one (one_bearer old target) is_one (λ at. unless_plain is_one (unless_plain is_one (accepts old target payload at.bearer)))
-
-end_came : (role : Role) (target : ℕ) (old : Node) → Determines ◌≡◌ (EndCame role target old)
-end_came Serving target old = unless_one (one_bearer old target) is_one (λ at. unless_plain is_one is_one)
-end_came Packet target old = is_one
-
 module _ (role : Role) (source : Endpoint) (old : Node) where
+  end_came : (by : Role) (target : ℕ) → Determines ◌≡◌ (EndCame by target old)
+  end_came Serving target = unless_one (one_bearer old target) is_one (λ at. unless_plain is_one is_one)
+  end_came Packet target = is_one
+
   user_taken : (m : Message) → Determines ◌≡◌ (UserTaken role source m old)
-  user_taken (Packet_data target payload) = packet_came role target payload old
-  user_taken (End_marker target) = end_came role target old
+  user_taken (Packet_data target payload) = unless_one (one_bearer old target) is_one (λ at. unless_plain is_one (unless_plain is_one (accepts old target payload at.bearer)))
+  user_taken (End_marker target) = end_came role target
   user_taken (Error_indication remote address) = unless_plain is_one is_one
   user_taken (User_echo_request number) = is_one
   user_taken m = is_one

@@ -1,5 +1,5 @@
 -- The request of a template's bearer and its answers can be sent, where what they carry has room in them.
-use Rattle.std.proofs.Common.{◌≡◌, ℕ, ◌^◌, ◌<◌, ◌≤◌, length, List, [], ◌∷◌, Some, None, true, false, refl, subst, arith, rules}
+use Rattle.std.proofs.Common.{◌≡◌, ℕ, ◌+◌, ◌^◌, ◌<◌, ◌≤◌, length, List, [], ◌∷◌, Some, None, true, false, refl, subst, arith, rules}
 use Rattle.std.specs.Prelude.{All, nat_eq, Bool}
 use Rattle.std.specs.Cmp.Lexicographic.{pointwise}
 use Rattle.std.proofs.lemmas.List.Elements.{All-head, All-tail}
@@ -11,6 +11,7 @@ use Rattle.gtp_ie.specs.Value.{OfCause, OfEbi, OfTft, OfQos, OfFTeid, OfCharging
 use Rattle.gtp_ie.proofs.Again.{recovery_again, ebi_again, charging_id_again}
 use Rattle.gtp_ie.proofs.AgainNames.{tft_again}
 use Rattle.gtp_v2.specs.Encoding.{carried}
+use Rattle.gtp_v2.specs.Marks.{MeetsMarks}
 use Rattle.gtp_v2.specs.Kinds.{RowsHaveKinds}
 use Rattle.gtp_v2.specs.Text.{value_encoding, groups_encoding, rows_encoding}
 use Rattle.gtp_v2.specs.CreateBearerRequest.{bearer_request_context_rows}
@@ -22,6 +23,7 @@ use Rattle.gtp_machine.specs.Choice.{IsIdentity}
 use Rattle.gtp_machine.specs.Spelling.{control_value, wanted_rows, given_rows, IsSendable}
 use Rattle.gtp_machine.specs.Exchange.{IsQos}
 use Rattle.gtp_machine.proofs.Exchange.Ranges.{IsAtMost, nothing, with_more, group_more, octet_short, cause_short, end_short, qos_short, charging_short, headed_octets, identity_again, alone, spelled_cause, spelled_end, spelled_qos}
+use Rattle.gtp_machine.proofs.Basics.Facts.{◌⊗◌}
 use Rattle.gtp_machine.proofs.Octets.AsOctets.{none, and, element_octets}
 
 -- what holds of each template holds of that of an access point
@@ -66,16 +68,11 @@ module _ (header number linked : ℕ) (tft : List ℕ) (qos : Qos) (user : ℕ) 
     own = tt;
     meets = record {
       header = (header_small, number_small);
-      kinds = (
-        tt,
-        (
-          ebi_again linked (identity_again linked identity),
-          (
-            alone (RowsHaveKinds bearer_request_context_rows) _ (ebi_again 0 (omega arith), (tft_again tft short, (spelled_end 5 user own address (omega arith) user_small, (spelled_qos qos quality, (charging_id_again user user_small, tt))))),
-            tt,
-          ),
-        ),
-      );
+      kinds =
+          tt
+          ⊗ ebi_again linked (identity_again linked identity)
+          ⊗ alone (RowsHaveKinds bearer_request_context_rows) _ (ebi_again 0 (omega arith) ⊗ tft_again tft short ⊗ spelled_end 5 user own address (omega arith) user_small ⊗ spelled_qos qos quality ⊗ charging_id_again user user_small ⊗ tt)
+          ⊗ tt;
       marks = search rules;
       short = omega (arith, wanted_carried.few);
     };
@@ -84,14 +81,32 @@ module _ (header number linked : ℕ) (tft : List ℕ) (qos : Qos) (user : ℕ) 
 
 -- its answers: one gives a bearer, and one says that there is none to give
 module _ (header number counter user : ℕ) (own : Ip) (header_small : header < 2 ^ 32) (number_small : number < 2 ^ 24) (counter_small : counter < 256) (user_small : user < 2 ^ 32) (address : IsIp own) where
-  counter_short : IsAtMost (element_encoding 3 0 (counter ∷ [])) 5
-  counter_short = record { few = omega arith; octets = element_octets 3 0 (counter ∷ []) (omega arith) (omega arith) (and counter [] counter_small none) }
+  -- an answer with this cause and this bearer context
+  abbrev answer : ℕ → GivenBearer → CreateBearerResponse
+  answer cause context = record { header = header; number = number; cause = cause_of cause; contexts = context ∷ []; recovery = Some counter }
+
+  answer_sendable : (cause : ℕ) (context : GivenBearer) (most : ℕ) → cause < 256 → most ≤ 416 → IsAtMost (rows_encoding bearer_response_context_rows (given_rows context)) most
+      → RowsHaveKinds bearer_response_context_rows (given_rows context)
+      → MeetsMarks (control_value (Create_bearer_response (answer cause context))) → IsSendable (Create_bearer_response (answer cause context))
+  unfolding encoding_of value_encoding groups_encoding
+  answer_sendable cause context most low few context_short context_kinds marks =
+      let counter_short : IsAtMost (element_encoding 3 0 (counter ∷ [])) 5 = record { few = omega arith; octets = element_octets 3 0 (counter ∷ []) (omega arith) (omega arith) (and counter [] counter_small none) } in
+      let short : IsAtMost (carried (control_value (Create_bearer_response (answer cause context)))) (4 + 100 + (4 + most + 5)) =
+      with_more 2 0 100 (encoding_of (OfCause (cause_of cause))) _ (4 + most + 5) (search rules) (cause_short cause low)
+      (group_more 93 0 most (rows_encoding bearer_response_context_rows (given_rows context)) _ 5 (search rules) context_short counter_short) in
+      record {
+        own = tt;
+        meets = record {
+          header = (header_small, number_small);
+          kinds = spelled_cause cause ⊗ alone (RowsHaveKinds bearer_response_context_rows) _ context_kinds ⊗ recovery_again counter ⊗ tt;
+          marks = marks;
+          short = omega (arith, short.few, few);
+        };
+        octets = headed_octets 96 header number _ (omega arith) short.octets;
+      }
 
   abbrev none_given : GivenBearer
   none_given = record { identity = 0; cause = cause_of 73; serving_user = None; packet_user = Some (tunnel_end 5 user own) }
-
-  abbrev refusal : CreateBearerResponse
-  refusal = record { header = header; number = number; cause = cause_of 73; contexts = none_given ∷ []; recovery = Some counter }
 
   none_short : IsAtMost (rows_encoding bearer_response_context_rows (given_rows none_given)) 312
   unfolding encoding_of value_encoding
@@ -100,37 +115,12 @@ module _ (header number counter user : ℕ) (own : Ip) (header_small : header < 
       (with_more 2 0 100 (encoding_of (OfCause (cause_of 73))) _ 104 (search rules) (cause_short 73 (omega arith))
       (with_more 87 3 100 (encoding_of (OfFTeid (tunnel_end 5 user own))) [] 0 (search rules) (end_short 5 user own (omega arith) address) nothing))
 
-  refusal_carried : IsAtMost (carried (control_value (Create_bearer_response refusal))) 425
-  unfolding encoding_of value_encoding groups_encoding
-  refusal_carried =
-      with_more 2 0 100 (encoding_of (OfCause (cause_of 73))) _ 321 (search rules) (cause_short 73 (omega arith))
-      (group_more 93 0 312 (rows_encoding bearer_response_context_rows (given_rows none_given)) _ 5 (search rules) none_short counter_short)
-
-  pub refusal_sendable : IsSendable (Create_bearer_response refusal)
-  unfolding encoding_of value_encoding groups_encoding
-  refusal_sendable = record {
-    own = tt;
-    meets = record {
-      header = (header_small, number_small);
-      kinds = (
-        spelled_cause 73,
-        (
-          alone (RowsHaveKinds bearer_response_context_rows) _ (ebi_again 0 (omega arith), (spelled_cause 73, (tt, (spelled_end 5 user own address (omega arith) user_small, tt)))),
-          (recovery_again counter, tt),
-        ),
-      );
-      marks = search rules;
-      short = omega (arith, refusal_carried.few);
-    };
-    octets = headed_octets 96 header number _ (omega arith) refusal_carried.octets;
-  }
+  pub refusal_sendable : IsSendable (Create_bearer_response (answer 73 none_given))
+  refusal_sendable = answer_sendable 73 none_given 312 (omega arith) (omega arith) none_short (ebi_again 0 (omega arith) ⊗ spelled_cause 73 ⊗ tt ⊗ spelled_end 5 user own address (omega arith) user_small ⊗ tt) (search rules)
 
   module _ (identity given : ℕ) (there : Ip) (is_identity : IsIdentity identity) (given_small : given < 2 ^ 32) (address_there : IsIp there) where
     abbrev context_given : GivenBearer
     context_given = record { identity = identity; cause = cause_of 16; serving_user = Some (tunnel_end 4 given there); packet_user = Some (tunnel_end 5 user own) }
-
-    abbrev grant : CreateBearerResponse
-    grant = record { header = header; number = number; cause = cause_of 16; contexts = context_given ∷ []; recovery = Some counter }
 
     given_short : IsAtMost (rows_encoding bearer_response_context_rows (given_rows context_given)) 416
     unfolding encoding_of value_encoding
@@ -140,27 +130,5 @@ module _ (header number counter user : ℕ) (own : Ip) (header_small : header < 
         (with_more 87 2 100 (encoding_of (OfFTeid (tunnel_end 4 given there))) _ 104 (search rules) (end_short 4 given there (omega arith) address_there)
         (with_more 87 3 100 (encoding_of (OfFTeid (tunnel_end 5 user own))) [] 0 (search rules) (end_short 5 user own (omega arith) address) nothing)))
 
-    grant_carried : IsAtMost (carried (control_value (Create_bearer_response grant))) 529
-    unfolding encoding_of value_encoding groups_encoding
-    grant_carried =
-        with_more 2 0 100 (encoding_of (OfCause (cause_of 16))) _ 425 (search rules) (cause_short 16 (omega arith))
-        (group_more 93 0 416 (rows_encoding bearer_response_context_rows (given_rows context_given)) _ 5 (search rules) given_short counter_short)
-
-    pub grant_sendable : IsSendable (Create_bearer_response grant)
-    unfolding encoding_of value_encoding groups_encoding
-    grant_sendable = record {
-      own = tt;
-      meets = record {
-        header = (header_small, number_small);
-        kinds = (
-          spelled_cause 16,
-          (
-            alone (RowsHaveKinds bearer_response_context_rows) _ (ebi_again identity (identity_again identity is_identity), (spelled_cause 16, (spelled_end 4 given there address_there (omega arith) given_small, (spelled_end 5 user own address (omega arith) user_small, tt)))),
-            (recovery_again counter, tt),
-          ),
-        );
-        marks = search rules;
-        short = omega (arith, grant_carried.few);
-      };
-      octets = headed_octets 96 header number _ (omega arith) grant_carried.octets;
-    }
+    pub grant_sendable : IsSendable (Create_bearer_response (answer 16 context_given))
+    grant_sendable = answer_sendable 16 context_given 416 (omega arith) (omega arith) given_short (ebi_again identity (identity_again identity is_identity) ⊗ spelled_cause 16 ⊗ spelled_end 4 given there address_there (omega arith) given_small ⊗ spelled_end 5 user own address (omega arith) user_small ⊗ tt) (search rules)

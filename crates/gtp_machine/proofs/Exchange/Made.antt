@@ -14,7 +14,7 @@ use Rattle.gtp_machine.specs.Config.{Addresses, Config, template_for, user_end}
 use Rattle.gtp_machine.specs.Element.{IsAccepting, PdnAddress, cause_of, tunnel_end, teid_in}
 use Rattle.gtp_machine.specs.Message.{CreateSessionRequest, CreateSessionResponse, CreateBearerRequest, Message, Create_session_request, Create_session_response, Packet_data, plane_of, Control, User, Create_bearer_request, Create_bearer_response, Owns}
 use Rattle.gtp_machine.specs.Node.{Role, Serving, Packet, Active, Session, Bearer, Arrival, Node, holding, written}
-use Rattle.gtp_machine.specs.Input.{Entry, Specification, Create_session, Send_user, entry_for, Input, Commanded, Control_came, User_came, Control_message, User_message, Effect, Came_to, Opened, messages, datagrams}
+use Rattle.gtp_machine.specs.Input.{Entry, Specification, Create_session, Send_user, entry_for, Commanded, Control_came, User_came, Control_message, User_message, Effect, Came_to, Opened, messages, datagrams}
 use Rattle.gtp_machine.specs.Choice.{IsFree, IsGiven, counter_of}
 use Rattle.gtp_machine.specs.Command.{bearer_request, BeginsSession, MayGo, SendsPacket, PacketSent, asks, session_request, session_begun, pending_session, pending_bearer}
 use Rattle.gtp_machine.specs.User.{MayCome, Accepts, UserStep}
@@ -25,15 +25,15 @@ use Rattle.gtp_machine.specs.Recovery.{heard_by}
 use Rattle.gtp_machine.specs.Reading.{control_reading}
 use Rattle.gtp_machine.specs.Spelling.{ReadsAs, spelled, announcing, IsSendable}
 use Rattle.gtp_machine.specs.Step.{Step}
-use Rattle.gtp_machine.specs.World.{World, Sent, SentDatagram, HasSent, Side, Event, Does, Deliver, Happens, Delivers, Moves, Run, other, side_of, signed, marked_late, come_from, arrival, first_came, second_came, delivered_on, start}
+use Rattle.gtp_machine.specs.World.{World, Sent, SentDatagram, HasSent, Side, Event, Does, Deliver, Happens, Delivers, Moves, Run, other, side_of, signed, marked_late, come_from, arrival, first_came, delivered_on, start}
 use Rattle.gtp_machine.specs.Exchange.{AllRead, IsOnePath, IsTemplate, IsConfigured, IsSpecified, CanExchange, CameTo, Carries, IsMade, Exchanged, FairExchange, ExchangeSendable}
 use Rattle.gtp_machine.proofs.Basics.Ages.{earlier_start}
-use Rattle.gtp_machine.proofs.Basics.FiniteMaps.{get-insert_same, Among-left, Among-right, Among-last}
+use Rattle.gtp_machine.proofs.Basics.FiniteMaps.{Among-only, get-insert_same, Among-left, Among-right, Among-last}
 use Rattle.gtp_machine.proofs.Origins.Drawing.{Drawing, unowned, by_cases}
 use Rattle.gtp_machine.proofs.Worlds.Hearing.{Hearing}
-use Rattle.gtp_machine.proofs.Worlds.Runs.{Invariant, always}
+use Rattle.gtp_machine.proofs.Worlds.Runs.{Invariant, always, side_in}
 use Rattle.gtp_machine.proofs.Exchange.Held.{HeldOfSent, not_announcing, always_held}
-use Rattle.gtp_machine.proofs.Worlds.Coming.{alone_comes, peer_comes}
+use Rattle.gtp_machine.proofs.Worlds.Coming.{peer_comes, IsMoved, moved_so, Took, took_datagram, TookBoth, took_both, took_both_late}
 use Rattle.gtp_machine.proofs.Basics.Templates.{IsAdded}
 use Rattle.gtp_machine.proofs.Exchange.Added.{found_template, wanted_sendable, refusal_sendable, grant_sendable}
 use Rattle.gtp_machine.proofs.Exchange.Nodes.{pass, v4_given, v6_given, type_is as asked_type, begins, CanMake, IsAnswered, answers, waiting_for, Waits, OpensBy, IsOpened, is_opened_by, GoesOut, goes_out, SaysSo, asked_second}
@@ -41,7 +41,7 @@ use Rattle.gtp_machine.proofs.Exchange.Texts.{request_like, response_like, same_
 use Rattle.gtp_machine.proofs.Exchange.Ranges.{IsWritten, given_written, request_sendable, request_short, response_sendable, response_short}
 use Rattle.gtp_machine.specs.Laws.{OwnsOn, TeidWasDrawn}
 use Rattle.gtp_machine.proofs.Changes.After.{Knows}
-use Rattle.gtp_machine.proofs.Worlds.Safety.{bearer_goes_back}
+use Rattle.gtp_machine.proofs.Origins.Naming.{bearer_goes_back}
 
 -- the last of a list
 at_end : {X : Type 0} (xs : List X) (x : X) → slice_get (xs ++ (x ∷ [])) (length xs) ≡ Some x
@@ -52,61 +52,20 @@ one_longer : {X : Type 0} (xs : List X) (x : X) → 1 + length xs ≡ length (xs
 one_longer [] x = refl
 one_longer (y ∷ xs) x = omega (arith, one_longer xs x)
 
--- what an event of one gateway does with the world
-record IsMoved (old : World) (role : Role) (e : Effect) (new : World) : Type 0 where
-  pub node : (side_of new role).node ≡ e.node
-  pub elsewhere : (side_of new (other role)).node ≡ (side_of old (other role)).node
-  pub history : new.history ≡ old.history ++ signed role (messages e.out.sent)
-  pub listed : new.datagrams ≡ old.datagrams ++ signed role (datagrams e.out.sent)
-  pub handed : new.handed ≡ old.handed ++ signed role e.out.handed
-  pub accepted : new.accepted ≡ old.accepted ++ signed role e.out.accepted
-  pub note : CameTo new e.outcome
-
-moved_is : (old : World) (role : Role) (input : Input) (new : World) (m : Moves old role input new) → IsMoved old role m.effect new
-moved_is old Serving input new m = record { node = ap (λ (w : World). w.serving.node) m.becomes; elsewhere = ap (λ (w : World). w.packet.node) m.becomes; history = ap (λ (w : World). w.history) m.becomes; listed = ap (λ (w : World). w.datagrams) m.becomes; handed = ap (λ (w : World). w.handed) m.becomes; accepted = ap (λ (w : World). w.accepted) m.becomes; note = record { note = _; before = _; notes = ap (λ (w : World). w.notes) m.becomes; is = refl } }
-moved_is old Packet input new m = record { node = ap (λ (w : World). w.packet.node) m.becomes; elsewhere = ap (λ (w : World). w.serving.node) m.becomes; history = ap (λ (w : World). w.history) m.becomes; listed = ap (λ (w : World). w.datagrams) m.becomes; handed = ap (λ (w : World). w.handed) m.becomes; accepted = ap (λ (w : World). w.accepted) m.becomes; note = record { note = _; before = _; notes = ap (λ (w : World). w.notes) m.becomes; is = refl } }
-
--- a delivery, on time or late
-record IsBrought (old : World) (sender : Role) (m : Message) (new : World) : Type 0 where
-  pub before : World
-  pub serving : before.serving.node ≡ old.serving.node
-  pub packet : before.packet.node ≡ old.packet.node
-  pub history : before.history ≡ old.history
-  pub listed : before.datagrams ≡ old.datagrams
-  pub accepted : before.accepted ≡ old.accepted
-  pub moves : Moves before (other sender) (delivered_on (plane_of m) (side_of old sender).node.config.own (m ∷ [])) new
-
-delivered_is : (old : World) (sender : Role) (m : Message) (new : World) → Delivers old sender (m ∷ []) new → IsBrought old sender m new
-delivered_is old sender m new (inl d) = record { before = old; serving = refl; packet = refl; history = refl; listed = refl; accepted = refl; moves = alone_comes old (other sender) (side_of old sender).node.config.own new m d.1 }
-delivered_is old Serving m new (inr d) = let late = marked_late old Packet (arrival old.serving.node.config.own m) in record { before = late; serving = refl; packet = refl; history = refl; listed = refl; accepted = refl; moves = alone_comes late Packet old.serving.node.config.own new m d.1 }
-delivered_is old Packet m new (inr d) = let late = marked_late old Serving (arrival old.packet.node.config.own m) in record { before = late; serving = refl; packet = refl; history = refl; listed = refl; accepted = refl; moves = alone_comes late Serving old.packet.node.config.own new m d.1 }
-
 delivered_so : (old : World) (sender : Role) (datagram : List Message) (number : ℕ) (new : World) → slice_get old.datagrams number ≡ Some (record { role = sender; what = datagram }) → Happens old (Deliver number) new → Delivers old sender datagram new
 delivered_so old sender datagram number new stands h =
     let found = pass (record { sent = record { role = sender; what = datagram }; is = stands }) h in
     subst (λ (s : SentDatagram). Delivers old s.role s.what new) (same_Some found.0.sent (record { role = sender; what = datagram }) (sym found.0.is ∙ stands)) found.1
 
-brought : (old : World) (sender : Role) (m : Message) (number : ℕ) (new : World) → slice_get old.datagrams number ≡ Some (record { role = sender; what = m ∷ [] }) → Happens old (Deliver number) new → IsBrought old sender m new
-brought old sender m number new stands h = delivered_is old sender m new (delivered_so old sender (m ∷ []) number new stands h)
+brought : (old : World) (sender : Role) (m : Message) (number : ℕ) (new : World) → slice_get old.datagrams number ≡ Some (record { role = sender; what = m ∷ [] }) → Happens old (Deliver number) new
+    → Took old (other sender) (delivered_on (plane_of m) (side_of old sender).node.config.own (m ∷ [])) new
+brought old sender m number new stands h = took_datagram old sender m new (delivered_so old sender (m ∷ []) number new stands h)
 
--- a delivery of a pair to the serving gateway, message by message
-record IsBroughtApart (old : World) (a : CreateSessionResponse) (r : CreateBearerRequest) (new : World) : Type 0 where
-  pub effect : Effect
-  pub step : Step Serving old.serving.node (first_came old.packet.node.config.own (Create_session_response a)) effect
-  pub next : Effect
-  pub follows : Step Serving effect.node (second_came old.packet.node.config.own (Create_bearer_request r)) next
-  pub node : new.serving.node ≡ next.node
-  pub elsewhere : new.packet.node ≡ old.packet.node
-  pub history : new.history ≡ (old.history ++ signed Serving (messages effect.out.sent)) ++ signed Serving (messages next.out.sent)
-  pub note : CameTo new effect.outcome
-
-brought_apart : (old : World) (a : CreateSessionResponse) (r : CreateBearerRequest) (new : World) → old.packet.node.config.own.control ≡ old.serving.node.config.peer.control → Delivers old Packet (Create_session_response a ∷ Create_bearer_request r ∷ []) new → IsBroughtApart old a r new
-brought_apart old a r new peer (inl d) =
-    let m = (peer_comes old Serving old.packet.node.config.own new a r refl peer d.1).moves in
-    record { effect = m.effect; step = m.step; next = m.next; follows = m.follows; node = ap (λ (w : World). w.serving.node) m.becomes; elsewhere = ap (λ (w : World). w.packet.node) m.becomes; history = ap (λ (w : World). w.history) m.becomes; note = record { note = _; before = _; notes = ap (λ (w : World). w.notes) m.becomes; is = refl } }
-brought_apart old a r new peer (inr d) =
-    let m = (peer_comes (marked_late old Serving (arrival old.packet.node.config.own (Create_bearer_request r))) Serving old.packet.node.config.own new a r refl peer d.1).moves in
-    record { effect = m.effect; step = m.step; next = m.next; follows = m.follows; node = ap (λ (w : World). w.serving.node) m.becomes; elsewhere = ap (λ (w : World). w.packet.node) m.becomes; history = ap (λ (w : World). w.history) m.becomes; note = record { note = _; before = _; notes = ap (λ (w : World). w.notes) m.becomes; is = refl } }
+-- a pair comes to the serving gateway from its peer, message by message
+brought_apart : (old : World) (a : CreateSessionResponse) (r : CreateBearerRequest) (new : World) → old.packet.node.config.own.control ≡ old.serving.node.config.peer.control
+    → Delivers old Packet (Create_session_response a ∷ Create_bearer_request r ∷ []) new → TookBoth old a r new
+brought_apart old a r new peer (inl d) = took_both old a r new (peer_comes old Serving old.packet.node.config.own new a r refl peer d.1).moves
+brought_apart old a r new peer (inr d) = let x = arrival old.packet.node.config.own (Create_bearer_request r) in took_both_late old x a r new (peer_comes (marked_late old Serving x) Serving old.packet.node.config.own new a r refl peer d.1).moves
 
 -- the counter that a gateway tells is not earlier than one that was heard of it
 not_earlier : (peer : Side) (role : Role) (history : List Sent) (known : Option ℕ) (seen : List ℕ) (counter : ℕ) → Drawing peer role history → Hearing peer known seen → counter ≡ peer.node.counter → (k : ℕ) → known ≡ Some k → age_of k counter ≢ Earlier
@@ -122,19 +81,10 @@ accepts_cause pdn address = by ((pdn == 3) && not (is_some address.v4 && is_some
     by true = record { low = omega arith; high = omega arith }
     by false = record { low = omega arith; high = omega arith }
 
--- the node of either gateway before a delivery
-node_before : (old : World) (sender : Role) (m : Message) (new : World) (d : IsBrought old sender m new) (role : Role) → (side_of d.before role).node ≡ (side_of old role).node
-node_before old sender m new d Serving = d.serving
-node_before old sender m new d Packet = d.packet
-
 -- a packet that may go is sent
 sends_so : (role : Role) (bearer : ℕ) (payload : List ℕ) (node : Node) (e : Effect) (b : Bearer) → get node.bearers bearer ≡ Some b → b.state ≡ Active → b.ended ≡ false → length payload ≤ 65000 → Step role node (Commanded (Send_user bearer payload)) e → SendsPacket node b payload e
-sends_so role bearer payload node e b stands active unended short step = by (as_command role step)
+sends_so role bearer payload node e b stands active unended short step = by step
   where
-    as_command : (role : Role) → Step role node (Commanded (Send_user bearer payload)) e → PacketSent role bearer payload node e
-    as_command Serving step = step
-    as_command Packet step = step
-
     may_go : (role : Role) → MayGo role b
     may_go Serving = tt
     may_go Packet = unended
@@ -148,12 +98,8 @@ sends_so role bearer payload node e b stands active unended short step = by (as_
 
 -- a packet that may come is accepted
 accepts_so : (role : Role) (source : Endpoint) (bearer : ℕ) (payload : List ℕ) (node : Node) (e : Effect) (b : Bearer) → source.ip ≡ node.config.peer.user → get node.bearers bearer ≡ Some b → b.state ≡ Active → b.ended ≡ false → Step role node (User_came source (User_message (Packet_data bearer payload))) e → Accepts node bearer payload b e
-accepts_so role source bearer payload node e b peer stands active unended step = by (as_user role step)
+accepts_so role source bearer payload node e b peer stands active unended step = by step
   where
-    as_user : (role : Role) → Step role node (User_came source (User_message (Packet_data bearer payload))) e → UserStep role source (User_message (Packet_data bearer payload)) node e
-    as_user Serving step = step
-    as_user Packet step = step
-
     may_come : (role : Role) → MayCome role b
     may_come Serving = unended
     may_come Packet = tt
@@ -187,28 +133,26 @@ record IsOpenBearer (w : World) (role : Role) (bearer there : ℕ) : Type 0 wher
 carries : (w : World) (role : Role) (bearer there : ℕ) → IsOpenBearer w role bearer there → Carries w role bearer
 carries w role bearer there ends payload sent came short h1 h2 =
     let m1 : Moves w role (Commanded (Send_user bearer payload)) sent = h1 in
-    let f1 = moved_is w role _ sent m1 in
+    let f1 = moved_so w role _ sent m1 in
     let sends = sends_so role bearer payload (side_of w role).node m1.effect ends.here ends.stands ends.active ends.unended short m1.step in
     let says : datagrams m1.effect.out.sent ≡ (Packet_data there payload ∷ []) ∷ [] = ap (λ (f : Effect). datagrams f.out.sent) sends.gives ∙ ap (λ r. (Packet_data (written r) payload ∷ []) ∷ []) ends.remote in
-    let kept : (side_of sent role).node.config ≡ (side_of w role).node.config = ap (λ (n : Node). n.config) (f1.node ∙ ap (λ (f : Effect). f.node) sends.gives) in
-    let d = brought sent role (Packet_data there payload) (length w.datagrams) came (ap (λ ds. slice_get ds (length w.datagrams)) (f1.listed ∙ ap (λ ds. w.datagrams ++ signed role ds) says) ∙ at_end w.datagrams _) h2 in
-    let same : (side_of d.before (other role)).node ≡ (side_of w (other role)).node = node_before sent role _ came d (other role) ∙ f1.elsewhere in
-    let f2 = moved_is d.before (other role) _ came d.moves in
+    let kept : (side_of sent role).node.config ≡ (side_of w role).node.config = ap (λ (n : Node). n.config) (f1.grown.node ∙ ap (λ (f : Effect). f.node) sends.gives) in
+    let d = brought sent role (Packet_data there payload) (length w.datagrams) came (ap (λ ds. slice_get ds (length w.datagrams)) (f1.grown.listed ∙ ap (λ ds. w.datagrams ++ signed role ds) says) ∙ at_end w.datagrams _) h2 in
     let source = user_end (side_of sent role).node.config.own.user in
-    let takes = accepts_so (other role) source there payload (side_of w (other role)).node d.moves.effect ends.at (ap (λ (c : Config). c.own.user) kept ∙ ap (λ (a : Addresses). a.user) (sym ends.path)) ends.stands_there ends.active_there ends.unended_there (subst (λ n. Step (other role) n (User_came source (User_message (Packet_data there payload))) d.moves.effect) same d.moves.step) in
+    let takes = accepts_so (other role) source there payload (side_of w (other role)).node d.effect ends.at (ap (λ (c : Config). c.own.user) kept ∙ ap (λ (a : Addresses). a.user) (sym ends.path)) ends.stands_there ends.active_there ends.unended_there (subst (λ n. Step (other role) n (User_came source (User_message (Packet_data there payload))) d.effect) f1.grown.elsewhere d.step) in
     let packet : Entry = entry_for there payload ends.session.subscriber ends.here.identity in
     let handed : m1.effect.out.handed ≡ packet ∷ [] =
     ap (λ (f : Effect). f.out.handed) sends.gives ∙ ap (λ r. entry_for (written r) payload sends.of.session.subscriber ends.here.identity ∷ []) ends.remote
     ∙ ap (λ (s : Session). entry_for there payload s.subscriber ends.here.identity ∷ []) (same_Some sends.of.session ends.session (sym sends.of.stands ∙ ends.of)) in
-    let accepted : d.moves.effect.out.accepted ≡ packet ∷ [] =
+    let accepted : d.effect.out.accepted ≡ packet ∷ [] =
     ap (λ (f : Effect). f.out.accepted) takes.gives ∙ ap (λ (s : Session). entry_for there payload s.subscriber ends.at.identity ∷ []) (same_Some takes.of.session ends.session_there (sym takes.of.stands ∙ ends.of_there))
     ∙ (λ i. entry_for there payload (ends.subscriber i) (ends.identity i) ∷ []) in
     record {
-      outcome = record { note = f2.note.note; before = f2.note.before; notes = f2.note.notes; is = f2.note.is ∙ ap (λ (f : Effect). f.outcome) takes.gives };
+      outcome = subst (CameTo came) (ap (λ (f : Effect). f.outcome) takes.gives) d.moved.note;
       packet = packet;
       carries = refl;
       handed = f1.handed ∙ ap (λ es. w.handed ++ signed role es) handed;
-      accepted = f2.accepted ∙ (λ i. d.accepted i ++ signed (other role) (accepted i));
+      accepted = d.moved.accepted ∙ ap (λ es. sent.accepted ++ signed (other role) es) accepted;
     }
 
 -- an F-TEID of the user plane stands as its sender's own
@@ -264,32 +208,26 @@ module _ (serving packet : Config) (serving_counter packet_counter : ℕ) (event
   e1 = asks w.serving.node r1.number (waiting_for q) (Some r1.control) (session_begun w.serving.node r1.control r1.user q)
 
   f1 : IsMoved w Serving m1.effect begun
-  f1 = moved_is w Serving _ begun m1
+  f1 = moved_so w Serving _ begun m1
 
   begun_node : begun.serving.node ≡ e1.node
-  begun_node = f1.node ∙ ap (λ (f : Effect). f.node) r1.gives
+  begun_node = f1.grown.node ∙ ap (λ (f : Effect). f.node) r1.gives
 
   begun_history : begun.history ≡ w.history ++ signed Serving (Create_session_request q ∷ [])
   begun_history = f1.history ∙ ap (λ (f : Effect). w.history ++ signed Serving (messages f.out.sent)) r1.gives
 
   begun_list : begun.datagrams ≡ w.datagrams ++ signed Serving ((Create_session_request q ∷ []) ∷ [])
-  begun_list = f1.listed ∙ ap (λ (f : Effect). w.datagrams ++ signed Serving (datagrams f.out.sent)) r1.gives
+  begun_list = f1.grown.listed ∙ ap (λ (f : Effect). w.datagrams ++ signed Serving (datagrams f.out.sent)) r1.gives
 
   -- the request comes
-  d2 : IsBrought begun Serving (Create_session_request q) answered
+  d2 : Took begun Packet (delivered_on Control begun.serving.node.config.own (Create_session_request q ∷ [])) answered
   d2 = brought begun Serving (Create_session_request q) (length w.datagrams) answered (ap (λ ds. slice_get ds (length w.datagrams)) begun_list ∙ at_end w.datagrams _) h2
 
   abbrev asked : Arrival
   asked = arrival begun.serving.node.config.own (Create_session_request q)
 
-  same2 : d2.before.packet.node ≡ w.packet.node
-  same2 = d2.packet ∙ f1.elsewhere
-
   serving_own : begun.serving.node.config.own ≡ w.serving.node.config.own
   serving_own = ap (λ (n : Node). n.config.own) begun_node
-
-  f2 : IsMoved d2.before Packet d2.moves.effect answered
-  f2 = moved_is d2.before Packet _ answered d2.moves
 
   -- no message with this text was sent before
   abbrev IsUnsent : Role → Message → Type 0
@@ -305,8 +243,8 @@ module _ (serving packet : Config) (serving_counter packet_counter : ℕ) (event
     can_make : CanMake w.packet.node q
     can_make = record { room = can.held_room; one = refl; identity = can.identity; configured = can.configured; few = can.packet_room; draws = can.packet_draws }
 
-    a2 : IsAnswered asked q w.serving.node.counter w.packet.node d2.moves.effect
-    a2 = answers asked q w.serving.node.counter w.packet.node d2.moves.effect (ap (λ (k : Addresses). k.control) (serving_own ∙ sym path.back)) new2 refl (not_earlier w.serving Serving w.history w.packet.node.known w.packet.seen w.serving.node.counter inv.serving.draws inv.packet.hearing refl) can_make can.give (subst (λ n. Step Packet n (Control_came asked (Control_message (Create_session_request q))) d2.moves.effect) same2 d2.moves.step)
+    a2 : IsAnswered asked q w.serving.node.counter w.packet.node d2.effect
+    a2 = answers asked q w.serving.node.counter w.packet.node d2.effect (ap (λ (k : Addresses). k.control) (serving_own ∙ sym path.back)) new2 refl (not_earlier w.serving Serving w.history w.packet.node.known w.packet.seen w.serving.node.counter inv.serving.draws inv.packet.hearing refl) can_make can.give (subst (λ n. Step Packet n (Control_came asked (Control_message (Create_session_request q))) d2.effect) f1.grown.elsewhere d2.step)
 
     abbrev a : CreateSessionResponse
     a = session_response a2.mid q a2.made.control a2.made.user a2.made.address
@@ -322,13 +260,13 @@ module _ (serving packet : Config) (serving_counter packet_counter : ℕ) (event
     made_node = holding asked said go2.left
 
     answered_node : answered.packet.node ≡ made_node
-    answered_node = f2.node ∙ a2.node ∙ ap (λ (f : Effect). f.node) go2.gives
+    answered_node = d2.moved.grown.node ∙ a2.node ∙ ap (λ (f : Effect). f.node) go2.gives
 
     answered_history : answered.history ≡ (w.history ++ signed Serving (Create_session_request q ∷ [])) ++ signed Packet said
-    answered_history = f2.history ∙ (λ i. (d2.history ∙ begun_history) i ++ signed Packet (messages ((a2.sent ∙ ap (λ (f : Effect). f.out.sent) go2.gives) i))) ∙ ap (λ l. (w.history ++ signed Serving (Create_session_request q ∷ [])) ++ signed Packet l) (append-nil said)
+    answered_history = d2.moved.history ∙ (λ i. begun_history i ++ signed Packet (messages ((a2.sent ∙ ap (λ (f : Effect). f.out.sent) go2.gives) i))) ∙ ap (λ l. (w.history ++ signed Serving (Create_session_request q ∷ [])) ++ signed Packet l) (append-nil said)
 
     answered_list : answered.datagrams ≡ (w.datagrams ++ signed Serving ((Create_session_request q ∷ []) ∷ [])) ++ signed Packet (said ∷ [])
-    answered_list = f2.listed ∙ (λ i. (d2.listed ∙ begun_list) i ++ signed Packet (datagrams ((a2.sent ∙ ap (λ (f : Effect). f.out.sent) go2.gives) i)))
+    answered_list = d2.moved.grown.listed ∙ (λ i. begun_list i ++ signed Packet (datagrams ((a2.sent ∙ ap (λ (f : Effect). f.out.sent) go2.gives) i)))
 
     -- the answer comes
     d3 : Delivers answered Packet said opened
@@ -337,7 +275,7 @@ module _ (serving packet : Config) (serving_counter packet_counter : ℕ) (event
         h3
 
     same3 : answered.serving.node ≡ e1.node
-    same3 = f2.elsewhere ∙ d2.serving ∙ begun_node
+    same3 = d2.moved.grown.elsewhere ∙ begun_node
 
     packet_own : answered.packet.node.config.own ≡ w.packet.node.config.own
     packet_own = ap (λ (n : Node). n.config.own) answered_node ∙ ap (λ (c : Config). c.own) (go2.config ∙ a2.ready.config)
@@ -409,19 +347,18 @@ module _ (serving packet : Config) (serving_counter packet_counter : ℕ) (event
 
       third_alone : go2.more ≡ [] → IsThird
       third_alone alone =
-          let d = delivered_is answered Packet (Create_session_response a) opened (subst (λ more. Delivers answered Packet (Create_session_response a ∷ more) opened) alone d3) in
+          let d = took_datagram answered Packet (Create_session_response a) opened (subst (λ more. Delivers answered Packet (Create_session_response a ∷ more) opened) alone d3) in
           let told = arrival answered.packet.node.config.own (Create_session_response a) in
-          let o = opens_so told d.moves.effect from_peer new (subst (λ n. Step Serving n (Control_came told (Control_message (Create_session_response a))) d.moves.effect) (d.serving ∙ same3) d.moves.step) in
-          let f = moved_is d.before Serving _ opened d.moves in
+          let o = opens_so told d.effect from_peer new (subst (λ n. Step Serving n (Control_came told (Control_message (Create_session_response a))) d.effect) same3 d.step) in
           record {
-            session = ap (λ (n : Node). get n.sessions r1.control) f.node ∙ session_in d.moves.effect o;
-            bearer = ap (λ (n : Node). get n.bearers r1.user) f.node ∙ bearer_in d.moves.effect o;
-            config = ap (λ (n : Node). n.config) f.node ∙ config_in d.moves.effect o;
-            there = f.elsewhere ∙ d.packet ∙ answered_node;
+            session = ap (λ (n : Node). get n.sessions r1.control) d.moved.grown.node ∙ session_in d.effect o;
+            bearer = ap (λ (n : Node). get n.bearers r1.user) d.moved.grown.node ∙ bearer_in d.effect o;
+            config = ap (λ (n : Node). n.config) d.moved.grown.node ∙ config_in d.effect o;
+            there = d.moved.grown.elsewhere ∙ answered_node;
             extra = [];
-            history = f.history ∙ (λ i. d.history i ++ signed Serving (o.sent i));
+            history = d.moved.history ∙ (λ i. answered.history ++ signed Serving (o.sent i));
             granted = λ m none. absurd none;
-            outcome = record { note = f.note.note; before = f.note.before; notes = f.note.notes; is = f.note.is ∙ o.outcome };
+            outcome = subst (CameTo opened) o.outcome d.moved.note;
           }
         where
           new : IsNew e1.node (arrival answered.packet.node.config.own (Create_session_response a))
@@ -444,7 +381,7 @@ module _ (serving packet : Config) (serving_counter packet_counter : ℕ) (event
             extra = messages t.next.out.sent;
             history = t.history ∙ (λ i. (answered.history ++ signed Serving (o.sent i)) ++ signed Serving (messages t.next.out.sent)) ∙ ap (λ h. h ++ signed Serving (messages t.next.out.sent)) (append-nil answered.history);
             granted = λ m among. record { added = x; old = t.effect.node; counter = ap (λ (n : Node). n.counter) o.node ∙ o.ready.counter; config = config_in t.effect o; held = ap (λ (n : Node). n.held) o.node ∙ o.ready.held; says = is.says m among };
-            outcome = record { note = t.note.note; before = t.note.before; notes = t.note.notes; is = t.note.is ∙ o.outcome };
+            outcome = subst (CameTo opened) o.outcome t.note;
           }
         where
           new : IsNew e1.node (come_from answered.packet.node.config.own (announcing (Create_session_response a)))
@@ -488,7 +425,7 @@ module _ (serving packet : Config) (serving_counter packet_counter : ℕ) (event
       }
 
       no_bearer : (role : Role) (t : ℕ) → IsFree (side_of w role).node t → (b : Bearer) → get (side_of w role).node.bearers t ≡ Some b → ⊥
-      no_bearer role t free b stands = own_on role t free (bearer_goes_back packet.own w inv role t b stands).here
+      no_bearer role t free b stands = own_on role t free (bearer_goes_back w.history role (side_of w role).node (side_in w inv role).knows t b stands).here
         where
           own_on : (role : Role) (t : ℕ) → IsFree (side_of w role).node t → TeidWasDrawn User w.history role t → ⊥
           own_on Serving t free from = unowned w.serving Serving w.history inv.serving.draws from.message t from.sent (owns_user from.message t from.owns) free
@@ -514,8 +451,8 @@ module _ (serving packet : Config) (serving_counter packet_counter : ℕ) (event
         has = refl;
         has_there = refl;
         for_address = refl;
-        first = record { note = f1.note.note; before = f1.note.before; notes = f1.note.notes; is = f1.note.is ∙ ap (λ (f : Effect). f.outcome) r1.gives };
-        second = record { note = f2.note.note; before = f2.note.before; notes = f2.note.notes; is = f2.note.is ∙ (a2.outcome ∙ ap (λ (f : Effect). f.outcome) go2.gives) };
+        first = subst (CameTo begun) (ap (λ (f : Effect). f.outcome) r1.gives) f1.note;
+        second = subst (CameTo answered) (a2.outcome ∙ ap (λ (f : Effect). f.outcome) go2.gives) d2.moved.note;
         answer = a;
         more = go2.more;
         told = answered_list ∙ ap (λ h. h ++ signed Packet (said ∷ [])) (sym begun_list);
@@ -528,21 +465,17 @@ module _ (serving packet : Config) (serving_counter packet_counter : ℕ) (event
       sent_now : (role : Role) (m : Message) → HasSent opened.history role m → HasSent w.history role m ⊎ ((m ≡ Create_session_request q) ⊎ (Among m said ⊎ ((role ≡ Serving) × IsGranted m)))
       sent_now role m sent = ⊎_elim
           (λ before. elim (by_cases (w.history ++ signed Serving (Create_session_request q ∷ [])) role Packet said m (subst (λ h. HasSent h role m) answered_history before)) [
-            | inl earlier ↦ ⊎_elim (λ was. inl was) (λ asked. inr (inl (only asked.1))) (by_cases w.history role Serving (Create_session_request q ∷ []) m earlier)
+            | inl earlier ↦ ⊎_elim (λ was. inl was) (λ asked. inr (inl (Among-only m _ asked.1))) (by_cases w.history role Serving (Create_session_request q ∷ []) m earlier)
             | inr told ↦ inr (inr (inl told.1))
           ])
           (λ now. inr (inr (inr (now.0, third.granted m now.1))))
           (by_cases answered.history role Serving third.extra m (subst (λ h. HasSent h role m) third.history sent))
-        where
-          only : {x : Message} → Among m (x ∷ []) → m ≡ x
-          only (inl is) = is
-          only (inr none) = absurd none
 
   -- where each message that was sent reads as itself
   module _ (reads : AllRead answered) where
     -- what was sent before the answer reads as itself
     reads_before : (role : Role) (m : Message) → HasSent begun.history role m → ReadsAs (plane_of m) (spelled m) m
-    reads_before role m sent = reads role m (subst (λ h. HasSent h role m) (sym (f2.history ∙ ap (λ h. h ++ signed Packet (messages d2.moves.effect.out.sent)) d2.history)) (Among-left _ begun.history _ sent))
+    reads_before role m sent = reads role m (subst (λ h. HasSent h role m) (sym d2.moved.history) (Among-left _ begun.history _ sent))
 
     reads_first : (role : Role) (m : Message) → HasSent w.history role m → ReadsAs (plane_of m) (spelled m) m
     reads_first role m sent = reads_before role m (subst (λ h. HasSent h role m) (sym begun_history) (Among-left _ w.history _ sent))
@@ -550,19 +483,20 @@ module _ (serving packet : Config) (serving_counter packet_counter : ℕ) (event
     request_reads : ReadsAs (plane_of (Create_session_request q)) (spelled (Create_session_request q)) (Create_session_request q)
     request_reads = reads_before Serving (Create_session_request q) (subst (λ h. HasSent h Serving (Create_session_request q)) (sym begun_history) (Among-last _ w.history))
 
+    -- a message that reads as itself, of which a TEID is free, was not sent before
+    unsent : (role : Role) (m : Message) (t : ℕ) → plane_of m ≡ Control → ReadsAs (plane_of m) (spelled m) m → Owns m t → IsFree (side_of w role).node t → IsUnsent role m
+    unsent role m t m_control m_reads owns free n sent control text =
+        let message = apart n m control m_control (reads_first role n sent) m_reads text in
+        unowned (side_of w role) role w.history (side_in w inv role).draws m t (subst (λ k. HasSent w.history role k) message sent) owns free
+
     request_apart : IsUnsent Serving (Create_session_request q)
-    request_apart m sent control text =
-        let message = apart m (Create_session_request q) control refl (reads_first Serving m sent) request_reads text in
-        unowned w.serving Serving w.history inv.serving.draws (Create_session_request q) r1.control (subst (λ m. HasSent w.history Serving m) message sent) (inl refl) r1.control_free
+    request_apart = unsent Serving (Create_session_request q) r1.control refl request_reads (inl refl) r1.control_free
 
     answer_reads : ReadsAs (plane_of (Create_session_response (a request_apart))) (spelled (Create_session_response (a request_apart))) (Create_session_response (a request_apart))
     answer_reads = reads Packet (Create_session_response (a request_apart)) (subst (λ h. HasSent h Packet (Create_session_response (a request_apart))) (sym (answered_history request_apart)) (Among-right _ (w.history ++ signed Serving (Create_session_request q ∷ [])) (signed Packet (said request_apart)) (inl refl)))
 
     answer_apart : IsUnsent Packet (Create_session_response (a request_apart))
-    answer_apart m sent control text =
-        let message = apart m (Create_session_response (a request_apart)) control refl (reads_first Packet m sent) answer_reads text in
-        let made = (a2 request_apart).made in
-        unowned w.packet Packet w.history inv.packet.draws (Create_session_response (a request_apart)) made.control (subst (λ m. HasSent w.history Packet m) message sent) (inl refl) (free_before request_apart made.control made.control_free)
+    answer_apart = unsent Packet (Create_session_response (a request_apart)) (a2 request_apart).made.control refl answer_reads (inl refl) (free_before request_apart (a2 request_apart).made.control (a2 request_apart).made.control_free)
 
     by_reading : Exchanged spec w begun answered opened
     by_reading = exchanged request_apart answer_apart
@@ -593,14 +527,14 @@ module _ (serving packet : Config) (serving_counter packet_counter : ℕ) (event
         let like = request_like m q control text in
         let was = subst (λ k. HasSent w.history Serving k) like.is sent in
         let short = request_short w.serving.node spec r1.control r1.user r1.number serving_is specified can.identity type_is (counter_small w.serving Serving w.history inv.serving.draws) control_small user_small number_small in
-        let small = owned_small w.serving Serving w.history inv.serving.draws (Create_session_request like.request) like.request.control.teid was (inl refl) in
-        let same = same_request_teid like.request q (omega (arith, short)) small control_small like.after in
-        unowned w.serving Serving w.history inv.serving.draws (Create_session_request like.request) r1.control was (inl (sym same)) r1.control_free
+        let small = owned_small w.serving Serving w.history inv.serving.draws (Create_session_request like.one) like.one.control.teid was (inl refl) in
+        let same = same_request_teid like.one q (omega (arith, short)) small control_small like.after in
+        unowned w.serving Serving w.history inv.serving.draws (Create_session_request like.one) r1.control was (inl (sym same)) r1.control_free
 
     abbrev now : CreateSessionResponse
     now = a request_differs
 
-    abbrev at : IsAnswered asked q w.serving.node.counter w.packet.node d2.moves.effect
+    abbrev at : IsAnswered asked q w.serving.node.counter w.packet.node d2.effect
     at = a2 request_differs
 
     mid_is : IsConfigured at.mid.config
@@ -629,10 +563,10 @@ module _ (serving packet : Config) (serving_counter packet_counter : ℕ) (event
         let like = response_like m now control text in
         let was = subst (λ k. HasSent w.history Packet k) like.is sent in
         let short = response_short w.serving.node spec r1.control r1.user r1.number serving_is specified can.identity type_is (counter_small w.serving Serving w.history inv.serving.draws) control_small user_small number_small at.mid at.made.control at.made.user at.made.address mid_is mid_counter_small control_there_small user_there_small address_is in
-        let names = same_response_teid like.response now (tunnel_end 7 at.made.control at.mid.config.own.control) refl (omega (arith, short)) control_there_small like.after in
+        let names = same_response_teid like.one now (tunnel_end 7 at.made.control at.mid.config.own.control) refl (omega (arith, short)) control_there_small like.after in
         let owns = ap teid_in names.control in
-        let small = owned_small w.packet Packet w.history inv.packet.draws (Create_session_response like.response) names.end.teid was (inl owns) in
-        unowned w.packet Packet w.history inv.packet.draws (Create_session_response like.response) at.made.control was (inl (owns ∙ ap (λ t. Some t) (names.same small))) control_free
+        let small = owned_small w.packet Packet w.history inv.packet.draws (Create_session_response like.one) names.end.teid was (inl owns) in
+        unowned w.packet Packet w.history inv.packet.draws (Create_session_response like.one) at.made.control was (inl (owns ∙ ap (λ t. Some t) (names.same small))) control_free
 
     in_range : Exchanged spec w begun answered opened
     in_range = exchanged request_differs response_differs
@@ -662,12 +596,8 @@ module _ (serving packet : Config) (serving_counter packet_counter : ℕ) (event
     said_is m (inl is) = subst IsSendable (sym is) response_is
     said_is m (inr with_it) = ⊎_elim
         (λ alone. absurd (subst (Among m) alone with_it))
-        (λ x. subst IsSendable (sym (only m _ (subst (Among m) x.1 with_it))) (wanted_is x.0))
+        (λ x. subst IsSendable (sym (Among-only m _ (subst (Among m) x.1 with_it))) (wanted_is x.0))
         (go2 request_differs).wanted
-      where
-        only : (m n : Message) → Among m (n ∷ []) → m ≡ n
-        only m n (inl is) = is
-        only m n (inr none) = absurd none
 
     -- and each answer to what went with it, unless it was sent before
     granted_is : (m : Message) → IsGranted request_differs response_differs m → HasSent w.history Serving m ⊎ IsSendable m

@@ -26,7 +26,7 @@ use Rattle.gtp_machine.specs.Serving.{bearer_refused, resources_refused, opened_
 use Rattle.gtp_machine.specs.Packet.{session_cause, session_response, made_session, made_bearer, session_made, MakesSession, CreateSessionAsked, PacketTakes}
 use Rattle.gtp_machine.specs.Step.{Step}
 use Rattle.gtp_machine.proofs.Basics.Counting.{len-kept_most}
-use Rattle.gtp_machine.proofs.Basics.FiniteMaps.{get-kept, get-insert_same, get-insert_other, Among-cases}
+use Rattle.gtp_machine.proofs.Basics.FiniteMaps.{Among-only, get-kept, get-insert_same, get-insert_other, Among-cases}
 use Rattle.gtp_machine.proofs.Basics.Templates.{IsAdded, goes}
 
 -- a rule whose condition holds
@@ -323,20 +323,16 @@ module _ (request : Arrival) (r : CreateBearerRequest) (s : Session) (old : Node
           let is_one = pass one is_active.1 in
           let is_linked = pass (linked ∙ ap (λ (k : Session). k.subscriber.identity) same) is_one.1 in
           ⊎_elim
-          (λ refused. stays_so _ refused.1 refl refl refl (λ m among. inr (inl (only m _ among ∙ ap (λ (k : Session). Create_bearer_response (no_resources old r (written k.remote))) (sym same)))))
+          (λ refused. stays_so _ refused.1 refl refl refl (λ m among. inr (inl (Among-only m _ among ∙ ap (λ (k : Session). Create_bearer_response (no_resources old r (written k.remote))) (sym same)))))
           (λ made.
           let x = made.1 in
           record {
             config = ap (λ (k : Effect). k.node.config) x.gives;
             sessions = ap (λ (k : Effect). k.node.sessions) x.gives;
             bearers = λ t b drawn stood. ap (λ (k : Effect). get k.node.bearers t) x.gives ∙ get-insert_other old.bearers x.user (granted_bearer r x.identity) t (λ is. x.user_free.undrawn (subst (λ k. Among k old.drawn) is drawn)) ∙ stood;
-            says = λ m among. inr (inr (x.user, x.identity, x.user_free, x.identity_free.range, only m _ (subst (λ (k : Effect). Among m (messages k.out.sent)) x.gives among) ∙ ap (λ (k : Session). Create_bearer_response (bearer_response old r k x.user x.identity)) (sym same)));
+            says = λ m among. inr (inr (x.user, x.identity, x.user_free, x.identity_free.range, Among-only m _ (subst (λ (k : Effect). Among m (messages k.out.sent)) x.gives among) ∙ ap (λ (k : Session). Create_bearer_response (bearer_response old r k x.user x.identity)) (sym same)));
           })
           is_linked.1
-        where
-          only : (m n : Message) → Among m (n ∷ []) → m ≡ n
-          only m n (inl is) = is
-          only m n (inr none) = absurd none
 
   pub asked_second : request.source.ip ≡ old.config.peer.control → get old.sessions r.header ≡ Some s → s.state ≡ Active → r.further ≡ [] → r.linked ≡ s.subscriber.identity → Step Serving old (Control_came request (Control_message (Create_bearer_request r))) e → IsAsked r s old e
   asked_second peer stands active one linked (inl f) = absurd (f.0 peer)

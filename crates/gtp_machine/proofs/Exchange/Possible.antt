@@ -1,5 +1,5 @@
 -- There are exchanges that meet all premises, from a start.
-use Rattle.std.proofs.Common.{◌≡◌, inl, inr, ℕ, ◌≤◌, [], refl, ◌∙◌, arith}
+use Rattle.std.proofs.Common.{◌≡◌, inl, ℕ, ◌≤◌, [], refl, ◌∙◌, arith}
 use Rattle.gtp_machine.specs.Element.{PdnAddress}
 use Rattle.gtp_machine.specs.Choice.{IsGiven}
 use Rattle.gtp_machine.specs.Packet.{session_cause}
@@ -15,7 +15,7 @@ use Rattle.gtp_machine.proofs.Worlds.Sendable.{serving_is, packet_is, specified,
 pub sendable_read : SendableRead
 sendable_read w each role m has = spelled_reads m (each role m has)
 
-module _ (pdn count cause : ℕ) (address : PdnAddress) (few : count ≤ 65536) (given : IsGiven (at_start count) pdn address) (causes : session_cause pdn address ≡ cause) where
+module _ (pdn count cause : ℕ) (address : PdnAddress) (few : count ≤ 65536) (given : IsGiven (at_start count []) pdn address) (causes : session_cause pdn address ≡ cause) where
   sendable : EachSendable (w3 pdn count address)
   sendable = among_sendable (w3 pdn count address).history (session_request pdn count address few given, (session_response pdn count address few given, tt))
 
@@ -29,7 +29,7 @@ module _ (pdn count cause : ℕ) (address : PdnAddress) (few : count ≤ 65536) 
     packet_draws = record { left = omega arith };
     pending_room = record { few = none_pending };
     held_room = record { few = omega arith };
-    give = can_be_had (at_start count) pdn address given;
+    give = can_be_had (at_start count []) pdn address given;
   }
 
   is : IsExchange (w0 count) (w1 pdn count address) (w2 pdn count address) (w3 pdn count address) (spec pdn)
@@ -40,8 +40,8 @@ module _ (pdn count cause : ℕ) (address : PdnAddress) (few : count ≤ 65536) 
     specified = specified pdn;
     can = can;
     begins = step1 pdn count address;
-    comes = inr (record { sent = _; is = refl }, step2 pdn count address given);
-    opens = inr (record { sent = _; is = refl }, step3 pdn count address given);
+    comes = step2 pdn count address given;
+    opens = step3 pdn count address given;
   }
 
   made : Exchanged (spec pdn) (w0 count) (w1 pdn count address) (w2 pdn count address) (w3 pdn count address)
@@ -61,12 +61,12 @@ module _ (pdn count cause : ℕ) (address : PdnAddress) (few : count ≤ 65536) 
     is = is;
     sendable = sendable;
     made = made;
-    answers = made.for_address ∙ (one_cause (at_start count) pdn made.address address made.given given ∙ causes);
+    answers = made.for_address ∙ (one_cause (at_start count []) pdn made.address address made.given given ∙ causes);
   }
 
 pub exchanges_are_possible : ExchangesArePossible
 exchanges_are_possible = record {
-  v4 = an_exchange 1 0 16 only_v4 (omega arith) gives_v4 refl;
+  v4 = an_exchange 1 0 16 only_v4 (omega arith) (gives_v4 []) refl;
   v6 = an_exchange 2 1 16 only_v6 (omega arith) gives_v6 refl;
   both = an_exchange 3 1 16 both_versions (omega arith) gives_both refl;
   one_of_both = an_exchange 3 0 18 only_v4 (omega arith) gives_one_of_both refl;

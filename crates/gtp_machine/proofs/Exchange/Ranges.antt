@@ -39,6 +39,7 @@ use Rattle.gtp_machine.specs.Command.{asked_allocation, session_request}
 use Rattle.gtp_machine.specs.Packet.{session_cause, session_response}
 use Rattle.gtp_machine.specs.Spelling.{control_value, requested_rows, created_rows, AreOctets, IsSendable}
 use Rattle.gtp_machine.specs.Exchange.{IsConfigured, IsAmbr, IsQos, IsSpecified}
+use Rattle.gtp_machine.proofs.Basics.Facts.{◌⊗◌}
 use Rattle.gtp_machine.proofs.Octets.AsOctets.{none, and, joined, in_two, in_three, in_four, big, imsi_octets, network_octets, name_octets, quality_octets, element_octets}
 
 -- the values of its elements are spelled by what is written
@@ -245,37 +246,19 @@ module _ (node : Node) (spec : Specification) (control user number : ℕ) (confi
     own = tt;
     meets = record {
       header = (omega arith, number_small);
-      kinds = (
-        imsi_again spec.subscriber.imsi specified.imsi,
-        (
-          rat_again spec.rat,
-          (
-            plmn_again spec.network specified.network,
-            (
-              spelled_end 6 control node.config.own.control configured.control (omega arith) control_small,
-              (
-                apn_again spec.subscriber.access_point specified.access_point,
-                (
-                  selection_again spec.selection specified.selection,
-                  (
-                    pdn_type_again spec.pdn type_small,
-                    (
-                      (asks_allocation spec.pdn).again,
-                      (
-                        spelled_ambr spec.ambr specified.ambr,
-                        (
-                          alone (RowsHaveKinds session_request_context_rows) _ (ebi_again spec.subscriber.identity (identity_again spec.subscriber.identity identity), (spelled_qos spec.qos specified.qos, (spelled_end 4 user node.config.own.user configured.user (omega arith) user_small, tt))),
-                          (recovery_again node.counter, tt),
-                        ),
-                      ),
-                    ),
-                  ),
-                ),
-              ),
-            ),
-          ),
-        ),
-      );
+      kinds =
+          imsi_again spec.subscriber.imsi specified.imsi
+          ⊗ rat_again spec.rat
+          ⊗ plmn_again spec.network specified.network
+          ⊗ spelled_end 6 control node.config.own.control configured.control (omega arith) control_small
+          ⊗ apn_again spec.subscriber.access_point specified.access_point
+          ⊗ selection_again spec.selection specified.selection
+          ⊗ pdn_type_again spec.pdn type_small
+          ⊗ (asks_allocation spec.pdn).again
+          ⊗ spelled_ambr spec.ambr specified.ambr
+          ⊗ alone (RowsHaveKinds session_request_context_rows) _ (ebi_again spec.subscriber.identity (identity_again spec.subscriber.identity identity) ⊗ spelled_qos spec.qos specified.qos ⊗ spelled_end 4 user node.config.own.user configured.user (omega arith) user_small ⊗ tt)
+          ⊗ recovery_again node.counter
+          ⊗ tt;
       marks = search rules;
       short = omega (arith, request_short);
     };
@@ -332,22 +315,14 @@ module _ (node : Node) (spec : Specification) (control user number : ℕ) (confi
       own = tt;
       meets = record {
         header = (control_small, number_small);
-        kinds = (
-          spelled_cause (session_cause spec.pdn address),
-          (
-            spelled_end 7 control_there there.config.own.control configured_there.control (omega arith) control_there_small,
-            (
-              (allocates address written).again,
-              (
-                spelled_ambr spec.ambr specified.ambr,
-                (
-                  alone (RowsHaveKinds session_response_context_rows) _ (ebi_again spec.subscriber.identity (identity_again spec.subscriber.identity identity), (spelled_cause 16, (spelled_end 5 user_there there.config.own.user configured_there.user (omega arith) user_there_small, (spelled_qos spec.qos specified.qos, (charging_id_again user_there user_there_small, tt))))),
-                  (recovery_again there.counter, tt),
-                ),
-              ),
-            ),
-          ),
-        );
+        kinds =
+            spelled_cause (session_cause spec.pdn address)
+            ⊗ spelled_end 7 control_there there.config.own.control configured_there.control (omega arith) control_there_small
+            ⊗ (allocates address written).again
+            ⊗ spelled_ambr spec.ambr specified.ambr
+            ⊗ alone (RowsHaveKinds session_response_context_rows) _ (ebi_again spec.subscriber.identity (identity_again spec.subscriber.identity identity) ⊗ spelled_cause 16 ⊗ spelled_end 5 user_there there.config.own.user configured_there.user (omega arith) user_there_small ⊗ spelled_qos spec.qos specified.qos ⊗ charging_id_again user_there user_there_small ⊗ tt)
+            ⊗ recovery_again there.counter
+            ⊗ tt;
         marks = ⊎_elim
             (λ is. subst (λ value. MeetsMarks (control_value (Create_session_response (answer value)))) (sym is) (search rules))
             (λ is. subst (λ value. MeetsMarks (control_value (Create_session_response (answer value)))) (sym is) (search rules))

@@ -68,24 +68,18 @@ after_request q = carried (control_value (Create_session_request q))
 abbrev pub after_response : CreateSessionResponse → List ℕ
 after_response a = carried (control_value (Create_session_response a))
 
--- a message with the text of a request for a session is one
-pub record IsRequestLike (n : Message) (q : CreateSessionRequest) : Type 0 where
-  pub request : CreateSessionRequest
-  pub is : n ≡ Create_session_request request
-  pub after : after_request request ≡ after_request q
+-- a message with the text of one of this type is of this type, and says the same after its header
+pub record IsLike {X : Type 0} (to : X → Message) (n : Message) (q : X) : Type 0 where
+  pub one : X
+  pub is : n ≡ to one
+  pub after : carried (control_value (to one)) ≡ carried (control_value (to q))
 
-pub request_like : (n : Message) (q : CreateSessionRequest) → plane_of n ≡ Control → spelled n ≡ spelled (Create_session_request q) → IsRequestLike n q
-request_like (Create_session_request p) q plane text = record { request = p; is = refl; after = ap (drop 12) text }
+pub request_like : (n : Message) (q : CreateSessionRequest) → plane_of n ≡ Control → spelled n ≡ spelled (Create_session_request q) → IsLike Create_session_request n q
+request_like (Create_session_request p) q plane text = record { one = p; is = refl; after = ap (drop 12) text }
 request_like n q plane text = unlike 32 (spelled n) (spelled (Create_session_request q)) refl refl text
 
--- a message with the text of an answer to a request for a session is one
-pub record IsResponseLike (n : Message) (a : CreateSessionResponse) : Type 0 where
-  pub response : CreateSessionResponse
-  pub is : n ≡ Create_session_response response
-  pub after : after_response response ≡ after_response a
-
-pub response_like : (n : Message) (a : CreateSessionResponse) → plane_of n ≡ Control → spelled n ≡ spelled (Create_session_response a) → IsResponseLike n a
-response_like (Create_session_response x) a plane text = record { response = x; is = refl; after = ap (drop 12) text }
+pub response_like : (n : Message) (a : CreateSessionResponse) → plane_of n ≡ Control → spelled n ≡ spelled (Create_session_response a) → IsLike Create_session_response n a
+response_like (Create_session_response x) a plane text = record { one = x; is = refl; after = ap (drop 12) text }
 response_like n a plane text = unlike 33 (spelled n) (spelled (Create_session_response a)) refl refl text
 
 -- what is left of a text is no longer

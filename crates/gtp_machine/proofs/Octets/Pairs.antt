@@ -17,22 +17,20 @@ use Rattle.gtp_machine.proofs.Octets.Datagrams.{datagram_by_grammar}
 
 -- the fault of a cut has its printed number, whether a second message is announced or not
 cut_number : (announced : Bool) (count front back : ℕ) → datagram_fault announced (pair_prefix_fault count front back) ≡ Control_fault (pair_cut_fault count front)
-cut_number true count front back = by_few (nat_lt count front) (nat_lt count 4) (count == front) (nat_lt (count - front) 4)
+cut_number announced count front back = by_few announced (nat_lt count front) (nat_lt count 4) (count == front) (nat_lt (count - front) 4)
   where
-    by_few : (within few whole more : Bool) → datagram_fault true (if within then (if few then faults.Short count else faults.Length (front - 4) (count - 4)) else (if whole then faults.BadPiggyback front else (if more then faults.Short (count - front) else faults.Length (back - 4) (count - front - 4)))) ≡ Control_fault (if within then (if few then short_number else length_number) else (if whole then number_of (faults.BadPiggyback front) else (if more then short_number else length_number)))
-    by_few true true whole more = refl
-    by_few true false whole more = refl
-    by_few false few true more = refl
-    by_few false few false true = refl
-    by_few false few false false = refl
-cut_number false count front back = by_few (nat_lt count front) (nat_lt count 4) (count == front) (nat_lt (count - front) 4)
-  where
-    by_few : (within few whole more : Bool) → datagram_fault false (if within then (if few then faults.Short count else faults.Length (front - 4) (count - 4)) else (if whole then faults.BadPiggyback front else (if more then faults.Short (count - front) else faults.Length (back - 4) (count - front - 4)))) ≡ Control_fault (if within then (if few then short_number else length_number) else (if whole then number_of (faults.BadPiggyback front) else (if more then short_number else length_number)))
-    by_few true true whole more = refl
-    by_few true false whole more = refl
-    by_few false few true more = refl
-    by_few false few false true = refl
-    by_few false few false false = refl
+    by_few : (announced within few whole more : Bool)
+        → datagram_fault announced (if within then (if few then faults.Short count else faults.Length (front - 4) (count - 4)) else (if whole then faults.BadPiggyback front else (if more then faults.Short (count - front) else faults.Length (back - 4) (count - front - 4)))) ≡ Control_fault (if within then (if few then short_number else length_number) else (if whole then number_of (faults.BadPiggyback front) else (if more then short_number else length_number)))
+    by_few true true true whole more = refl
+    by_few true true false whole more = refl
+    by_few true false few true more = refl
+    by_few true false few false true = refl
+    by_few true false few false false = refl
+    by_few false true true whole more = refl
+    by_few false true false whole more = refl
+    by_few false false few true more = refl
+    by_few false false few false true = refl
+    by_few false false few false false = refl
 
 pub pair_cuts_read : PairCutsRead
 pair_cuts_read octets front back a b count announced first second less =

@@ -135,43 +135,25 @@ IsAt-weaker : (First Second : ℕ → Bearer → Session → Type 0) → ((t : �
 IsAt-weaker First Second goes sessions bearers each t b e = let at = each t b e in record { session = at.session; stands = at.stands; origin = goes t b at.session at.origin }
 
 module _ (before after : List Sent) (extends : Extends before after) where
-  IsOpened-later : (t : ℕ) (s : Session) → IsOpened before t s → IsOpened after t s
-  IsOpened-later t s o = search (extends.keeps)
-
   IsAsked-later : (t : ℕ) (s : Session) → IsAsked before t s → IsAsked after t s
-  IsAsked-later t s a = record { request = a.request; sent = extends.keeps Serving _ a.sent; control = a.control; subscriber = a.subscriber; opened = λ r e. IsOpened-later t s (a.opened r e) }
-
-  IsOpenedWith-later : (b : Bearer) (s : Session) → IsOpenedWith before b s → IsOpenedWith after b s
-  IsOpenedWith-later b s o = search (extends.keeps)
+  IsAsked-later t s a = record { request = a.request; sent = extends.keeps Serving _ a.sent; control = a.control; subscriber = a.subscriber; opened = λ r e. let o = a.opened r e in search (extends.keeps) }
 
   IsAskedWith-later : (t : ℕ) (b : Bearer) (s : Session) → IsAskedWith before t b s → IsAskedWith after t b s
-  IsAskedWith-later t b s a = record { kind = a.kind; request = a.request; sent = extends.keeps Serving _ a.sent; user = a.user; control = a.control; identity = a.identity; opened = λ r e. IsOpenedWith-later b s (a.opened r e) }
-
-  IsGranted-later : (t : ℕ) (b : Bearer) (s : Session) → IsGranted before t b s → IsGranted after t b s
-  IsGranted-later t b s g = search (extends.keeps)
-
-  IsMade-later : (t : ℕ) (s : Session) → IsMade before t s → IsMade after t s
-  IsMade-later t s m = search (extends.keeps)
-
-  IsMadeWith-later : (t : ℕ) (b : Bearer) → IsMadeWith before t b → IsMadeWith after t b
-  IsMadeWith-later t b m = search (extends.keeps)
-
-  IsGivenBack-later : (t : ℕ) (b : Bearer) → IsGivenBack before t b → IsGivenBack after t b
-  IsGivenBack-later t b g = search (extends.keeps)
+  IsAskedWith-later t b s a = record { kind = a.kind; request = a.request; sent = extends.keeps Serving _ a.sent; user = a.user; control = a.control; identity = a.identity; opened = λ r e. let o = a.opened r e in search (extends.keeps) }
 
   IsWanted-later : (t : ℕ) (b : Bearer) → IsWanted before t b → IsWanted after t b
-  IsWanted-later t b w = record { kind = w.kind; request = w.request; asked = extends.keeps Packet _ w.asked; user = w.user; made = w.made; answered = extends.keeps Packet _ w.answered; control = w.control; header = w.header; opened = λ r e. IsGivenBack-later t b (w.opened r e) }
+  IsWanted-later t b w = record { kind = w.kind; request = w.request; asked = extends.keeps Packet _ w.asked; user = w.user; made = w.made; answered = extends.keeps Packet _ w.answered; control = w.control; header = w.header; opened = λ r e. let g = w.opened r e in search (extends.keeps) }
 
   pub ServingContexts-later : (sessions : FiniteMap Session) (bearers : FiniteMap Bearer) → ServingContexts before sessions bearers → ServingContexts after sessions bearers
   ServingContexts-later sessions bearers c = record {
     sessions_asked = Each-weaker (IsAsked before) (IsAsked after) sessions IsAsked-later c.sessions_asked;
-    bearers_asked = IsAt-weaker _ _ (λ t b s. ⊎_elim (λ o. inl (IsAskedWith-later t b s o)) (λ o. inr (IsGranted-later t b s o))) sessions bearers c.bearers_asked;
+    bearers_asked = IsAt-weaker _ _ (λ t b s. ⊎_elim (λ o. inl (IsAskedWith-later t b s o)) (λ o. inr (search (extends.keeps)))) sessions bearers c.bearers_asked;
   }
 
   pub PacketContexts-later : (sessions : FiniteMap Session) (bearers : FiniteMap Bearer) → PacketContexts before sessions bearers → PacketContexts after sessions bearers
   PacketContexts-later sessions bearers c = record {
-    sessions_made = Each-weaker (IsMade before) (IsMade after) sessions IsMade-later c.sessions_made;
-    bearers_made = IsAt-weaker _ _ (λ t b s. ⊎_elim (λ o. inl (IsMadeWith-later t b o)) (λ o. inr (IsWanted-later t b o))) sessions bearers c.bearers_made;
+    sessions_made = Each-weaker (IsMade before) (IsMade after) sessions (λ t s m. search (extends.keeps)) c.sessions_made;
+    bearers_made = IsAt-weaker _ _ (λ t b s. ⊎_elim (λ o. inl (search (extends.keeps))) (λ o. inr (IsWanted-later t b o))) sessions bearers c.bearers_made;
   }
 
 -- the session is as before, but for closing
@@ -232,26 +214,11 @@ module _ (history : List Sent) (old_sessions : FiniteMap Session) (old_bearers :
       opened_same : IsOpened history t old → IsOpened history t new
       opened_same o = record { answer = o.answer; sent = o.sent; header = o.header; remote = same.remote ∙ o.remote; address = same.address ∙ o.address }
 
-  made_same : (t : ℕ) (old new : Session) → IsSame old new → IsMade history t old → IsMade history t new
-  made_same t old new same m = grind arith
-
-  opened_with_same : (old new : Bearer) (s n : Session) → IsSameBearer old new → IsSame s n → IsOpenedWith history old s → IsOpenedWith history new n
-  opened_with_same old new s n bearer session o = grind arith
-
   asked_with_same : (t : ℕ) (old new : Bearer) (s n : Session) → IsSameBearer old new → IsSame s n → IsAskedWith history t old s → IsAskedWith history t new n
-  asked_with_same t old new s n bearer session a = record { kind = cc; request = a.request; sent = a.sent; user = a.user; control = cc; identity = cc; opened = λ r e. opened_with_same old new s n bearer session (a.opened r (sym bearer.remote ∙ e)) }
-
-  granted_same : (t : ℕ) (old new : Bearer) (s n : Session) → IsSameBearer old new → IsSame s n → IsGranted history t old s → IsGranted history t new n
-  granted_same t old new s n bearer session g = grind arith
-
-  made_with_same : (t : ℕ) (old new : Bearer) → IsSameBearer old new → IsMadeWith history t old → IsMadeWith history t new
-  made_with_same t old new bearer m = grind arith
-
-  given_same : (t : ℕ) (old new : Bearer) → IsSameBearer old new → IsGivenBack history t old → IsGivenBack history t new
-  given_same t old new bearer g = grind arith
+  asked_with_same t old new s n bearer session a = record { kind = cc; request = a.request; sent = a.sent; user = a.user; control = cc; identity = cc; opened = λ r e. let o = a.opened r (sym bearer.remote ∙ e) in grind arith }
 
   wanted_same : (t : ℕ) (old new : Bearer) → IsSameBearer old new → IsWanted history t old → IsWanted history t new
-  wanted_same t old new bearer w = record { kind = cc; request = w.request; asked = w.asked; user = w.user; made = w.made; answered = w.answered; control = cc; header = w.header; opened = λ r e. given_same t old new bearer (w.opened r (sym bearer.remote ∙ e)) }
+  wanted_same t old new bearer w = record { kind = cc; request = w.request; asked = w.asked; user = w.user; made = w.made; answered = w.answered; control = cc; header = w.header; opened = λ r e. let g = w.opened r (sym bearer.remote ∙ e) in grind arith }
 
   at_same : (Origin : ℕ → Bearer → Session → Type 0) → ((t : ℕ) (old new : Bearer) (s n : Session) → IsSameBearer old new → IsSame s n → Origin t old s → Origin t new n) → Each (IsAt Origin old_sessions) old_bearers → Each (IsAt Origin new_sessions) new_bearers
   at_same Origin goes each t b e =
@@ -264,13 +231,13 @@ module _ (history : List Sent) (old_sessions : FiniteMap Session) (old_bearers :
   pub ServingContexts-shrinks : ServingContexts history old_sessions old_bearers → ServingContexts history new_sessions new_bearers
   ServingContexts-shrinks c = record {
     sessions_asked = λ t s e. let was = shrinks.sessions t s e in asked_same t was.before s was.same (c.sessions_asked t was.before was.stood);
-    bearers_asked = at_same _ (λ t old new s n bearer session. ⊎_elim (λ o. inl (asked_with_same t old new s n bearer session o)) (λ o. inr (granted_same t old new s n bearer session o))) c.bearers_asked;
+    bearers_asked = at_same _ (λ t old new s n bearer session. ⊎_elim (λ o. inl (asked_with_same t old new s n bearer session o)) (λ o. inr (grind arith))) c.bearers_asked;
   }
 
   pub PacketContexts-shrinks : PacketContexts history old_sessions old_bearers → PacketContexts history new_sessions new_bearers
   PacketContexts-shrinks c = record {
-    sessions_made = λ t s e. let was = shrinks.sessions t s e in made_same t was.before s was.same (c.sessions_made t was.before was.stood);
-    bearers_made = at_same _ (λ t old new s n bearer session. ⊎_elim (λ o. inl (made_with_same t old new bearer o)) (λ o. inr (wanted_same t old new bearer o))) c.bearers_made;
+    sessions_made = λ t s e. let was = shrinks.sessions t s e in let m = c.sessions_made t was.before was.stood in grind arith;
+    bearers_made = at_same _ (λ t old new s n bearer session. ⊎_elim (λ o. inl (grind arith)) (λ o. inr (wanted_same t old new bearer o))) c.bearers_made;
   }
 
 -- what shrinks still closes as a whole

@@ -195,16 +195,21 @@ only_one m a b (inl x) (inl y) = x ∙ sym y
 only_one m a b (inr none) y = absurd none
 only_one m a b (inl x) (inr none) = absurd none
 
--- a step that sends nothing and draws nothing
-pub Draws-nothing : (history : List Sent) (role : Role) (old new : Node) → new.config ≡ old.config → new.counter ≡ old.counter → new.drawn ≡ old.drawn → Draws history role old new []
-Draws-nothing history role old new config counter same = record {
+-- a step that draws nothing, and sends messages again
+pub Draws-again : (history : List Sent) (role : Role) (old new : Node) (sent : List Message) → new.config ≡ old.config → new.counter ≡ old.counter → new.drawn ≡ old.drawn → ((m : Message) → Among m sent → HasSent history role m)
+    → ((m n : Message) → Among m sent → Among n sent → (m ≡ n) ⊎ AreApart m n) → Draws history role old new sent
+Draws-again history role old new sent config counter same was one = record {
   config = config;
   counter = counter;
-  extends = λ t was. subst (Among t) (sym same) was;
+  extends = λ t stood. subst (Among t) (sym same) stood;
   present = λ t now. inl (subst (Among t) same now);
-  each = λ m none. absurd none;
-  one = λ m n none. absurd none;
+  each = λ m among. inl (was m among);
+  one = one;
 }
+
+-- a step that sends nothing and draws nothing
+pub Draws-nothing : (history : List Sent) (role : Role) (old new : Node) → new.config ≡ old.config → new.counter ≡ old.counter → new.drawn ≡ old.drawn → Draws history role old new []
+Draws-nothing history role old new config counter same = Draws-again history role old new [] config counter same (λ m none. absurd none) (λ m n none. absurd none)
 
 -- of two messages that are apart, any two are one or apart
 pub two_apart : (m n : Message) → AreApart m n → AreApart n m → (a b : Message) → Among a (m ∷ n ∷ []) → Among b (m ∷ n ∷ []) → (a ≡ b) ⊎ AreApart a b
@@ -222,34 +227,10 @@ pair_apart m n pair none = two_apart m n
     (record { none_owned = none; no_grant = λ x is. let never : Create_session_response pair.answer ≡ Create_bearer_response x = sym pair.first ∙ is in absurd (cc never) })
     (record { none_owned = λ t x y. none t y x; no_grant = λ x is. let never : Create_bearer_request pair.request ≡ Create_bearer_response x = sym pair.second ∙ is in absurd (cc never) })
 
--- a step that draws nothing, and sends messages again
-pub Draws-again : (history : List Sent) (role : Role) (old : Node) (sent : List Message) → ((m : Message) → Among m sent → HasSent history role m) → ((m n : Message) → Among m sent → Among n sent → (m ≡ n) ⊎ AreApart m n) → Draws history role old old sent
-Draws-again history role old sent was one = record {
-  config = refl;
-  counter = refl;
-  extends = λ t stood. stood;
-  present = λ t now. inl now;
-  each = λ m among. inl (was m among);
-  one = one;
-}
-
--- a step that draws nothing, and sends a message that was sent before or is made now
-pub Draws-one : (history : List Sent) (role : Role) (old new : Node) (m : Message) → new.config ≡ old.config → new.counter ≡ old.counter → new.drawn ≡ old.drawn → HasSent history role m ⊎ IsMadeNow history old new m → Draws history role old new (m ∷ [])
-Draws-one history role old new m config counter same is = record {
-  config = config;
-  counter = counter;
-  extends = λ t was. subst (Among t) (sym same) was;
-  present = λ t now. inl (subst (Among t) same now);
-  each = only;
-  one = λ a b a_in b_in. inl (only_one m a b a_in b_in);
-}
-  where
-    only : (n : Message) → Among n (m ∷ []) → HasSent history role n ⊎ IsMadeNow history old new n
-    only n (inl e) = subst (λ k. HasSent history role k ⊎ IsMadeNow history old new k) (sym e) is
-    only n (inr none) = absurd none
-
--- a step that draws some TEIDs and sends one message, which owns no other
-pub Draws-new : (history : List Sent) (role : Role) (old new : Node) (m : Message) → new.config ≡ old.config → new.counter ≡ old.counter → ((t : ℕ) → Among t old.drawn → Among t new.drawn) → ((t : ℕ) → Among t new.drawn → Among t old.drawn ⊎ (counter_of t ≡ old.counter)) → IsMadeNow history old new m → Draws history role old new (m ∷ [])
+-- a step that draws some TEIDs and sends one message, which was sent before, or is made now and owns no other
+pub Draws-new : (history : List Sent) (role : Role) (old new : Node) (m : Message) → new.config ≡ old.config → new.counter ≡ old.counter → ((t : ℕ) → Among t old.drawn → Among t new.drawn)
+    → ((t : ℕ) → Among t new.drawn → Among t old.drawn ⊎ (counter_of t ≡ old.counter))
+    → HasSent history role m ⊎ IsMadeNow history old new m → Draws history role old new (m ∷ [])
 Draws-new history role old new m config counter extends present is = record {
   config = config;
   counter = counter;
@@ -260,8 +241,12 @@ Draws-new history role old new m config counter extends present is = record {
 }
   where
     only : (n : Message) → Among n (m ∷ []) → HasSent history role n ⊎ IsMadeNow history old new n
-    only n (inl e) = inr (subst (IsMadeNow history old new) (sym e) is)
+    only n (inl e) = subst (λ k. HasSent history role k ⊎ IsMadeNow history old new k) (sym e) is
     only n (inr none) = absurd none
+
+-- a step that draws nothing, and sends one message
+pub Draws-one : (history : List Sent) (role : Role) (old new : Node) (m : Message) → new.config ≡ old.config → new.counter ≡ old.counter → new.drawn ≡ old.drawn → HasSent history role m ⊎ IsMadeNow history old new m → Draws history role old new (m ∷ [])
+Draws-one history role old new m config counter same = Draws-new history role old new m config counter (λ t was. subst (Among t) (sym same) was) (λ t now. inl (subst (Among t) same now))
 
 -- a message that owns no TEID and tells the present counter, if any
 pub Made-plain : (history : List Sent) (old new : Node) (m : Message) → ((t : ℕ) → Owns m t → ⊥) → ((r : ℕ) → recovery_of m ≡ Some r → r ≡ old.counter) → IsProper m → IsMadeNow history old new m

@@ -50,54 +50,50 @@ names_of e = (e.imsi, e.access_point)
 abbrev pub names_in : Subscriber → List ℕ × List ℕ
 names_in s = (s.imsi, s.access_point)
 
--- the target is the serving gateway's TEID of a default bearer
-pub record ToServingDefault (history : List Sent) (e : Entry) : Type 0 where
+-- a packet for the subscriber of a Create Session Request, with the identity that it asks for
+pub record ForDefault (history : List Sent) (e : Entry) : Type 0 where
   pub request : CreateSessionRequest
   pub asked : HasSent history Serving (Create_session_request request)
-  pub target : e.target ≡ request.context.user.teid
   pub subscriber : names_of e ≡ names_in (subscriber_of request)
   pub identity : e.identity ≡ Some request.context.identity
+
+-- a packet for the session of a Create Bearer Request, with the identity that its answer gives
+pub record ForDedicated (history : List Sent) (e : Entry) : Type 0 where
+  pub answer : CreateBearerResponse
+  pub answered : HasSent history Serving (Create_bearer_response answer)
+  pub wanted : CreateBearerRequest
+  pub sent : HasSent history Packet (Create_bearer_request wanted)
+  pub echoed : first_returned answer.contexts ≡ Some wanted.context.user.teid
+  pub identity : e.identity ≡ first_identity answer.contexts
+  pub request : CreateSessionRequest
+  pub asked : HasSent history Serving (Create_session_request request)
+  pub header : wanted.header ≡ request.control.teid
+  pub subscriber : names_of e ≡ names_in (subscriber_of request)
+
+-- the target is the serving gateway's TEID of a default bearer
+pub record ToServingDefault (history : List Sent) (e : Entry) : Type 0 where
+  pub of : ForDefault history e
+  pub target : e.target ≡ of.request.context.user.teid
 
 -- the target is the serving gateway's TEID of a dedicated bearer
 pub record ToServingDedicated (history : List Sent) (e : Entry) : Type 0 where
-  pub answer : CreateBearerResponse
-  pub answered : HasSent history Serving (Create_bearer_response answer)
-  pub target : first_given answer.contexts ≡ Some e.target
-  pub identity : e.identity ≡ first_identity answer.contexts
-  pub wanted : CreateBearerRequest
-  pub sent : HasSent history Packet (Create_bearer_request wanted)
-  pub echoed : first_returned answer.contexts ≡ Some wanted.context.user.teid
-  pub request : CreateSessionRequest
-  pub asked : HasSent history Serving (Create_session_request request)
-  pub header : wanted.header ≡ request.control.teid
-  pub subscriber : names_of e ≡ names_in (subscriber_of request)
+  pub of : ForDedicated history e
+  pub target : first_given of.answer.contexts ≡ Some e.target
 
 -- the target is the packet gateway's TEID of a default bearer
 pub record ToPacketDefault (history : List Sent) (e : Entry) : Type 0 where
+  pub of : ForDefault history e
   pub answer : CreateSessionResponse
   pub answered : HasSent history Packet (Create_session_response answer)
   pub target : first_created answer.contexts ≡ Some e.target
-  pub request : CreateSessionRequest
-  pub asked : HasSent history Serving (Create_session_request request)
-  pub header : answer.header ≡ request.control.teid
-  pub subscriber : names_of e ≡ names_in (subscriber_of request)
-  pub identity : e.identity ≡ Some request.context.identity
+  pub header : answer.header ≡ of.request.control.teid
 
 -- the target is the packet gateway's TEID of a dedicated bearer
 pub record ToPacketDedicated (history : List Sent) (e : Entry) : Type 0 where
-  pub wanted : CreateBearerRequest
-  pub sent : HasSent history Packet (Create_bearer_request wanted)
-  pub target : e.target ≡ wanted.context.user.teid
-  pub answer : CreateBearerResponse
-  pub answered : HasSent history Serving (Create_bearer_response answer)
+  pub of : ForDedicated history e
+  pub target : e.target ≡ of.wanted.context.user.teid
   pub given : ℕ
-  pub gives : first_given answer.contexts ≡ Some given
-  pub echoed : first_returned answer.contexts ≡ Some wanted.context.user.teid
-  pub identity : e.identity ≡ first_identity answer.contexts
-  pub request : CreateSessionRequest
-  pub asked : HasSent history Serving (Create_session_request request)
-  pub header : wanted.header ≡ request.control.teid
-  pub subscriber : names_of e ≡ names_in (subscriber_of request)
+  pub gives : first_given of.answer.contexts ≡ Some given
 
 -- the packet is for a bearer of this gateway
 abbrev pub IsFor : List Sent → Role → Entry → Type 0
@@ -105,40 +101,49 @@ IsFor history Serving e = ToServingDefault history e ⊎ ToServingDedicated hist
 IsFor history Packet e = ToPacketDefault history e ⊎ ToPacketDedicated history e
 
 module _ (before after : List Sent) (extends : Extends before after) where
+  abbrev default_later : (e : Entry) → ForDefault before e → ForDefault after e
+  default_later e d = record { request = d.request; asked = extends.keeps Serving _ d.asked; subscriber = d.subscriber; identity = d.identity }
+
+  abbrev dedicated_later : (e : Entry) → ForDedicated before e → ForDedicated after e
+  dedicated_later e d = record { answer = d.answer; answered = extends.keeps Serving _ d.answered; wanted = d.wanted; sent = extends.keeps Packet _ d.sent; echoed = d.echoed; identity = d.identity; request = d.request; asked = extends.keeps Serving _ d.asked; header = d.header; subscriber = d.subscriber }
+
   pub IsFor-later : (role : Role) (e : Entry) → IsFor before role e → IsFor after role e
-  IsFor-later Serving e (inl d) = inl (record { request = d.request; asked = extends.keeps Serving _ d.asked; target = d.target; subscriber = d.subscriber; identity = d.identity })
-  IsFor-later Serving e (inr d) = inr (record { answer = d.answer; answered = extends.keeps Serving _ d.answered; target = d.target; identity = d.identity; wanted = d.wanted; sent = extends.keeps Packet _ d.sent; echoed = d.echoed; request = d.request; asked = extends.keeps Serving _ d.asked; header = d.header; subscriber = d.subscriber })
-  IsFor-later Packet e (inl d) = inl (record { answer = d.answer; answered = extends.keeps Packet _ d.answered; target = d.target; request = d.request; asked = extends.keeps Serving _ d.asked; header = d.header; subscriber = d.subscriber; identity = d.identity })
-  IsFor-later Packet e (inr d) = inr (record { wanted = d.wanted; sent = extends.keeps Packet _ d.sent; target = d.target; answer = d.answer; answered = extends.keeps Serving _ d.answered; given = d.given; gives = d.gives; echoed = d.echoed; identity = d.identity; request = d.request; asked = extends.keeps Serving _ d.asked; header = d.header; subscriber = d.subscriber })
+  IsFor-later Serving e (inl d) = inl (record { of = default_later e d.of; target = d.target })
+  IsFor-later Serving e (inr d) = inr (record { of = dedicated_later e d.of; target = d.target })
+  IsFor-later Packet e (inl d) = inl (record { of = default_later e d.of; answer = d.answer; answered = extends.keeps Packet _ d.answered; target = d.target; header = d.header })
+  IsFor-later Packet e (inr d) = inr (record { of = dedicated_later e d.of; target = d.target; given = d.given; gives = d.gives })
 
 -- the same subscriber and the same identity
 abbrev IsAlike : Entry → Entry → Type 0
 IsAlike d e = (names_of d ≡ names_of e) × (d.identity ≡ e.identity)
 
 module _ (history : List Sent) (serving_once : Once history Serving) (packet_once : Once history Packet) (answered_once : AnsweredOnce history) where
+  default_alike : (d e : Entry) (f : ForDefault history d) (g : ForDefault history e) → f.request ≡ g.request → IsAlike d e
+  default_alike d e f g same = (f.subscriber ∙ ap (λ q. names_in (subscriber_of q)) same ∙ sym g.subscriber, f.identity ∙ ap (λ (q : CreateSessionRequest). Some q.context.identity) same ∙ sym g.identity)
+
+  dedicated_alike : (d e : Entry) (f : ForDedicated history d) (g : ForDedicated history e) → f.answer ≡ g.answer → f.wanted ≡ g.wanted → IsAlike d e
+  dedicated_alike d e f g answers wanted =
+      let same = same_request history serving_once f.request g.request f.asked g.asked (sym f.header ∙ ap (λ (k : CreateBearerRequest). k.header) wanted ∙ g.header) in
+      (f.subscriber ∙ ap (λ q. names_in (subscriber_of q)) same ∙ sym g.subscriber, f.identity ∙ ap (λ (k : CreateBearerResponse). first_identity k.contexts) answers ∙ sym g.identity)
+
   -- what names the same TEID is for the same subscriber and bearer
   alike : (role : Role) (d e : Entry) → d.target ≡ e.target → IsFor history role d → IsFor history role e → IsAlike d e
-  alike Serving d e target (inl f) (inl g) =
-      let same = same_user_request history serving_once f.request g.request f.asked g.asked (sym f.target ∙ target ∙ g.target) in
-      (f.subscriber ∙ ap (λ q. names_in (subscriber_of q)) same ∙ sym g.subscriber, f.identity ∙ ap (λ (q : CreateSessionRequest). Some q.context.identity) same ∙ sym g.identity)
-  alike Serving d e target (inl f) (inr g) = absurd (request_not_answer history serving_once f.request g.answer f.asked g.answered (g.target ∙ ap (λ k. Some k) (sym target ∙ f.target)))
-  alike Serving d e target (inr f) (inl g) = absurd (request_not_answer history serving_once g.request f.answer g.asked f.answered (f.target ∙ ap (λ k. Some k) (target ∙ g.target)))
+  alike Serving d e target (inl f) (inl g) = default_alike d e f.of g.of (same_user_request history serving_once f.of.request g.of.request f.of.asked g.of.asked (sym f.target ∙ target ∙ g.target))
+  alike Serving d e target (inl f) (inr g) = absurd (request_not_answer history serving_once f.of.request g.of.answer f.of.asked g.of.answered (g.target ∙ ap (λ k. Some k) (sym target ∙ f.target)))
+  alike Serving d e target (inr f) (inl g) = absurd (request_not_answer history serving_once g.of.request f.of.answer g.of.asked f.of.answered (f.target ∙ ap (λ k. Some k) (target ∙ g.target)))
   alike Serving d e target (inr f) (inr g) =
-      let answers = same_bearer_answer history serving_once f.answer g.answer f.answered g.answered e.target (f.target ∙ ap (λ k. Some k) target) g.target in
-      let wanted = same_create_bearer_request history packet_once f.wanted g.wanted f.sent g.sent (one_value (first_returned g.answer.contexts) f.wanted.context.user.teid g.wanted.context.user.teid (ap (λ (k : CreateBearerResponse). first_returned k.contexts) (sym answers) ∙ f.echoed) g.echoed) in
-      let same = same_request history serving_once f.request g.request f.asked g.asked (sym f.header ∙ ap (λ (k : CreateBearerRequest). k.header) wanted ∙ g.header) in
-      (f.subscriber ∙ ap (λ q. names_in (subscriber_of q)) same ∙ sym g.subscriber, f.identity ∙ ap (λ (k : CreateBearerResponse). first_identity k.contexts) answers ∙ sym g.identity)
+      let answers = same_bearer_answer history serving_once f.of.answer g.of.answer f.of.answered g.of.answered e.target (f.target ∙ ap (λ k. Some k) target) g.target in
+      let echoed = one_value (first_returned g.of.answer.contexts) f.of.wanted.context.user.teid g.of.wanted.context.user.teid (ap (λ (k : CreateBearerResponse). first_returned k.contexts) (sym answers) ∙ f.of.echoed) g.of.echoed in
+      dedicated_alike d e f.of g.of answers (same_create_bearer_request history packet_once f.of.wanted g.of.wanted f.of.sent g.of.sent echoed)
   alike Packet d e target (inl f) (inl g) =
       let answers = same_user_answer history packet_once f.answer g.answer f.answered g.answered e.target (f.target ∙ ap (λ k. Some k) target) g.target in
-      let same = same_request history serving_once f.request g.request f.asked g.asked (sym f.header ∙ ap (λ (k : CreateSessionResponse). k.header) answers ∙ g.header) in
-      (f.subscriber ∙ ap (λ q. names_in (subscriber_of q)) same ∙ sym g.subscriber, f.identity ∙ ap (λ (q : CreateSessionRequest). Some q.context.identity) same ∙ sym g.identity)
-  alike Packet d e target (inl f) (inr g) = absurd (answer_not_request history packet_once f.answer g.wanted f.answered g.sent (f.target ∙ ap (λ k. Some k) (target ∙ g.target)))
-  alike Packet d e target (inr f) (inl g) = absurd (answer_not_request history packet_once g.answer f.wanted g.answered f.sent (g.target ∙ ap (λ k. Some k) (sym target ∙ f.target)))
+      default_alike d e f.of g.of (same_request history serving_once f.of.request g.of.request f.of.asked g.of.asked (sym f.header ∙ ap (λ (k : CreateSessionResponse). k.header) answers ∙ g.header))
+  alike Packet d e target (inl f) (inr g) = absurd (answer_not_request history packet_once f.answer g.of.wanted f.answered g.of.sent (f.target ∙ ap (λ k. Some k) (target ∙ g.target)))
+  alike Packet d e target (inr f) (inl g) = absurd (answer_not_request history packet_once g.answer f.of.wanted g.answered f.of.sent (g.target ∙ ap (λ k. Some k) (sym target ∙ f.target)))
   alike Packet d e target (inr f) (inr g) =
-      let wanted = same_create_bearer_request history packet_once f.wanted g.wanted f.sent g.sent (sym f.target ∙ target ∙ g.target) in
-      let answers = answered_once f.answer g.answer f.given g.given f.answered g.answered f.gives g.gives (f.echoed ∙ ap (λ (k : CreateBearerRequest). Some k.context.user.teid) wanted ∙ sym g.echoed) in
-      let same = same_request history serving_once f.request g.request f.asked g.asked (sym f.header ∙ ap (λ (k : CreateBearerRequest). k.header) wanted ∙ g.header) in
-      (f.subscriber ∙ ap (λ q. names_in (subscriber_of q)) same ∙ sym g.subscriber, f.identity ∙ ap (λ (k : CreateBearerResponse). first_identity k.contexts) answers ∙ sym g.identity)
+      let wanted = same_create_bearer_request history packet_once f.of.wanted g.of.wanted f.of.sent g.of.sent (sym f.target ∙ target ∙ g.target) in
+      let answers = answered_once f.of.answer g.of.answer f.given g.given f.of.answered g.of.answered f.gives g.gives (f.of.echoed ∙ ap (λ (k : CreateBearerRequest). Some k.context.user.teid) wanted ∙ sym g.of.echoed) in
+      dedicated_alike d e f.of g.of answers wanted
 
   pub same_entry : (role : Role) (d e : Entry) → d.target ≡ e.target → d.payload ≡ e.payload → IsFor history role d → IsFor history role e → d ≡ e
   same_entry role d e target payload f g =

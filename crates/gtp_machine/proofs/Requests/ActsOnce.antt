@@ -1,25 +1,23 @@
 -- Until its answer is given up, a create request makes one context and has one answer.
 use Rattle.std.proofs.Common.{◌≡◌, ◌⊎◌, inl, inr, ⊎_elim, ℕ, List, [], ◌∷◌, ◌++◌, Option, Some, None, refl, sym, ◌∙◌, ap, subst, append_assoc}
 use Rattle.std.specs.FinMap.{get}
-use Rattle.gtp_values.specs.Counter.{age_of}
-use Rattle.gtp_values.specs.declared.counter.Age.{Age}
-use Rattle.gtp_values.specs.declared.counter.Age.TheVariants.{Same, Later, Earlier}
 use Rattle.gtp_values.specs.FiniteMap.{Among}
-use Rattle.gtp_machine.specs.Step.{Step, Done, Steps}
+use Rattle.gtp_machine.specs.Step.{TakesBy, Step, Done, Steps}
 use Rattle.gtp_machine.specs.Config.{Config}
 use Rattle.gtp_machine.specs.Message.{CreateSessionRequest, CreateBearerRequest, Message, Create_session_request, Create_bearer_request}
 use Rattle.gtp_machine.specs.Node.{Role, Serving, Packet, Bearer, Arrival, Held, Node, fresh_node}
-use Rattle.gtp_machine.specs.Input.{Input, Commanded, Control_came, User_came, Moves_on, Control_message, Resend, Give_up, Forget, DropReason, Effect, dropped, datagrams}
-use Rattle.gtp_machine.specs.Recovery.{Judges, Weighs, Hears, peer_restarted}
+use Rattle.gtp_machine.specs.Input.{EventOutcome, Input, Commanded, Control_came, User_came, Moves_on, Control_message, Resend, Give_up, Forget, Effect, datagrams}
+use Rattle.gtp_machine.specs.Recovery.{Hears, peer_restarted}
 use Rattle.gtp_machine.specs.Move.{Forgets}
 use Rattle.gtp_machine.specs.Answer.{making, Repeats, IsNew, TakesReading, ControlStep, answered}
 use Rattle.gtp_machine.specs.Serving.{CreateBearerAsked, ServingTakes}
 use Rattle.gtp_machine.specs.Config.{template_for}
+use Rattle.gtp_machine.proofs.Basics.Finishing.{quietly, on_bearer_asked, on_session_asked, on_hears, on_control, by_rule}
 use Rattle.gtp_machine.proofs.Basics.Templates.{goes}
 use Rattle.gtp_machine.specs.Packet.{session_cause, session_response, made_session, session_made, CreateSessionAsked, PacketTakes}
 use Rattle.gtp_machine.specs.Once.{TookRequest, Makes, NeverForgets, SecondAddsNothing, ActsOnce, ActsOnceInTime, HeldUntilForgotten}
 use Rattle.gtp_machine.specs.Determined.{OneAnswerPerRequest, ReachedHoldsOneAnswer}
-use Rattle.gtp_machine.proofs.Basics.FiniteMaps.{Among-left, Among-right, Among-last, Among-one_more}
+use Rattle.gtp_machine.proofs.Basics.FiniteMaps.{Among-only, Among-left, Among-right, Among-last, Among-one_more}
 use Rattle.gtp_machine.proofs.Changes.Shrinking.{Shrunk-finished, Shrinks-restart}
 use Rattle.gtp_machine.proofs.Requests.Holding.{held_in, Keeps, Adds, command_held, user_held, control_held}
 use Rattle.gtp_machine.proofs.Changes.Forgetting.{leaves}
@@ -103,8 +101,8 @@ pub record IsAnswered (request : Arrival) (e : Effect) : Type 0 where
 abbrev Responds : Arrival → Node → Effect → Type 0
 Responds request old e = IsQuiet old e ⊎ IsAnswered request e
 
-quiet : (request : Arrival) (old : Node) (e : Effect) (why : DropReason) → e ≡ dropped old why → Responds request old e
-quiet request old e why gives = inl (record { silent = ap (λ (f : Effect). datagrams f.out.sent) gives; none_comes = λ key b is. (b, ap (λ (f : Effect). get f.node.bearers key) (sym gives) ∙ is) })
+quiet : (request : Arrival) (old : Node) (e : Effect) (outcome : EventOutcome) → e ≡ quietly old outcome → Responds request old e
+quiet request old e outcome gives = inl (record { silent = ap (λ (f : Effect). datagrams f.out.sent) gives; none_comes = λ key b is. (b, ap (λ (f : Effect). get f.node.bearers key) (sym gives) ∙ is) })
 
 made : (request : Arrival) (old : Node) (e : Effect) (m : List Message) (cause : ℕ) (new : Node) → e ≡ making request m cause new → Responds request old e
 made request old e m cause new gives = inr (record { answer = m; sends = ap (λ (f : Effect). datagrams f.out.sent) gives; held = subst (λ (f : Effect). Among (record { request = request; answer = m }) f.node.held) (sym gives) (Among-last {X = Held} (record { request = request; answer = m }) new.held) })
@@ -113,26 +111,17 @@ gave : (request : Arrival) (old : Node) (e : Effect) (m : Message) (cause : ℕ)
 gave request old e m cause new gives = inr (record { answer = m ∷ []; sends = ap (λ (f : Effect). datagrams f.out.sent) gives; held = subst (λ (f : Effect). Among (record { request = request; answer = m ∷ [] }) f.node.held) (sym gives) (Among-last {X = Held} (record { request = request; answer = m ∷ [] }) new.held) })
 
 create_bearer_asked : (request : Arrival) (q : CreateBearerRequest) (old : Node) (e : Effect) → CreateBearerAsked request q old e → Responds request old e
-create_bearer_asked request q old e (inl f) = quiet request old e _ f.1
-create_bearer_asked request q old e (inr (a, inl f)) = gave request old e _ _ _ f.1
-create_bearer_asked request q old e (inr (a, inr (b, inl f))) = quiet request old e _ f.1
-create_bearer_asked request q old e (inr (a, inr (b, inr (c, inl f)))) = gave request old e _ _ _ f.1
-create_bearer_asked request q old e (inr (a, inr (b, inr (c, inr (d, inl f))))) = gave request old e _ _ _ f.1
-create_bearer_asked request q old e (inr (a, inr (b, inr (c, inr (d, inr (g, inl f)))))) = gave request old e _ _ _ f.1
-create_bearer_asked request q old e (inr (a, inr (b, inr (c, inr (d, inr (g, inr (h, r))))))) = made request old e _ _ _ r.gives
+create_bearer_asked request q old e r = on_bearer_asked old e (quiet request old e) request q (λ room x cause f. gave request old e _ _ _ f) (λ room at draws r. made request old e _ _ _ r.gives) r
 
 create_session_asked : (request : Arrival) (q : CreateSessionRequest) (old : Node) (e : Effect) → CreateSessionAsked request q old e → Responds request old e
-create_session_asked request q old e (inl f) = quiet request old e _ f.1
-create_session_asked request q old e (inr (a, inl f)) = gave request old e _ _ _ f.1
-create_session_asked request q old e (inr (a, inr (b, inl f))) = gave request old e _ _ _ f.1
-create_session_asked request q old e (inr (a, inr (b, inr (c, inl f)))) = gave request old e _ _ _ f.1
-create_session_asked request q old e (inr (a, inr (b, inr (c, inr (d, inl f))))) = gave request old e _ _ _ f.1
-create_session_asked request q old e (inr (a, inr (b, inr (c, inr (d, inr (g, inl f)))))) = gave request old e _ _ _ f.1
-create_session_asked request q old e (inr (a, inr (b, inr (c, inr (d, inr (g, inr (h, inl f))))))) = gave request old e _ _ _ f.1
-create_session_asked request q old e (inr (a, inr (b, inr (c, inr (d, inr (g, inr (h, inr (i, r)))))))) = ⊎_elim
+create_session_asked request q old e r =
+    on_session_asked old e (quiet request old e) request q
+    (λ room cause high f. gave request old e _ _ _ f)
+    (λ room identity few draws r. ⊎_elim
     (λ alone. made request old e _ _ _ alone)
     (λ x. made request old e _ _ _ x.adds.gives)
-    (goes request (session_response old q r.control r.user r.address) (session_cause q.pdn r.address) r.control (made_session q r.address) (session_made old q r.control r.user r.address) e (template_for q.access_point old.config.templates) r.gives)
+    (goes request (session_response old q r.control r.user r.address) (session_cause q.pdn r.address) r.control (made_session q r.address) (session_made old q r.control r.user r.address) e (template_for q.access_point old.config.templates) r.gives))
+    r
 
 -- hearing the counter first makes no bearer
 module _ (request : Arrival) (Takes : Node → Effect → Type 0) (takes : (old : Node) (e : Effect) → Takes old e → Responds request old e) where
@@ -144,21 +133,15 @@ module _ (request : Arrival) (Takes : Node → Effect → Type 0) (takes : (old 
   from_first old c e (inl q) = inl (record { silent = q.silent; none_comes = q.none_comes })
   from_first old c e (inr a) = inr a
 
-  judged : (old : Node) (c : ℕ) (a : Age) (e : Effect) → Judges Takes old c a e → Responds request old e
-  judged old c Same e r = takes old e r
-  judged old c Later e r = from_restart old c e (takes (peer_restarted old c) e r)
-  judged old c Earlier e r = quiet request old e _ r
-
-  weighed : (old : Node) (c : ℕ) (known : Option ℕ) (e : Effect) → Weighs Takes old c known e → Responds request old e
-  weighed old c None e r = from_first old c e (takes (record old { known = Some c }) e r)
-  weighed old c (Some k) e r = judged old c (age_of k c) e r
-
   heard : (old : Node) (o : Option ℕ) (e : Effect) → Hears Takes old o e → Responds request old e
-  heard old None e r = takes old e r
-  heard old (Some c) e r = ⊎_elim
-      (λ q. inl (record { silent = ap (λ (f : Effect). datagrams f.out.sent) r.2 ∙ q.silent; none_comes = λ key b is. q.none_comes key b (ap (λ (f : Effect). get f.node.bearers key) (sym r.2) ∙ is) }))
-      (λ a. inr (record { answer = a.answer; sends = ap (λ (f : Effect). datagrams f.out.sent) r.2 ∙ a.sends; held = subst (λ (f : Effect). Among (record { request = request; answer = a.answer }) f.node.held) (sym r.2) a.held }))
-      (weighed old c old.known r.0 r.1)
+  heard old =
+      on_hears (Responds request old) Takes old (takes old)
+      (λ c e r. from_first old c e (takes (record old { known = Some c }) e r))
+      (λ c e r. from_restart old c e (takes (peer_restarted old c) e r))
+      (quiet request old)
+      (λ taken heard learned. ⊎_elim
+      (λ q. inl (record { silent = q.silent; none_comes = q.none_comes }))
+      (λ a. inr (record { answer = a.answer; sends = a.sends; held = a.held })))
 
 -- a repeat sends the answer that is held, and changes nothing
 repeated : (request : Arrival) (old : Node) (e : Effect) → Repeats old request e → Responds request old e
@@ -171,24 +154,15 @@ repeated request old e r = inr (record {
     entry : ◌≡◌ {A = Held} r.held (record { request = request; answer = r.held.answer })
     entry = λ i. record { request = r.same i; answer = r.held.answer }
 
-control : (Reads : Arrival → Node → Effect → Type 0) (request : Arrival) (old : Node) (e : Effect) → (Reads request old e → Responds request old e) → ControlStep Reads request old e → Responds request old e
-control Reads request old e responds (inl f) = quiet request old e _ f.1
-control Reads request old e responds (inr (peer, inl r)) = repeated request old e r
-control Reads request old e responds (inr (peer, inr r)) = responds r.1
-
 -- what a step on a create request does
 on_request : (role : Role) (request : Arrival) (m : Message) → Makes role m → (old : Node) (e : Effect) → Step role old (Control_came request (Control_message m)) e → Responds request old e
-on_request Serving request (Create_bearer_request q) makes old e r = control (TakesReading Serving ServingTakes (Control_message (Create_bearer_request q))) request old e (λ rows. ⊎_elim (λ f. quiet request old e _ f.1) (λ t. heard request (ServingTakes request (Create_bearer_request q)) (create_bearer_asked request q) old None e t.1) rows) r
-on_request Packet request (Create_session_request q) makes old e r = control (TakesReading Packet PacketTakes (Control_message (Create_session_request q))) request old e (λ rows. ⊎_elim (λ f. quiet request old e _ f.1) (λ t. heard request (PacketTakes request (Create_session_request q)) (create_session_asked request q) old q.recovery e t.1) rows) r
+on_request Serving request (Create_bearer_request q) makes old e r = on_control old e (quiet request old e) request (repeated request old e) (λ new. by_rule (quiet request old e _) (λ takes. heard request (ServingTakes request (Create_bearer_request q)) (create_bearer_asked request q) old None e)) r
+on_request Packet request (Create_session_request q) makes old e r = on_control old e (quiet request old e) request (repeated request old e) (λ new. by_rule (quiet request old e _) (λ takes. heard request (PacketTakes request (Create_session_request q)) (create_session_asked request q) old q.recovery e)) r
 on_request Serving request _ makes old e r = absurd makes
 on_request Packet request _ makes old e r = absurd makes
 
 only : (a b : List Message) (sent : List (List Message)) → sent ≡ b ∷ [] → Among a sent → a ≡ b
-only a b sent is among = one (subst (Among a) is among)
-  where
-    one : Among a (b ∷ []) → a ≡ b
-    one (inl same) = same
-    one (inr none) = absurd none
+only a b sent is among = Among-only a b (subst (Among a) is among)
 
 -- a request whose answer is held changes nothing, and gets that answer
 pub record IsAgain (old : Node) (e : Effect) (a : List Message) : Type 0 where
@@ -204,8 +178,7 @@ again Reads request a old e o held (inr (peer, inl r)) = record {
 again Reads request a old e o held (inr (peer, inr r)) = absurd (r.0 (record { request = request; answer = a }) held refl)
 
 step_again : (role : Role) (request : Arrival) (m : Message) (a : List Message) (old : Node) (e : Effect) → OneAnswerPerRequest old → Among (record { request = request; answer = a }) old.held → Step role old (Control_came request (Control_message m)) e → IsAgain old e a
-step_again Serving request m a old e o held r = again (TakesReading Serving ServingTakes (Control_message m)) request a old e o held r
-step_again Packet request m a old e o held r = again (TakesReading Packet PacketTakes (Control_message m)) request a old e o held r
+step_again role request m = again (TakesReading role (TakesBy role) (Control_message m)) request
 
 fresh_once : (config : Config) (counter : ℕ) → OneAnswerPerRequest (fresh_node config counter)
 fresh_once config counter = record { once = λ g h none. absurd none }

@@ -9,7 +9,7 @@ use Rattle.gtp_machine.specs.Input.{Control_message, Control_fault, Control_came
 use Rattle.gtp_machine.specs.Recovery.{Hears}
 use Rattle.gtp_machine.specs.Move.{MoveStep}
 use Rattle.gtp_machine.specs.Tick.{TickStep, ticked}
-use Rattle.gtp_machine.specs.Step.{Step}
+use Rattle.gtp_machine.specs.Step.{TakesBy, Step}
 use Rattle.gtp_machine.specs.Answer.{TakesReading, ControlStep}
 use Rattle.gtp_machine.specs.Serving.{ServingTakes}
 use Rattle.gtp_machine.specs.Packet.{PacketTakes}
@@ -17,8 +17,7 @@ use Rattle.gtp_machine.specs.Laws.{CreateAsked}
 use Rattle.gtp_machine.proofs.Basics.FiniteMaps.{Among-one_more}
 use Rattle.gtp_machine.proofs.Basics.Kinds.{creates, is_create_answer}
 use Rattle.gtp_machine.proofs.Changes.Shrinking.{Shrunk-finished}
-use Rattle.gtp_machine.proofs.Changes.Forgetting.{leaves}
-use Rattle.gtp_machine.proofs.Requests.Holding.{held_in, seen_in, are_plain, Calm, Gives, Answers, serving_answers, packet_answers, heard}
+use Rattle.gtp_machine.proofs.Requests.Holding.{held_in, seen_in, are_plain, Calm, Gives, Answers, serving_answers, packet_answers, heard, tick_held}
 use Rattle.gtp_machine.proofs.Basics.Datagrams.{both_messages, of_one}
 
 -- no such response is sent, and none comes to be held
@@ -92,26 +91,16 @@ message_replies Packet m request old e r = control (TakesReading Packet PacketTa
 
 -- what reads as no message comes
 pub fault_replies : (role : Role) (fault : ℕ) (request : Arrival) (old : Node) (e : Effect) → Step role old (Control_came request (Control_fault fault)) e → IsLesser old e ⊎ (IsRepeated request old e ⊎ ⊥)
-fault_replies Serving fault request old e r = control (TakesReading Serving ServingTakes (Control_fault fault)) request old e ⊥ (λ f. inl (lesser_calm old e (ap seen_in f))) r
-fault_replies Packet fault request old e r = control (TakesReading Packet PacketTakes (Control_fault fault)) request old e ⊥ (λ f. inl (lesser_calm old e (ap seen_in f))) r
+fault_replies role fault request old e = control (TakesReading role (TakesBy role) (Control_fault fault)) request old e ⊥ (λ f. inl (lesser_calm old e (ap seen_in f)))
 
 -- no pending request is such a response
 abbrev pub AllAsk : FiniteMap PendingRequest → Type 0
 AllAsk pending = Each (λ number (p : PendingRequest). is_create_answer p.request ≡ false) pending
 
-move_lesser : (old : Node) → AllAsk old.pending → (move : Move) (e : Effect) → MoveStep old move e → IsLesser old e
-move_lesser old asks (Resend number) e r = record {
-  plain = ap (λ (f : Effect). are_plain (messages f.out.sent)) r.gives ∙ ap (λ (b : Bool). not b && true) (asks number r.at.pending r.at.waits);
-  held = λ h among. inl (subst (Among h) (ap held_in r.gives) among);
-}
-move_lesser old asks (Give_up number) e r = record {
-  plain = ap (λ (f : Effect). are_plain (messages f.out.sent)) r.gives;
-  held = λ h among. inl (subst (Among h) (ap held_in r.gives ∙ (Shrunk-finished old number r.at.pending.session r.at.pending.bearer).held) among);
-}
-move_lesser old asks (Forget request) e r = record {
-  plain = ap (λ (f : Effect). are_plain (messages f.out.sent)) r.gives;
-  held = λ h among. inl ((leaves request old.held r.rest r.left).only h (subst (Among h) (ap held_in r.gives) among));
-}
+move_plain : (old : Node) → AllAsk old.pending → (move : Move) (e : Effect) → MoveStep old move e → are_plain (messages e.out.sent) ≡ true
+move_plain old asks (Resend number) e r = ap (λ (f : Effect). are_plain (messages f.out.sent)) r.gives ∙ ap (λ (b : Bool). not b && true) (asks number r.at.pending r.at.waits)
+move_plain old asks (Give_up number) e r = ap (λ (f : Effect). are_plain (messages f.out.sent)) r.gives
+move_plain old asks (Forget request) e r = ap (λ (f : Effect). are_plain (messages f.out.sent)) r.gives
 
 move_asks : (old : Node) → AllAsk old.pending → (move : Move) (e : Effect) → MoveStep old move e → AllAsk e.node.pending
 move_asks old asks (Resend number) e r = subst (λ (f : Effect). AllAsk f.node.pending) (sym r.gives) asks
@@ -125,15 +114,11 @@ plain_both (m ∷ first) rest a b =
     ap (λ (k : Bool). k && are_plain (first ++ rest)) s.left ∙ plain_both first rest s.right b
 
 -- a tick sends and holds none
+tick_plain : (moves : List Move) (old : Node) → AllAsk old.pending → (out : Out) (new : Node) → TickStep old moves out new → are_plain (messages out.sent) ≡ true
+tick_plain [] old asks out new t = ap (λ (o : Out). are_plain (messages o.sent)) t.0
+tick_plain (move ∷ moves) old asks out new (e, rest, step, others, is) =
+    ap (λ (o : Out). are_plain (messages o.sent)) is ∙ ap are_plain (both_messages e.out.sent rest.sent)
+    ∙ plain_both (messages e.out.sent) (messages rest.sent) (move_plain old asks move e step) (tick_plain moves e.node (move_asks old asks move e step) rest new others)
+
 pub tick_lesser : (moves : List Move) (old : Node) → AllAsk old.pending → (out : Out) (new : Node) → TickStep old moves out new → IsLesser old (ticked out new)
-tick_lesser [] old asks out new (quiet, same) = record {
-  plain = ap (λ (o : Out). are_plain (messages o.sent)) quiet;
-  held = λ h among. inl (subst (λ (n : Node). Among h n.held) same among);
-}
-tick_lesser (move ∷ moves) old asks out new (e, rest, step, others, is) =
-    let first = move_lesser old asks move e step in
-    let later = tick_lesser moves e.node (move_asks old asks move e step) rest new others in
-    record {
-      plain = ap (λ (o : Out). are_plain (messages o.sent)) is ∙ ap are_plain (both_messages e.out.sent rest.sent) ∙ plain_both (messages e.out.sent) (messages rest.sent) first.plain later.plain;
-      held = λ h among. ⊎_elim (λ was. first.held h was) (λ lesser. inr lesser) (later.held h among);
-    }
+tick_lesser moves old asks out new t = record { plain = tick_plain moves old asks out new t; held = λ h among. inl (tick_held old moves out new t h among) }

@@ -9,15 +9,16 @@ use Rattle.gtp_values.specs.FiniteMap.{Among}
 use Rattle.gtp_tables.specs.Index.{names}
 use Rattle.gtp_machine.specs.Config.{control_end, user_end}
 use Rattle.gtp_machine.specs.Message.{CreateSessionRequest, DeleteSessionRequest, CreateBearerRequest, DeleteBearerRequest, CreateBearerResponse, Message, Create_session_request, Delete_session_request, Create_bearer_request, Create_bearer_response, Delete_bearer_request, Packet_data, End_marker, Error_indication, User_echo_request, User_echo_response, Supported_extensions, Owns, recovery_of, first_given}
-use Rattle.gtp_machine.specs.Node.{Role, Serving, Packet, Active, Closing, Session, Bearer, PendingRequest, Arrival, Node, written}
-use Rattle.gtp_machine.specs.Input.{UserReading, User_message, Extension_needed, User_fault, Move, Resend, Give_up, Forget, Entry, entry_for, Ticked, Came_to, EventOutcome, GoneOut, Dropped, UnknownContext, UnknownExtension, Echoed, Repeated, Effect, nothing, says, messages}
+use Rattle.gtp_machine.specs.Node.{Role, Serving, Packet, Active, Closing, Bearer, PendingRequest, Arrival, Node, written}
+use Rattle.gtp_machine.specs.Input.{UserReading, User_message, Extension_needed, User_fault, Move, Resend, Give_up, Forget, Entry, entry_for, Ticked, Came_to, EventOutcome, GoneOut, Dropped, UnknownContext, UnknownExtension, Echoed, Repeated, Effect, nothing, says, messages, Command, Create_session, Delete_session, Create_bearer, Delete_bearer, Release_session, Mark_end, Send_echo, Send_user, Specification}
 use Rattle.gtp_machine.specs.Removal.{finished}
 use Rattle.gtp_machine.specs.Recovery.{peer_restarted, Judges, Weighs, Hears, learned_by}
 use Rattle.gtp_machine.specs.Move.{MoveStep, Forgets}
-use Rattle.gtp_machine.specs.User.{Accepts, PacketCame, ended_bearer, EndCame, default_among, ErrorCame, UserTaken, UserRead, UserStep}
-use Rattle.gtp_machine.specs.Command.{SendsPacket, SessionDeleted, SessionReleased, BearerDeleted, EndMarked, EchoBegun, PacketSent, asks}
+use Rattle.gtp_machine.specs.User.{Accepts, ended_bearer, default_among, UserTaken, UserStep}
+use Rattle.gtp_machine.specs.Command.{SendsPacket, SessionBegun, BearerBegun, CommandStep, asks}
 use Rattle.gtp_machine.specs.Answer.{Repeats}
 use Rattle.gtp_machine.specs.World.{other, Sent, HasSent}
+use Rattle.gtp_machine.proofs.Basics.Finishing.{on_session_deleted, on_bearer_deleted, on_session_released, on_end_marked, on_echo_begun, on_packet_sent, on_packet_came, on_end_came, on_error_came, on_user_step}
 use Rattle.gtp_machine.proofs.Basics.Kinds.{is_create_answer}
 use Rattle.gtp_machine.proofs.Origins.Drawing.{Draws-nothing, Draws-one, Made-plain, IsProper}
 use Rattle.gtp_machine.proofs.Origins.Contexts.{closes-shrinks}
@@ -27,6 +28,7 @@ use Rattle.gtp_machine.proofs.Origins.Entries.{Once, IsFor}
 use Rattle.gtp_machine.proofs.Changes.Steps.{IsHandedNow, IsAnsweredNow, at_result, IsPlain, IsHeardFrom, Draws-from, Logs-from, Heard-itself}
 use Rattle.gtp_machine.proofs.Changes.After.{Contexts-shrinks, Knows, KnownBy, KnownAfter, IsTold, nothing_told, After, drawn-shrinks, standing-shrinks, ready-shrinks, later, shrunk, stays, speaks, asks_plain, repeated, repeated_whole}
 use Rattle.gtp_machine.proofs.Changes.Carrying.{leaves_for, comes_for}
+use Rattle.gtp_values.specs.declared.qos.Qos.{Qos}
 use Rattle.gtp_machine.proofs.Changes.Forgetting.{leaves}
 
 -- a request that asks for no session and no bearer, owns no TEID, and tells no counter but this
@@ -102,45 +104,32 @@ module _ (role : Role) (history : List Sent) (taken : Arrival → Message → Ty
       answers x t (inl is) gives = absurd (cc is)
       answers x t (inr none) gives = absurd none
 
-  pub session_deleted : (by : Role) (session : ℕ) (e : Effect) → SessionDeleted by session old e → After role history taken old e
-  session_deleted Packet session e r = unchanged _ e r
-  session_deleted Serving session e (inl f) = unchanged _ e f.1
-  session_deleted Serving session e (inr (at, inl f)) = unchanged _ e f.1
-  session_deleted Serving session e (inr (at, inr (active, inl f))) = unchanged _ e f.1
-  session_deleted Serving session e (inr (at, inr (active, inr (few, r)))) = asks_lesser r.number _ _ _ (Shrunk-closing old session at.session at.stands active) (deletes_session old.counter _) e r.gives
-
-  pub session_released : (by : Role) (session : ℕ) (e : Effect) → SessionReleased by session old e → After role history taken old e
-  session_released Serving session e r = unchanged _ e r
-  session_released Packet session e (inl f) = unchanged _ e f.1
-  session_released Packet session e (inr (at, inl f)) = unchanged _ e f.1
-  session_released Packet session e (inr (at, inr (active, inl f))) = unchanged _ e f.1
-  session_released Packet session e (inr (at, inr (active, inr (few, r)))) = asks_lesser r.number _ _ _ (Shrunk-closing old session at.session at.stands active) (deletes_bearer old.counter _) e r.gives
-
-  pub bearer_deleted : (by : Role) (session identity : ℕ) (e : Effect) → BearerDeleted by session identity old e → After role history taken old e
-  bearer_deleted Serving session identity e r = unchanged _ e r
-  bearer_deleted Packet session identity e (inl f) = unchanged _ e f.1
-  bearer_deleted Packet session identity e (inr (at, inl f)) = unchanged _ e f.1
-  bearer_deleted Packet session identity e (inr (at, inr (named, inl f))) = unchanged _ e f.1
-  bearer_deleted Packet session identity e (inr (at, inr (named, inr (active, inl f)))) = unchanged _ e f.1
-  bearer_deleted Packet session identity e (inr (at, inr (named, inr (active, inr (few, r))))) = asks_lesser r.number _ _ _ (Shrunk-bearer old named.key named.at.bearer (record named.at.bearer { state = Closing }) named.at.stands (closing_same named.at.bearer)) (deletes_bearer old.counter _) e r.gives
-
-  pub end_marked : (by : Role) (bearer : ℕ) (e : Effect) → EndMarked by bearer old e → After role history taken old e
-  end_marked Serving bearer e r = unchanged _ e r
-  end_marked Packet bearer e (inl f) = unchanged _ e f.1
-  end_marked Packet bearer e (inr (at, inl f)) = unchanged _ e f.1
-  end_marked Packet bearer e (inr (at, inr (active, inl f))) = unchanged _ e f.1
-  end_marked Packet bearer e (inr (at, inr (active, inr (before, gives)))) = at_result (After role history taken old) e _ gives (tells_plain _ (End_marker (written at.bearer.remote)) (Came_to GoneOut) (record old { bearers = insert old.bearers bearer (ended_bearer at.bearer) }) (Shrunk-bearer old bearer at.bearer (ended_bearer at.bearer) at.stands (ended_same at.bearer)) tt (λ t none. none) (λ c e. absurd (cc e)) tt)
-
-  pub echo_begun : (e : Effect) → EchoBegun old e → After role history taken old e
-  echo_begun e (inl f) = unchanged _ e f.1
-  echo_begun e (inr (few, r)) = asks_lesser r.number _ _ old (Shrunk-itself old) (record { plain = tt; no_session = λ q e. cc e; no_bearer = λ r e. cc e; no_answer = refl; none = λ t none. none; told = λ r e. cc e; proper = tt }) e r.gives
-
-  pub packet_sent : (by : Role) (bearer : ℕ) (payload : List ℕ) (e : Effect) → PacketSent by bearer payload old e → After role history taken old e
-  packet_sent by bearer payload e (inl f) = unchanged _ e f.1
-  packet_sent by bearer payload e (inr (at, inl f)) = unchanged _ e f.1
-  packet_sent by bearer payload e (inr (at, inr (active, inl f))) = unchanged _ e f.1
-  packet_sent by bearer payload e (inr (at, inr (active, inr (goes, inl f)))) = unchanged _ e f.1
-  packet_sent by bearer payload e (inr (at, inr (active, inr (goes, inr (short, r))))) = sends bearer payload at.bearer e at.stands active r
+  -- a command, where this is so of the two that one gateway has and the other has not
+  pub commanded : (by : Role) (command : Command) (e : Effect) → ((spec : Specification) → SessionBegun by spec old e → After role history taken old e) → ((session : ℕ) (tft : List ℕ) (qos : Qos) → BearerBegun by session tft qos old e → After role history taken old e)
+      → CommandStep by command old e → After role history taken old e
+  commanded by (Create_session spec) e sessions bearers r = sessions spec r
+  commanded by (Delete_session session) e sessions bearers r =
+      on_session_deleted old e (λ outcome f. unchanged outcome e f) by session
+      (λ at active few r. asks_lesser r.number _ _ _ (Shrunk-closing old session at.session at.stands active) (deletes_session old.counter _) e r.gives)
+      r
+  commanded by (Create_bearer session tft qos) e sessions bearers r = bearers session tft qos r
+  commanded by (Delete_bearer session identity) e sessions bearers r =
+      on_bearer_deleted old e (λ outcome f. unchanged outcome e f) by session identity
+      (λ at named active few r. asks_lesser r.number _ _ _ (Shrunk-bearer old named.key named.at.bearer (record named.at.bearer { state = Closing }) named.at.stands (closing_same named.at.bearer)) (deletes_bearer old.counter _) e r.gives)
+      r
+  commanded by (Release_session session) e sessions bearers r =
+      on_session_released old e (λ outcome f. unchanged outcome e f) by session
+      (λ at active few r. asks_lesser r.number _ _ _ (Shrunk-closing old session at.session at.stands active) (deletes_bearer old.counter _) e r.gives)
+      r
+  commanded by (Mark_end bearer) e sessions bearers r =
+      on_end_marked old e (λ outcome f. unchanged outcome e f) by bearer
+      (λ at active gives. at_result (After role history taken old) e _ gives (tells_plain _ (End_marker (written at.bearer.remote)) (Came_to GoneOut) (record old { bearers = insert old.bearers bearer (ended_bearer at.bearer) }) (Shrunk-bearer old bearer at.bearer (ended_bearer at.bearer) at.stands (ended_same at.bearer)) tt (λ t none. none) (λ c e. absurd (cc e)) tt))
+      r
+  commanded by Send_echo e sessions bearers r =
+      on_echo_begun old e (λ outcome f. unchanged outcome e f)
+      (λ few r. asks_lesser r.number _ _ old (Shrunk-itself old) (record { plain = tt; no_session = λ q e. cc e; no_bearer = λ r e. cc e; no_answer = refl; none = λ t none. none; told = λ r e. cc e; proper = tt }) e r.gives)
+      r
+  commanded by (Send_user bearer payload) e sessions bearers r = on_packet_sent old e (λ outcome f. unchanged outcome e f) by bearer payload (λ at active r. sends bearer payload at.bearer e at.stands active r) r
 
   once_of : (by : Role) → Once history by
   once_of Serving = serving_once
@@ -199,44 +188,33 @@ module _ (role : Role) (history : List Sent) (taken : Arrival → Message → Ty
       accepted entry delivered is e (inl same) = subst (λ (k : Entry). HasSent history (other role) (Packet_data k.target k.payload) × IsFor history role k) (sym same) (delivered, is)
       accepted entry delivered is e (inr none) = absurd none
 
-  packet_came : (by : Role) (target : ℕ) (payload : List ℕ) (e : Effect) → HasSent history (other role) (Packet_data target payload) → PacketCame by target payload old e → After role history taken old e
-  packet_came by target payload e came (inl f) = at_result (After role history taken old) e _ f.1 (tells_plain (user_end old.config.peer.user) (Error_indication target old.config.own.user) (Came_to (Dropped UnknownContext)) old (Shrunk-itself old) tt (λ t none. none) (λ c e. absurd (cc e)) tt)
-  packet_came by target payload e came (inr (at, inl f)) = unchanged _ e f.1
-  packet_came by target payload e came (inr (at, inr (active, inl f))) = unchanged _ e f.1
-  packet_came by target payload e came (inr (at, inr (active, inr (comes, r)))) = accepts target payload at.bearer e at.stands active came r
-
-  end_came : (by : Role) (target : ℕ) (e : Effect) → EndCame by target old e → After role history taken old e
-  end_came Serving target e (inl f) = unchanged _ e f.1
-  end_came Serving target e (inr (at, inl f)) = unchanged _ e f.1
-  end_came Serving target e (inr (at, inr (active, gives))) = at_result (After role history taken old) e _ gives (shrunk role history taken old knows (record old { bearers = insert old.bearers target (ended_bearer at.bearer) }) (Shrunk-bearer old target at.bearer (ended_bearer at.bearer) at.stands (ended_same at.bearer)) [] _)
-  end_came Packet target e r = unchanged _ e r
-
-  error_came : (remote : ℕ) (e : Effect) → ErrorCame remote old e → After role history taken old e
-  error_came remote e (inl f) = unchanged _ e f.1
-  error_came remote e (inr (named, gives)) = at_result (After role history taken old) e _ gives (shrunk role history taken old knows _ (Shrunk-without (λ t. default_among remote t old.bearers) (λ t. names remote (get old.bearers t)) old) [] _)
-
   user_taken : (by : Role) (source : Endpoint) (m : Message) (e : Effect) → HasSent history (other role) m → UserTaken by source m old e → After role history taken old e
-  user_taken by source (Packet_data target payload) e came r = packet_came by target payload e came r
-  user_taken by source (End_marker target) e came r = end_came by target e r
-  user_taken by source (Error_indication remote address) e came r = error_came remote e r
+  user_taken by source (Packet_data target payload) e came r =
+      on_packet_came old e (λ outcome f. unchanged outcome e f) by target payload
+      (λ f. at_result (After role history taken old) e _ f (tells_plain (user_end old.config.peer.user) (Error_indication target old.config.own.user) (Came_to (Dropped UnknownContext)) old (Shrunk-itself old) tt (λ t none. none) (λ c e. absurd (cc e)) tt))
+      (λ at active r. accepts target payload at.bearer e at.stands active came r)
+      r
+  user_taken by source (End_marker target) e came r =
+      on_end_came old e (λ outcome f. unchanged outcome e f) by target
+      (λ at active gives. at_result (After role history taken old) e _ gives (shrunk role history taken old knows (record old { bearers = insert old.bearers target (ended_bearer at.bearer) }) (Shrunk-bearer old target at.bearer (ended_bearer at.bearer) at.stands (ended_same at.bearer)) [] _))
+      r
+  user_taken by source (Error_indication remote address) e came r =
+      on_error_came old e (λ outcome f. unchanged outcome e f) remote
+      (λ gives. at_result (After role history taken old) e _ gives (shrunk role history taken old knows _ (Shrunk-without (λ t. default_among remote t old.bearers) (λ t. names remote (get old.bearers t)) old) [] _))
+      r
   user_taken by source (User_echo_request number) e came r = at_result (After role history taken old) e _ r (tells_plain source (User_echo_response number) (Came_to Echoed) old (Shrunk-itself old) tt (λ t none. none) (λ c e. absurd (cc e)) tt)
   user_taken by source _ e came r = unchanged _ e r
 
-  user_read : (by : Role) (source : Endpoint) (reading : UserReading) (e : Effect) → UserCarried role history reading → UserRead by source reading old e → After role history taken old e
-  user_read by source (User_message m) e came r = user_taken by source m e came r
-  user_read by source Extension_needed e came r = at_result (After role history taken old) e _ r (tells_plain (user_end old.config.peer.user) (Supported_extensions (64 ∷ [])) (Came_to (Dropped UnknownExtension)) old (Shrunk-itself old) tt (λ t none. none) (λ c e. absurd (cc e)) tt)
-  user_read by source (User_fault fault) e came r = unchanged _ e r
-
   pub user_step : (by : Role) (source : Endpoint) (reading : UserReading) (e : Effect) → UserCarried role history reading → UserStep by source reading old e → After role history taken old e
-  user_step by source reading e came (inl f) = unchanged _ e f.1
-  user_step by source reading e came (inr (peer, r)) = user_read by source reading e came r
+  user_step by source reading e came r =
+      on_user_step old e (λ outcome f. unchanged outcome e f) by source reading
+      (λ m is r. user_taken by source m e (subst (UserCarried role history) is came) r)
+      (λ f. at_result (After role history taken old) e _ f (tells_plain (user_end old.config.peer.user) (Supported_extensions (64 ∷ [])) (Came_to (Dropped UnknownExtension)) old (Shrunk-itself old) tt (λ t none. none) (λ c e. absurd (cc e)) tt))
+      r
 
 -- the first counter that is heard
 knows_first : (role : Role) (history : List Sent) (old : Node) (c : ℕ) → old.known ≡ None → Knows role history old → Knows role history (record old { known = Some c })
-knows_first role history old c none knows = record { matched = knows.matched; contexts = knows.contexts; drawn = knows.drawn; standing = λ t s e. let at = knows.standing t s e in record { current = λ r is. absurd (impossible (at.current r is)); blank = at.blank; named = at.named }; ready = knows.ready; closed = knows.closed; pending = knows.pending; held = knows.held }
-  where
-    impossible : {k : ℕ} → old.known ≡ Some k → ⊥
-    impossible e = cc
+knows_first role history old c none knows = record { matched = knows.matched; contexts = knows.contexts; drawn = knows.drawn; standing = λ t s e. let at = knows.standing t s e in record { current = λ r is. absurd (cc (none, at.current r is)); blank = at.blank; named = at.named }; ready = knows.ready; closed = knows.closed; pending = knows.pending; held = knows.held }
 
 -- a later counter that is heard
 knows_restart : (role : Role) (history : List Sent) (old : Node) (c : ℕ) → Knows role history old → Knows role history (peer_restarted old c)
@@ -247,15 +225,12 @@ knows_restart role history old c knows = record {
   standing = λ t s e.
       let waits = restart_leaves_pending old c t s e in
       let at = standing-shrinks old (peer_restarted old c) (Shrinks-restart old c) knows.standing t s e in
-      record { current = λ r is. absurd (impossible s r (at.blank waits) is); blank = at.blank; named = at.named };
+      record { current = λ r is. absurd (cc (at.blank waits, is)); blank = at.blank; named = at.named };
   ready = ready-shrinks old (peer_restarted old c) (Shrinks-restart old c) knows.ready;
   closed = closes-shrinks old.sessions old.bearers (peer_restarted old c).sessions (peer_restarted old c).bearers (Shrinks-restart old c) knows.closed;
   pending = λ number p e. knows.pending number p (restart_pending old c number p e);
   held = knows.held;
 }
-  where
-    impossible : (s : Session) (r : ℕ) → s.remote ≡ None → s.remote ≡ Some r → ⊥
-    impossible s r none some = cc
 
 pub Heard-restart : (old : Node) (c : ℕ) → IsHeardFrom old (peer_restarted old c)
 Heard-restart old c = record { config = refl; counter = refl; drawn = refl; held = refl; sessions = λ t s e. let was = (Shrinks-restart old c).sessions t s e in (was.before, was.stood) }
@@ -313,8 +288,5 @@ module _ (role : Role) (history : List Sent) (taken : Arrival → Message → Ty
   weighs c learned e tells (Some k) known same r = judges c k learned e tells known (age_of k c) refl same r
 
   pub hears : (o : Option ℕ) (e : Effect) → recovery_of m ≡ o → SameIs old m → Hears Takes old o e → After role history taken old e
-  hears None e tells same r = (takes old (Heard-itself old) knows (λ c e. absurd (impossible c e)) e r).0
-    where
-      impossible : (c : ℕ) → recovery_of m ≡ Some c → ⊥
-      impossible c e = cc
+  hears None e tells same r = (takes old (Heard-itself old) knows (λ c some. absurd (cc (tells, some))) e r).0
   hears (Some c) e tells same r = at_result (After role history taken old) e _ r.2 (weighs c (learned_by old.known c) r.0 tells old.known refl same r.1)

@@ -1,14 +1,14 @@
 -- Each step of the packet gateway keeps what it knows.
-use Rattle.std.proofs.Common.{◌≡◌, ◌⊎◌, inl, inr, ⊎_elim, ℕ, ◌<◌, ◌≤◌, eqb, false, List, [], ◌∷◌, ◌++◌, Some, None, refl, sym, ◌∙◌, ap, subst, arith}
+use Rattle.std.proofs.Common.{◌≡◌, ◌⊎◌, inl, inr, ⊎_elim, ℕ, ◌≤◌, eqb, false, List, [], ◌∷◌, ◌++◌, Some, None, refl, sym, ◌∙◌, ap, subst, arith}
 use Rattle.std.specs.FinMap.{get, insert, remove}
 use Rattle.std.proofs.lemmas.Option.{same_Some}
 use Rattle.gtp_values.specs.declared.cause.Cause.{Cause}
 use Rattle.gtp_values.specs.declared.qos.Qos.{Qos}
 use Rattle.gtp_values.specs.FiniteMap.{FiniteMap, Each, Among}
-use Rattle.gtp_machine.specs.Element.{IsAccepting, cause_of, cause_at, teid_in}
+use Rattle.gtp_machine.specs.Element.{IsAccepting, teid_in}
 use Rattle.gtp_machine.specs.Message.{CreateSessionRequest, CreateSessionResponse, DeleteSessionRequest, DeleteSessionResponse, CreateBearerRequest, CreateBearerResponse, Message, Create_session_request, Create_session_response, Delete_session_response, Create_bearer_request, Create_bearer_response, Packet_data, Owns, recovery_of, first_returned}
-use Rattle.gtp_machine.specs.Node.{Serving, Packet, Active, Closing, Session, Bearer, PendingRequest, Arrival, Held, Node, holding, written}
-use Rattle.gtp_machine.specs.Input.{Came_to, Begun, Opened, Answered, Effect}
+use Rattle.gtp_machine.specs.Node.{Serving, Packet, Active, Closing, Session, Bearer, PendingRequest, Arrival, Node, holding, written}
+use Rattle.gtp_machine.specs.Input.{Came_to, Begun, Opened, Effect}
 use Rattle.gtp_machine.specs.Choice.{IsFree, HasPending, counter_of}
 use Rattle.gtp_machine.specs.Removal.{without_session}
 use Rattle.gtp_machine.specs.Config.{template_for}
@@ -16,14 +16,15 @@ use Rattle.gtp_machine.specs.Command.{bearer_request, create_bearer_asked, pendi
 use Rattle.gtp_machine.specs.Answer.{answered, making}
 use Rattle.gtp_values.proofs.Allocations.{address_back}
 use Rattle.gtp_machine.specs.Packet.{session_cause, session_response, made_session, made_bearer, session_made, MakesSession, session_refused, CreateSessionAsked, DeleteSessionAsked, FitsCreateBearer, DescribesBearer, CanOpen, opened_dedicated, OpensBearer, CreateBearerAnswered, PacketTakes}
-use Rattle.gtp_machine.specs.World.{By, Sent, HasSent, signed}
-use Rattle.gtp_machine.proofs.Basics.FiniteMaps.{Each-insert, Each-remove, found-remove, get-insert_same, Among-left, Among-right, Among-cases, Among-last}
+use Rattle.gtp_machine.specs.World.{Sent, HasSent, signed}
+use Rattle.gtp_machine.proofs.Basics.Finishing.{on_bearer_begun, on_session_asked, on_bearer_answered}
+use Rattle.gtp_machine.proofs.Basics.FiniteMaps.{Each-insert, Each-remove, found-remove, get-insert_same, Among-left, Among-right, Among-cases, Among-only}
 use Rattle.gtp_machine.proofs.Origins.Drawing.{Extends, Extends-signed, Draws-nothing, Draws-new, pair_apart, one_more_drawn, two_more_drawn, TellsStart, IsProper, IsMadeNow, by_before, by_now, by_cases}
 use Rattle.gtp_machine.proofs.Origins.Contexts.{IsMade, IsWanted, IsAtPacket, closes-session, closes-bearer}
 use Rattle.gtp_machine.proofs.Changes.Shrinking.{Shrunk, Shrunk-itself, Shrunk-without}
 use Rattle.gtp_machine.proofs.Changes.Matching.{IsMatched, IsMatched-bearer}
 use Rattle.gtp_machine.proofs.Origins.Entries.{Once, answer_not_request}
-use Rattle.gtp_machine.proofs.Changes.Steps.{Logs-silent, Logs-plain, at_result, NothingOwns}
+use Rattle.gtp_machine.proofs.Changes.Steps.{Logs-silent, Logs-plain, at_result, NothingOwns, Logs-made, IsPlain}
 use Rattle.gtp_machine.proofs.Changes.After.{IsPending, IsStanding, IsReady, Knows, After, Knows-later, nothing_told, later, held_now, matched_session, matched_bearer, with_new_session}
 use Rattle.gtp_machine.proofs.Rows.Common.{unchanged}
 use Rattle.gtp_machine.proofs.Rows.Taking.{active_not_closing, Took, took, drops, ends, gives_answer, takes_echo, takes_response}
@@ -64,13 +65,13 @@ begun_known history after extends old knows unowned session at tft qos user numb
             was.contexts.bearers_made;
       };
       matched = Each-insert (IsMatched old.sessions (insert old.bearers user (pending_dedicated session))) old.pending number p
-          (record { waits = λ k e. absurd (not_session q k e); numbered = λ k e. absurd (not_session q k e); names_bearer = λ k e. let same : q ≡ k = cc e in ap (λ (k : CreateBearerRequest). Some k.context.user.teid) same; of_session = of_session q })
+          (record { waits = λ k e. absurd (cc e); numbered = λ k e. absurd (cc e); names_bearer = λ k e. let same : q ≡ k = cc e in ap (λ (k : CreateBearerRequest). Some k.context.user.teid) same; of_session = of_session q })
           (matched_bearer history Packet old unowned knows.pending old.sessions user (pending_dedicated session) free knows.matched);
       drawn = λ t s e. inr (knows.drawn t s e);
       standing = knows.standing;
       ready = Each-insert IsReady old.bearers user (pending_dedicated session) (λ a. absurd (pending_not_active a)) knows.ready;
       closed = closes-bearer old.sessions old.bearers user (pending_dedicated session) (stands_active old.sessions session at stands active) knows.closed;
-      pending = Each-insert (IsPending after Packet) old.pending number p (record { sent = now; names = λ k e. absurd (not_session q k e); asks = refl }) was.pending;
+      pending = Each-insert (IsPending after Packet) old.pending number p (record { sent = now; names = λ k e. absurd (cc e); asks = refl }) was.pending;
       held = was.held;
     }
   where
@@ -80,9 +81,6 @@ begun_known history after extends old knows unowned session at tft qos user numb
         let here : get (insert old.bearers q.context.user.teid (pending_dedicated session)) k.context.user.teid ≡ Some (pending_dedicated session) = ap (λ (k : CreateBearerRequest). get (insert old.bearers q.context.user.teid (pending_dedicated session)) k.context.user.teid) (sym same) ∙ get-insert_same old.bearers q.context.user.teid (pending_dedicated session) in
         let is : pending_dedicated session ≡ b = cc (here, stands) in
         ap (λ (k : Bearer). Some k.session) is
-
-    not_session : (q : CreateBearerRequest) (k : CreateSessionRequest) → Create_bearer_request q ≡ Create_session_request k → ⊥
-    not_session q k e = cc
 
 module _ (history : List Sent) (taken : Arrival → Message → Type 0) (serving_once : Once history Serving) (packet_once : Once history Packet) (old : Node) (knows : Knows Packet history old) where
   begins : (unowned : NothingOwns history Packet old) (session : ℕ) (at : Session) (tft : List ℕ) (qos : Qos) (e : Effect) → get old.sessions session ≡ Some at → at.state ≡ Active → BeginsBearer old session at tft qos e → After Packet history taken old e
@@ -94,17 +92,16 @@ module _ (history : List Sent) (taken : Arrival → Message → Type 0) (serving
         knows = begun_known history (history ++ signed Packet (m ∷ [])) (Extends-signed history Packet (m ∷ [])) old knows unowned session at tft qos r.user r.number r.user_free stands active (by_now history Packet (m ∷ []) m (inl refl));
         known = refl;
         told = nothing_told history Serving;
-        draws = Draws-new history Packet old new_node m refl refl (λ t stood. inr stood) (one_more_drawn old.counter r.user old.drawn r.user_free.counted) (begun_now history old new_node session at tft qos r.user r.number r.user_free (inl refl));
+        draws = Draws-new history Packet old new_node m refl refl (λ t stood. inr stood) (one_more_drawn old.counter r.user old.drawn r.user_free.counted) (inr (begun_now history old new_node session at tft qos r.user r.number r.user_free (inl refl)));
         logs = Logs-plain history Packet taken old new_node (Came_to (Begun (Some r.user))) (λ h stood. stood) _ m tt;
         few = (tt, tt);
       })
 
   pub bearer_begun_here : (unowned : NothingOwns history Packet old) (session : ℕ) (tft : List ℕ) (qos : Qos) (e : Effect) → BearerBegun Packet session tft qos old e → After Packet history taken old e
-  bearer_begun_here unowned session tft qos e (inl f) = unchanged Packet history taken serving_once packet_once old knows _ e f.1
-  bearer_begun_here unowned session tft qos e (inr (at, inl f)) = unchanged Packet history taken serving_once packet_once old knows _ e f.1
-  bearer_begun_here unowned session tft qos e (inr (at, inr (active, inl f))) = unchanged Packet history taken serving_once packet_once old knows _ e f.1
-  bearer_begun_here unowned session tft qos e (inr (at, inr (active, inr (draws, inl f)))) = unchanged Packet history taken serving_once packet_once old knows _ e f.1
-  bearer_begun_here unowned session tft qos e (inr (at, inr (active, inr (draws, inr (few, r))))) = begins unowned session at.session tft qos e at.stands active r
+  bearer_begun_here unowned session tft qos e r =
+      on_bearer_begun old e (λ outcome f. unchanged Packet history taken serving_once packet_once old knows outcome e f) Packet session tft qos
+      (λ at active draws few r. begins unowned session at.session tft qos e at.stands active r)
+      r
 
   module _ (dated : (m : Message) (t : ℕ) → HasSent history Serving m → TellsStart m → Owns m t → recovery_of m ≡ Some (counter_of t)) (proper : (m : Message) → HasSent history Serving m → IsProper m) where
     module _ (unowned : NothingOwns history Packet old) (request : Arrival) (q : CreateSessionRequest) (e : Effect) (came : HasSent history Serving (Create_session_request q)) (is_taken : taken request (Create_session_request q)) (told : (c : ℕ) → q.recovery ≡ Some c → old.known ≡ Some c) (r : MakesSession request old q e) where
@@ -164,33 +161,19 @@ module _ (history : List Sent) (taken : Arrival → Message → Type 0) (serving
             knows = held_now Packet history taken old knows request (m ∷ []) made tt (made_known (history ++ signed Packet (m ∷ [])) (Extends-signed history Packet (m ∷ [])) (by_now history Packet (m ∷ []) m (inl refl)));
             known = refl;
             told = nothing_told history Serving;
-            draws = Draws-new history Packet old (holding request (m ∷ []) made) m refl refl (λ t stood. inr (inr stood)) (two_more_drawn old.counter r.user r.control old.drawn r.user_free.counted r.control_free.counted) (answer_now (holding request (m ∷ []) made) (inr (inl refl)) (inl refl));
-            logs =
-                let l = Logs-plain history Packet taken old (holding request (m ∷ []) made) (Came_to (Answered (session_cause q.pdn r.address))) (λ h stood. Among-left h old.held _ stood) request.source m tt in record {
-                  held_stays = l.held_stays;
-                  packets = λ t p among. absurd (no_packet answer t p among);
-                  handed = l.handed;
-                  accepted = l.accepted;
-                  answers = l.answers;
-                  made = inr (record { arrival = request; is = refl; message = Create_session_request q; creates = refl; came = is_taken; answer = m ∷ []; held = Among-last {X = Held} (record { request = request; answer = m ∷ [] }) old.held });
-                };
+            draws = Draws-new history Packet old (holding request (m ∷ []) made) m refl refl (λ t stood. inr (inr stood)) (two_more_drawn old.counter r.user r.control old.drawn r.user_free.counted r.control_free.counted) (inr (answer_now (holding request (m ∷ []) made) (inr (inl refl)) (inl refl)));
+            logs = Logs-made history Packet taken old request (m ∷ []) (session_cause q.pdn r.address) made (Create_session_request q) refl is_taken refl
+                (λ t p among. absurd (subst IsPlain (sym (Among-only _ m among)) tt))
+                (λ y t among gives. absurd (none_some t (sym (subst IsPlain (sym (Among-only _ m among)) tt) ∙ gives)));
             few = (tt, tt);
           })
-        where
-          no_packet : (a : CreateSessionResponse) (t : ℕ) (p : List ℕ) → Among (Packet_data t p) (Create_session_response a ∷ []) → ⊥
-          no_packet a t p (inl is) = cc
-          no_packet a t p (inr none) = none
 
       -- nothing that was sent, nor the answer, owns what may be drawn once the session was made
       unowned_made : NothingOwns (history ++ signed Packet (Create_session_response answer ∷ [])) Packet made
       unowned_made m t has owns free = ⊎_elim
           (λ was. unowned m t was owns (record { counted = free.counted; numbered = free.numbered; undrawn = λ stood. free.undrawn (inr (inr stood)) }))
-          (λ now. owned (λ k. IsFree made k → ⊥) (λ f. f.undrawn (inr (inl refl))) (λ f. f.undrawn (inl refl)) t (subst (λ k. Owns k t) (only now.1) owns) free)
+          (λ now. owned (λ k. IsFree made k → ⊥) (λ f. f.undrawn (inr (inl refl))) (λ f. f.undrawn (inl refl)) t (subst (λ k. Owns k t) (Among-only m _ now.1) owns) free)
           (by_cases history Packet Packet (Create_session_response answer ∷ []) m has)
-        where
-          only : {m : Message} → Among m (Create_session_response answer ∷ []) → m ≡ Create_session_response answer
-          only (inl is) = is
-          only (inr none) = absurd none
 
       -- it goes with the request of the template's bearer
       module _ (x : IsAdded (template_for q.access_point old.config.templates) request answer (session_cause q.pdn r.address) r.control session made e) where
@@ -221,27 +204,18 @@ module _ (history : List Sent) (taken : Arrival → Message → Type 0) (serving
         each m (inr (inl is)) = inr (subst (IsMadeNow history old left) (sym is) (record { free = λ t is. subst (IsFree old) (sym is) free_before; drawn = λ t is. inl is; told = λ c e. absurd (none_some c e); tells = λ t none. absurd none; proper = tt }))
         each m (inr (inr none)) = absurd none
 
-        no_packet : (t : ℕ) (p : List ℕ) → Among (Packet_data t p) sent_together → ⊥
-        no_packet t p (inl is) = absurd (cc is)
-        no_packet t p (inr (inl is)) = absurd (cc is)
-        no_packet t p (inr (inr none)) = none
-
-        no_answer : (y : CreateBearerResponse) → Among (Create_bearer_response y) sent_together → ⊥
-        no_answer y (inl is) = absurd (cc is)
-        no_answer y (inr (inl is)) = absurd (cc is)
-        no_answer y (inr (inr none)) = none
+        plain : (m : Message) → Among m sent_together → IsPlain m
+        plain m (inl is) = subst IsPlain (sym is) tt
+        plain m (inr (inl is)) = subst IsPlain (sym is) tt
+        plain m (inr (inr none)) = absurd none
 
         longer : Extends (history ++ signed Packet (Create_session_response answer ∷ [])) (history ++ signed Packet sent_together)
         longer = record {
           keeps = λ by m has. ⊎_elim
               (λ was. Among-left _ history (signed Packet sent_together) was)
-              (λ now. Among-right _ history (signed Packet sent_together) (first_of now))
+              (λ now. Among-right _ history (signed Packet sent_together) (⊎_elim (λ is. inl is) (λ none. absurd none) now))
               (Among-cases _ history (signed Packet (Create_session_response answer ∷ [])) has);
         }
-          where
-            first_of : {s : By Message} → Among s (signed Packet (Create_session_response answer ∷ [])) → Among s (signed Packet sent_together)
-            first_of (inl is) = inl is
-            first_of (inr none) = absurd none
 
         makes_both : Took Packet history taken old e
         makes_both =
@@ -253,14 +227,9 @@ module _ (history : List Sent) (taken : Arrival → Message → Type 0) (serving
               known = refl;
               told = nothing_told history Serving;
               draws = record { config = refl; counter = refl; extends = λ t stood. inr (inr (inr stood)); present = present; each = each; one = pair_apart (Create_session_response answer) (Create_bearer_request wanted) pair none_shared };
-              logs = record {
-                held_stays = λ h stood. inl (Among-left h old.held _ stood);
-                packets = λ t p among. absurd (no_packet t p among);
-                handed = λ n none. absurd none;
-                accepted = λ n none. absurd none;
-                answers = λ y t among gives. absurd (no_answer y among);
-                made = inr (record { arrival = request; is = refl; message = Create_session_request q; creates = refl; came = is_taken; answer = sent_together; held = Among-last {X = Held} (record { request = request; answer = sent_together }) old.held });
-              };
+              logs = Logs-made history Packet taken old request sent_together (session_cause q.pdn r.address) (create_bearer_asked made r.control wanted x.adds.user) (Create_session_request q) refl is_taken refl
+                  (λ t p among. absurd (plain (Packet_data t p) among))
+                  (λ y t among gives. absurd (none_some t (sym (plain (Create_bearer_response y) among) ∙ gives)));
               few = (pair, tt);
             })
 
@@ -269,24 +238,18 @@ module _ (history : List Sent) (taken : Arrival → Message → Type 0) (serving
 
     refuses : (request : Arrival) (q : CreateSessionRequest) (cause : Cause) (e : Effect) → 64 ≤ cause.value → e ≡ session_refused request q cause old → Took Packet history taken old e
     refuses request q cause e high gives = gives_answer Packet history taken old knows request _ cause.value old e gives (Shrunk-itself old) tt none (λ c e. cc e)
-        (record { control = λ accepts. absurd (impossible accepts.high); user = λ accepts. absurd (impossible accepts.high); apart = λ t control user. none_some t control })
+        (record { control = λ accepts. absurd (omega (arith, high, accepts.high)); user = λ accepts. absurd (omega (arith, high, accepts.high)); apart = λ t control user. none_some t control })
       where
         none : (t : ℕ) → (None ≡ Some t) ⊎ (None ≡ Some t) → ⊥
         none t (inl e) = none_some t e
         none t (inr e) = none_some t e
 
-        impossible : cause.value < 64 → ⊥
-        impossible low = omega (arith, high)
-
     create_session_asked : (unowned : NothingOwns history Packet old) (request : Arrival) (q : CreateSessionRequest) (e : Effect) → HasSent history Serving (Create_session_request q) → taken request (Create_session_request q) → ((c : ℕ) → q.recovery ≡ Some c → old.known ≡ Some c) → CreateSessionAsked request q old e → Took Packet history taken old e
-    create_session_asked unowned request q e came is told (inl f) = drops Packet history taken old knows _ e f.1
-    create_session_asked unowned request q e came is told (inr (room, inl f)) = refuses request q (cause_of 94) e (omega arith) f.1
-    create_session_asked unowned request q e came is told (inr (room, inr (one, inl f))) = refuses request q (cause_at 69 73 0) e (omega arith) f.1
-    create_session_asked unowned request q e came is told (inr (room, inr (one, inr (identity, inl f)))) = refuses request q (cause_of 78) e (omega arith) f.1
-    create_session_asked unowned request q e came is told (inr (room, inr (one, inr (identity, inr (configured, inl f))))) = refuses request q (cause_of 83) e (omega arith) f.1
-    create_session_asked unowned request q e came is told (inr (room, inr (one, inr (identity, inr (configured, inr (pdn, inl f)))))) = refuses request q (cause_of 73) e (omega arith) f.1
-    create_session_asked unowned request q e came is told (inr (room, inr (one, inr (identity, inr (configured, inr (pdn, inr (few, inl f))))))) = refuses request q (cause_of 84) e (omega arith) f.1
-    create_session_asked unowned request q e came is told (inr (room, inr (one, inr (identity, inr (configured, inr (pdn, inr (few, inr (address, r)))))))) = makes unowned request q e came is told r
+    create_session_asked unowned request q e came is told r =
+        on_session_asked old e (λ outcome f. drops Packet history taken old knows outcome e f) request q
+        (λ room cause high f. refuses request q cause e high f)
+        (λ room identity few draws r. makes unowned request q e came is told r)
+        r
 
     -- an answer to a Delete Session Request
     says_deleted : (request : Arrival) (cause : ℕ) (new : Node) (d : DeleteSessionResponse) (e : Effect) → e ≡ answered request (Delete_session_response d) cause new → Shrunk old new → ((r : ℕ) → d.recovery ≡ Some r → r ≡ old.counter) → Took Packet history taken old e
@@ -380,14 +343,11 @@ module _ (history : List Sent) (taken : Arrival → Message → Type 0) (serving
           }
 
     create_bearer_answered : (x : CreateBearerResponse) (e : Effect) → HasSent history Serving (Create_bearer_response x) → CreateBearerAnswered x old e → Took Packet history taken old e
-    create_bearer_answered x e came (inl f) = drops Packet history taken old knows _ e f.1
-    create_bearer_answered x e came (inr (at, inl f)) = drops Packet history taken old knows _ e f.1
-    create_bearer_answered x e came (inr (at, inr (fits, inl f))) = ends Packet history taken old knows x.number at.pending _ e f.1
-    create_bearer_answered x e came (inr (at, inr (fits, inr (accepts, inl f)))) = drops Packet history taken old knows _ e f.1
-    create_bearer_answered x e came (inr (at, inr (fits, inr (accepts, inr (new, inl f))))) = ends Packet history taken old knows x.number at.pending _ e f.1
-    create_bearer_answered x e came (inr (at, inr (fits, inr (accepts, inr (new, inr (both, inl f)))))) = drops Packet history taken old knows _ e f.1
-    create_bearer_answered x e came (inr (at, inr (fits, inr (accepts, inr (new, inr (both, inr (returned, inl f))))))) = ends Packet history taken old knows x.number at.pending _ e f.1
-    create_bearer_answered x e came (inr (at, inr (fits, inr (accepts, inr (new, inr (both, inr (returned, inr (can, r)))))))) = opens x came at fits accepts new both returned can e r
+    create_bearer_answered x e came r =
+        on_bearer_answered old e (λ outcome f. drops Packet history taken old knows outcome e f) x
+        (λ at outcome f. ends Packet history taken old knows x.number at.pending outcome e f)
+        (λ at fits accepts new both returned can r. opens x came at fits accepts new both returned can e r)
+        r
 
     pub packet_taken : (unowned : NothingOwns history Packet old) (request : Arrival) (m : Message) (e : Effect) → HasSent history Serving m → taken request m → ((c : ℕ) → recovery_of m ≡ Some c → old.known ≡ Some c) → PacketTakes request m old e → Took Packet history taken old e
     packet_taken unowned request =

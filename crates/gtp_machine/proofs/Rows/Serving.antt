@@ -1,10 +1,10 @@
 -- Each step of the serving gateway keeps what it knows.
-use Rattle.std.proofs.Common.{◌≡◌, ◌≢◌, ◌⊎◌, inl, inr, ⊎_elim, ℕ, ◌<◌, eqb, false, List, [], ◌∷◌, ◌++◌, Option, Some, None, refl, sym, ◌∙◌, ap, subst, arith}
+use Rattle.std.proofs.Common.{◌≡◌, ◌≢◌, ◌⊎◌, inl, inr, ⊎_elim, ℕ, eqb, false, List, [], ◌∷◌, ◌++◌, Option, Some, None, refl, sym, ◌∙◌, ap, subst, arith}
 use Rattle.std.proofs.lemmas.Bool.{cases_eq}
 use Rattle.std.specs.FinMap.{get, insert, remove}
 use Rattle.gtp_values.specs.FiniteMap.{Each, Among}
 use Rattle.gtp_machine.specs.Element.{IsAccepting}
-use Rattle.gtp_machine.specs.Message.{CreateSessionRequest, CreateSessionResponse, CreateBearerRequest, GivenBearer, CreateBearerResponse, DeleteBearerRequest, DeleteBearerResponse, Message, Create_session_request, Create_session_response, Create_bearer_request, Create_bearer_response, Delete_bearer_response, Packet_data, Owns, recovery_of, first_given}
+use Rattle.gtp_machine.specs.Message.{CreateSessionRequest, CreateSessionResponse, CreateBearerRequest, CreateBearerResponse, DeleteBearerRequest, DeleteBearerResponse, Message, Create_session_request, Create_session_response, Create_bearer_request, Create_bearer_response, Delete_bearer_response, Owns, recovery_of, first_given}
 use Rattle.gtp_machine.specs.Node.{Serving, Packet, Pending, Active, Closing, Session, Bearer, PendingRequest, Arrival, Held, Node, holding, written}
 use Rattle.gtp_machine.specs.Input.{Came_to, Specification, Begun, Opened, Effect}
 use Rattle.gtp_machine.specs.Choice.{IsFree, HasPending, HasSession, counter_of}
@@ -13,13 +13,14 @@ use Rattle.gtp_machine.specs.Command.{session_request, pending_session, pending_
 use Rattle.gtp_machine.specs.Answer.{answered}
 use Rattle.gtp_machine.specs.Serving.{FitsCreateSession, DescribesSession, opened_session, opened_bearer, OpensSession, CreateSessionAnswered, bearer_response, granted_bearer, MakesBearer, no_resources, bearer_refused, CreateBearerAsked, DeleteBearerTaken, DeleteBearerAsked, ServingTakes, delete_bearer_cause}
 use Rattle.gtp_machine.specs.World.{Sent, HasSent, signed}
-use Rattle.gtp_machine.proofs.Basics.FiniteMaps.{Each-insert, Each-remove, found-remove, get-insert_same, get-insert_other, Among-left, Among-last}
+use Rattle.gtp_machine.proofs.Basics.Finishing.{on_session_begun, on_session_answered}
+use Rattle.gtp_machine.proofs.Basics.FiniteMaps.{Each-insert, Each-remove, found-remove, get-insert_same, get-insert_other, Among-last, Among-only}
 use Rattle.gtp_machine.proofs.Origins.Drawing.{Draws-nothing, Draws-new, one_more_drawn, two_more_drawn, TellsStart, IsProper, by_before, by_now}
 use Rattle.gtp_machine.proofs.Origins.Contexts.{IsAsked, IsAtServing, closes-session, closes-bearer}
 use Rattle.gtp_machine.proofs.Changes.Shrinking.{Shrunk, Shrunk-itself, Shrunk-without, removes_each}
 use Rattle.gtp_machine.proofs.Changes.Matching.{IsMatched, IsMatched-session, IsMatched-bearer}
 use Rattle.gtp_machine.proofs.Origins.Entries.{Once, same_request, same_user_request, request_not_answer}
-use Rattle.gtp_machine.proofs.Changes.Steps.{IsAnsweredNow, Logs-silent, Logs-plain, at_result, NothingOwns}
+use Rattle.gtp_machine.proofs.Changes.Steps.{IsAnsweredNow, Logs-silent, Logs-plain, at_result, NothingOwns, Logs-made}
 use Rattle.gtp_machine.proofs.Changes.After.{IsPending, IsStanding, IsReady, Knows, After, nothing_told, later, held_now, matched_session, matched_bearer, with_new_session}
 use Rattle.gtp_machine.proofs.Rows.Common.{unchanged}
 use Rattle.gtp_machine.proofs.Rows.Taking.{active_not_closing, Took, took, drops, ends, gives_answer, takes_echo, takes_response, named_written}
@@ -54,8 +55,8 @@ module _ (history : List Sent) (taken : Arrival → Message → Type 0) (serving
               (record {
                 waits = λ k e s stands. waits q k (let same : q ≡ k = cc e in same) s stands;
                 numbered = λ k e. let same : q ≡ k = cc e in ap (λ (k : CreateSessionRequest). k.number) (sym same);
-                names_bearer = λ b e. absurd (not_bearer q b e);
-                of_session = λ b e. absurd (not_bearer q b e);
+                names_bearer = λ b e. absurd (cc e);
+                of_session = λ b e. absurd (cc e);
               })
               (matched_bearer history Serving old unowned knows.pending (insert old.sessions r.control (pending_session q)) r.user (pending_bearer r.control q) r.user_free (matched_session history Serving old unowned knows.pending r.control (pending_session q) r.control_free knows.matched));
           drawn = Each-insert (λ t (s : Session). Among t (r.user ∷ r.control ∷ old.drawn)) old.sessions r.control (pending_session q) (inr (inl refl)) (λ t s e. inr (inr (knows.drawn t s e)));
@@ -67,7 +68,7 @@ module _ (history : List Sent) (taken : Arrival → Message → Type 0) (serving
         };
         known = refl;
         told = nothing_told history Packet;
-        draws = Draws-new history Serving old new_node m refl refl (λ t stood. inr (inr stood)) (two_more_drawn old.counter r.user r.control old.drawn r.user_free.counted r.control_free.counted) (record { free = free; drawn = drawn; told = λ c e. cc e; tells = λ t is owns. refl; proper = r.apart });
+        draws = Draws-new history Serving old new_node m refl refl (λ t stood. inr (inr stood)) (two_more_drawn old.counter r.user r.control old.drawn r.user_free.counted r.control_free.counted) (inr (record { free = free; drawn = drawn; told = λ c e. cc e; tells = λ t is owns. refl; proper = r.apart }));
         logs = Logs-plain history Serving taken old new_node (Came_to (Begun (Some r.control))) (λ h stood. stood) _ m tt;
         few = (tt, tt);
       })
@@ -86,9 +87,6 @@ module _ (history : List Sent) (taken : Arrival → Message → Type 0) (serving
           let is : pending_session q ≡ s = cc (here, stands) in
           ap (λ (k : Session). k.state) (sym is)
 
-      not_bearer : (q : CreateSessionRequest) (b : CreateBearerRequest) → Create_session_request q ≡ Create_bearer_request b → ⊥
-      not_bearer q b e = cc
-
       free : (t : ℕ) → (t ≡ r.control) ⊎ (t ≡ r.user) → IsFree old t
       free t (inl is) = subst (IsFree old) (sym is) r.control_free
       free t (inr is) = subst (IsFree old) (sym is) r.user_free
@@ -98,10 +96,12 @@ module _ (history : List Sent) (taken : Arrival → Message → Type 0) (serving
       drawn t (inr is) = inl is
 
   pub session_begun_here : (unowned : NothingOwns history Serving old) (spec : Specification) (e : Effect) → SessionBegun Serving spec old e → After Serving history taken old e
-  session_begun_here unowned spec e (inl f) = unchanged Serving history taken serving_once packet_once old knows _ e f.1
-  session_begun_here unowned spec e (inr (room, inl f)) = unchanged Serving history taken serving_once packet_once old knows _ e f.1
-  session_begun_here unowned spec e (inr (room, inr (draws, inl f))) = unchanged Serving history taken serving_once packet_once old knows _ e f.1
-  session_begun_here unowned spec e (inr (room, inr (draws, inr (few, r)))) = begins unowned spec e r
+  session_begun_here unowned spec e r =
+      on_session_begun old e
+      (λ outcome f. unchanged Serving history taken serving_once packet_once old knows outcome e f)
+      Serving spec
+      (λ room draws few r. begins unowned spec e r)
+      r
 
   module _ (dated : (m : Message) (t : ℕ) → HasSent history Packet m → TellsStart m → Owns m t → recovery_of m ≡ Some (counter_of t)) (proper : (m : Message) → HasSent history Packet m → IsProper m) where
     module _ (a : CreateSessionResponse) (came : HasSent history Packet (Create_session_response a)) (told : (c : ℕ) → a.recovery ≡ Some c → old.known ≡ Some c) (at : HasPending old a.number) (fits : FitsCreateSession at.pending a) (accepts : IsAccepting a.cause) (new : DescribesSession old fits.session a) where
@@ -228,12 +228,11 @@ module _ (history : List Sent) (taken : Arrival → Message → Type 0) (serving
               was.origin
 
     create_session_answered : (a : CreateSessionResponse) (e : Effect) → HasSent history Packet (Create_session_response a) → ((c : ℕ) → a.recovery ≡ Some c → old.known ≡ Some c) → CreateSessionAnswered a old e → Took Serving history taken old e
-    create_session_answered a e came told (inl f) = drops Serving history taken old knows _ e f.1
-    create_session_answered a e came told (inr (at, inl f)) = drops Serving history taken old knows _ e f.1
-    create_session_answered a e came told (inr (at, inr (fits, inl f))) = ends Serving history taken old knows a.number at.pending _ e f.1
-    create_session_answered a e came told (inr (at, inr (fits, inr (accepts, inl f)))) = drops Serving history taken old knows _ e f.1
-    create_session_answered a e came told (inr (at, inr (fits, inr (accepts, inr (new, inl f))))) = ends Serving history taken old knows a.number at.pending _ e f.1
-    create_session_answered a e came told (inr (at, inr (fits, inr (accepts, inr (new, inr (both, r)))))) = opens a came told at fits accepts new e r
+    create_session_answered a e came told r =
+        on_session_answered old e (λ outcome f. drops Serving history taken old knows outcome e f) a
+        (λ at outcome f. ends Serving history taken old knows a.number at.pending outcome e f)
+        (λ at fits accepts new both r. opens a came told at fits accepts new e r)
+        r
 
     makes : (unowned : NothingOwns history Serving old) (request : Arrival) (q : CreateBearerRequest) (at : HasSession old q.header) (e : Effect) → at.session.state ≡ Active → HasSent history Packet (Create_bearer_request q) → taken request (Create_bearer_request q) → MakesBearer request old q at.session e → Took Serving history taken old e
     makes unowned request q at e active came is_taken r =
@@ -279,21 +278,15 @@ module _ (history : List Sent) (taken : Arrival → Message → Type 0) (serving
           });
           known = refl;
           told = nothing_told history Packet;
-          draws = Draws-new history Serving old (holding request (m ∷ []) new) m refl refl (λ t stood. inr stood) (one_more_drawn old.counter r.user old.drawn r.user_free.counted) (record {
+          draws = Draws-new history Serving old (holding request (m ∷ []) new) m refl refl (λ t stood. inr stood) (one_more_drawn old.counter r.user old.drawn r.user_free.counted) (inr (record {
             free = λ t is. subst (IsFree old) (let same : r.user ≡ t = cc is in same) r.user_free;
             drawn = λ t is. inl (let same : t ≡ r.user = cc is in same);
             told = λ c e. cc e;
             tells = λ t none. absurd none;
             proper = record { user = λ c is low high. (r.user, refl) };
-          });
-          logs = record {
-            held_stays = λ h stood. inl (Among-left h old.held _ stood);
-            packets = λ t p among. absurd (no_packet x t p among);
-            handed = λ e none. absurd none;
-            accepted = λ e none. absurd none;
-            answers = answers x (holding request (m ∷ []) new) (record { request = q; sent = came; echoed = refl; arrival = request; came = is_taken; session = at.session; stands = at.stands; held = Among-last {X = Held} (record { request = request; answer = m ∷ [] }) old.held });
-            made = inr (record { arrival = request; is = refl; message = Create_bearer_request q; creates = refl; came = is_taken; answer = m ∷ []; held = Among-last {X = Held} (record { request = request; answer = m ∷ [] }) old.held });
-          };
+          }));
+          logs = Logs-made history Serving taken old request (m ∷ []) 16 new (Create_bearer_request q) refl is_taken refl (λ t p among. cc (Among-only _ m among))
+              (answers x (holding request (m ∷ []) new) (record { request = q; sent = came; echoed = refl; arrival = request; came = is_taken; session = at.session; stands = at.stands; held = Among-last {X = Held} (record { request = request; answer = m ∷ [] }) old.held }));
           few = (tt, tt);
         })
       where
@@ -302,10 +295,6 @@ module _ (history : List Sent) (taken : Arrival → Message → Type 0) (serving
             let is : at.session ≡ s = cc (at.stands, stands) in
             active_not_closing at.session.state active (ap (λ (k : Session). k.state) is ∙ closing)
 
-        no_packet : (x : CreateBearerResponse) (t : ℕ) (p : List ℕ) → Among (Packet_data t p) (Create_bearer_response x ∷ []) → ⊥
-        no_packet x t p (inl is) = cc
-        no_packet x t p (inr none) = none
-
         answers : (x : CreateBearerResponse) (new : Node) → IsAnsweredNow history old new taken x → (y : CreateBearerResponse) (t : ℕ) → Among (Create_bearer_response y) (Create_bearer_response x ∷ []) → first_given y.contexts ≡ Some t → HasSent history Serving (Create_bearer_response y) ⊎ IsAnsweredNow history old new taken y
         answers x new here y t (inl is) gives = let same : x ≡ y = cc is in inr (subst (IsAnsweredNow history old new taken) same here)
         answers x new here y t (inr none) gives = absurd none
@@ -313,17 +302,11 @@ module _ (history : List Sent) (taken : Arrival → Message → Type 0) (serving
     -- a refusal of a Create Bearer Request with no bearer context
     refuses : (request : Arrival) (q : CreateBearerRequest) (header cause : ℕ) (e : Effect) → e ≡ bearer_refused request q header cause old → Took Serving history taken old e
     refuses request q header cause e gives = gives_answer Serving history taken old knows request _ cause old e gives (Shrunk-itself old) refl (λ t none. none_some t none) (λ c e. cc e)
-        (record { user = λ c is low high. absurd (impossible c is) })
-      where
-        impossible : (c : GivenBearer) → [] ≡ c ∷ [] → ⊥
-        impossible c is = cc
+        (record { user = λ c is low high. absurd (cc is) })
 
     lacks : (request : Arrival) (q : CreateBearerRequest) (header : ℕ) (e : Effect) → e ≡ answered request (Create_bearer_response (no_resources old q header)) 73 old → Took Serving history taken old e
     lacks request q header e gives = gives_answer Serving history taken old knows request _ 73 old e gives (Shrunk-itself old) refl (λ t none. none_some t none) (λ c e. cc e)
-        (record { user = λ c is both all. absurd (impossible both.high) })
-      where
-        impossible : 73 < 64 → ⊥
-        impossible h = omega arith
+        (record { user = λ c is both all. absurd (omega (arith, both.high)) })
 
     create_bearer_asked : (unowned : NothingOwns history Serving old) (request : Arrival) (q : CreateBearerRequest) (e : Effect) → HasSent history Packet (Create_bearer_request q) → taken request (Create_bearer_request q) → CreateBearerAsked request q old e → Took Serving history taken old e
     create_bearer_asked unowned request q e came is (inl f) = drops Serving history taken old knows _ e f.1

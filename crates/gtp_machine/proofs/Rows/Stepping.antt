@@ -4,18 +4,18 @@ use Rattle.gtp_values.specs.declared.qos.Qos.{Qos}
 use Rattle.gtp_machine.specs.Step.{Step}
 use Rattle.gtp_machine.specs.Message.{Message, Owns, recovery_of}
 use Rattle.gtp_machine.specs.Node.{Role, Serving, Packet, Arrival, Node}
-use Rattle.gtp_machine.specs.Input.{Command, Create_session, Delete_session, Create_bearer, Delete_bearer, Release_session, Mark_end, Send_echo, Send_user, Specification, ControlReading, Control_message, Input, Commanded, Control_came, User_came, Moves_on, Effect}
+use Rattle.gtp_machine.specs.Input.{Specification, ControlReading, Control_message, Input, Commanded, Control_came, User_came, Moves_on, Effect}
 use Rattle.gtp_machine.specs.Choice.{counter_of}
 use Rattle.gtp_machine.specs.Answer.{IsNew, TakesReading, ControlStep}
 use Rattle.gtp_machine.specs.Serving.{ServingTakes}
 use Rattle.gtp_machine.specs.Packet.{PacketTakes}
-use Rattle.gtp_machine.specs.Command.{SessionBegun, BearerBegun, CommandStep}
+use Rattle.gtp_machine.specs.Command.{SessionBegun, BearerBegun}
 use Rattle.gtp_machine.specs.World.{other, Sent, HasSent}
 use Rattle.gtp_machine.proofs.Origins.Drawing.{TellsStart, IsProper}
 use Rattle.gtp_machine.proofs.Origins.Entries.{Once}
 use Rattle.gtp_machine.proofs.Changes.Steps.{NothingOwns, NothingOwns-from}
 use Rattle.gtp_machine.proofs.Changes.After.{Knows, After}
-use Rattle.gtp_machine.proofs.Rows.Common.{unchanged, session_deleted, session_released, bearer_deleted, end_marked, echo_begun, packet_sent, moves, UserCarried, user_step}
+use Rattle.gtp_machine.proofs.Rows.Common.{unchanged, commanded, moves, UserCarried, user_step}
 use Rattle.gtp_machine.proofs.Rows.Serving.{session_begun_here, serving_taken}
 use Rattle.gtp_machine.proofs.Rows.Packet.{bearer_begun_here, packet_taken}
 use Rattle.gtp_machine.proofs.Rows.Control.{ControlCarried, control_came}
@@ -34,13 +34,13 @@ Taken old input a m = (input ≡ Control_came a (Control_message m)) × IsNew ol
 
 module _ (history : List Sent) (serving_once : Once history Serving) (packet_once : Once history Packet) (old : Node) where
   -- the two commands that one gateway has and the other has not
-  session_begun_by : (role : Role) → NothingOwns history role old → Knows role history old → (taken : Arrival → Message → Type 0) (spec : Specification) (e : Effect) → SessionBegun role spec old e → After role history taken old e
-  session_begun_by Serving unowned knows taken spec e r = session_begun_here history taken serving_once packet_once old knows unowned spec e r
-  session_begun_by Packet unowned knows taken spec e r = unchanged Packet history taken serving_once packet_once old knows _ e r
+  session_begun_by : (role : Role) → NothingOwns history role old → Knows role history old → (taken : Arrival → Message → Type 0) (e : Effect) (spec : Specification) → SessionBegun role spec old e → After role history taken old e
+  session_begun_by Serving unowned knows taken e spec r = session_begun_here history taken serving_once packet_once old knows unowned spec e r
+  session_begun_by Packet unowned knows taken e spec r = unchanged Packet history taken serving_once packet_once old knows _ e r
 
-  bearer_begun_by : (role : Role) → NothingOwns history role old → Knows role history old → (taken : Arrival → Message → Type 0) (session : ℕ) (tft : List ℕ) (qos : Qos) (e : Effect) → BearerBegun role session tft qos old e → After role history taken old e
-  bearer_begun_by Serving unowned knows taken session tft qos e r = unchanged Serving history taken serving_once packet_once old knows _ e r
-  bearer_begun_by Packet unowned knows taken session tft qos e r = bearer_begun_here history taken serving_once packet_once old knows unowned session tft qos e r
+  bearer_begun_by : (role : Role) → NothingOwns history role old → Knows role history old → (taken : Arrival → Message → Type 0) (e : Effect) (session : ℕ) (tft : List ℕ) (qos : Qos) → BearerBegun role session tft qos old e → After role history taken old e
+  bearer_begun_by Serving unowned knows taken e session tft qos r = unchanged Serving history taken serving_once packet_once old knows _ e r
+  bearer_begun_by Packet unowned knows taken e session tft qos r = bearer_begun_here history taken serving_once packet_once old knows unowned session tft qos e r
 
   -- a datagram of the control plane
   module _ (role : Role) (unowned : NothingOwns history role old) (knows : Knows role history old) (Takes : Arrival → Message → Node → Effect → Type 0) (request : Arrival) (reading : ControlReading)
@@ -54,18 +54,9 @@ module _ (history : List Sent) (serving_once : Once history Serving) (packet_onc
   control_taken Packet unowned dated proper knows request reading e came r = reading_came Packet unowned knows PacketTakes request reading (λ mid mid_knows mid_unowned. packet_taken history (Taken old (Control_came request reading)) serving_once packet_once mid mid_knows dated proper mid_unowned request) e came r
 
   module _ (role : Role) (unowned : NothingOwns history role old) (dated : (m : Message) (t : ℕ) → HasSent history (other role) m → TellsStart m → Owns m t → recovery_of m ≡ Some (counter_of t)) (proper : (m : Message) → HasSent history (other role) m → IsProper m) (knows : Knows role history old) where
-    commanded : (taken : Arrival → Message → Type 0) (command : Command) (e : Effect) → CommandStep role command old e → After role history taken old e
-    commanded taken (Create_session spec) e r = session_begun_by role unowned knows taken spec e r
-    commanded taken (Delete_session session) e r = session_deleted role history taken serving_once packet_once old knows role session e r
-    commanded taken (Create_bearer session tft qos) e r = bearer_begun_by role unowned knows taken session tft qos e r
-    commanded taken (Delete_bearer session identity) e r = bearer_deleted role history taken serving_once packet_once old knows role session identity e r
-    commanded taken (Release_session session) e r = session_released role history taken serving_once packet_once old knows role session e r
-    commanded taken (Mark_end bearer) e r = end_marked role history taken serving_once packet_once old knows role bearer e r
-    commanded taken Send_echo e r = echo_begun role history taken serving_once packet_once old knows e r
-    commanded taken (Send_user bearer payload) e r = packet_sent role history taken serving_once packet_once old knows role bearer payload e r
-
     pub step_after : (input : Input) (e : Effect) → Carried role history old input → Step role old input e → After role history (Taken old input) old e
-    step_after (Commanded command) e came r = commanded (Taken old (Commanded command)) command e r
+    step_after (Commanded command) e came r =
+        commanded role history (Taken old (Commanded command)) serving_once packet_once old knows role command e (session_begun_by role unowned knows (Taken old (Commanded command)) e) (bearer_begun_by role unowned knows (Taken old (Commanded command)) e) r
     step_after (Control_came request reading) e came r = control_taken role unowned dated proper knows request reading e came r
     step_after (User_came source reading) e came r = user_step role history (Taken old (User_came source reading)) serving_once packet_once old knows role source reading e came r
     step_after (Moves_on move) e came r = moves role history (Taken old (Moves_on move)) serving_once packet_once old knows move e r

@@ -3,12 +3,12 @@ use Rattle.std.proofs.Common.{◌≡◌, ℕ, List, [], ◌∷◌, Option, Some,
 use Rattle.gtp_machine.specs.Choice.{HasPending}
 use Rattle.gtp_machine.specs.Message.{Echo, Message, Echo_response, Owns, recovery_of}
 use Rattle.gtp_machine.specs.Node.{Role, State, Active, Closing, PendingRequest, Arrival, Node, holding, written}
-use Rattle.gtp_machine.specs.Input.{Came_to, DropReason, Outcome, Echoed, Effect, dropped}
+use Rattle.gtp_machine.specs.Input.{EventOutcome, Came_to, Outcome, Echoed, Effect}
 use Rattle.gtp_machine.specs.Removal.{finished}
 use Rattle.gtp_machine.specs.Response.{finishing, EndsRequest}
 use Rattle.gtp_machine.specs.Answer.{answered, echoed}
 use Rattle.gtp_machine.specs.World.{Sent}
-use Rattle.gtp_machine.proofs.Basics.Finishing.{on_finish}
+use Rattle.gtp_machine.proofs.Basics.Finishing.{quietly, on_finish}
 use Rattle.gtp_machine.proofs.Origins.Drawing.{Made-plain, IsProper}
 use Rattle.gtp_machine.proofs.Changes.Shrinking.{Shrunk, Shrunk-itself, Shrunk-finished}
 use Rattle.gtp_machine.proofs.Changes.Steps.{at_result, IsPlain}
@@ -29,8 +29,8 @@ module _ (role : Role) (history : List Sent) (taken : Arrival → Message → Ty
   pub took : (e f : Effect) → e ≡ f → f.out.heard ≡ None → After role history taken old f → Took role history taken old e
   took e f gives quiet after = at_result (Took role history taken old) e f gives (after, quiet)
 
-  pub drops : (why : DropReason) (e : Effect) → e ≡ dropped old why → Took role history taken old e
-  drops why e gives = took e _ gives refl (stays role history taken old knows _)
+  pub drops : (outcome : EventOutcome) (e : Effect) → e ≡ quietly old outcome → Took role history taken old e
+  drops outcome e gives = took e _ gives refl (stays role history taken old knows _)
 
   pub ends : (number : ℕ) (p : PendingRequest) (outcome : Outcome) (e : Effect) → e ≡ finishing old number p outcome → Took role history taken old e
   ends number p outcome e gives = took e _ gives refl (shrunk role history taken old knows (finished old number p) (Shrunk-finished old number p.session p.bearer) [] (Came_to outcome))
@@ -42,4 +42,4 @@ module _ (role : Role) (history : List Sent) (taken : Arrival → Message → Ty
   takes_echo request q e gives = took e _ gives refl (speaks role history taken old knows request.source (Echo_response (record { number = q.number; recovery = old.counter })) (Came_to Echoed) old (Shrunk-itself old) tt (Made-plain history old old (Echo_response (record { number = q.number; recovery = old.counter })) (λ t none. none) (λ c e. cc e) tt))
 
   pub takes_response : {number : ℕ} {Fits : HasPending old number → Type 0} {outcome : Outcome} (e : Effect) → EndsRequest old number Fits outcome e → Took role history taken old e
-  takes_response e r = on_finish old e (λ why f. drops why e f) (λ at f. ends _ at.pending _ e f) r
+  takes_response e r = on_finish old e (λ outcome f. drops outcome e f) (λ at f. ends _ at.pending _ e f) r

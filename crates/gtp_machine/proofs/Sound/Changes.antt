@@ -4,18 +4,15 @@ use Rattle.std.proofs.lemmas.Bool.{cases_eq, eq-eqb, ne_eqb}
 use Rattle.std.specs.FinMap.{get, insert, remove, len, gets}
 use Rattle.gtp_values.specs.FiniteMap.{FiniteMap, Among, kept, changed}
 use Rattle.gtp_machine.specs.Config.{Config}
-use Rattle.gtp_machine.specs.Message.{Message, Create_session_request, Create_bearer_request, CreateSessionRequest, CreateBearerRequest, CreateSessionResponse, CreateBearerResponse}
-use Rattle.gtp_machine.specs.Node.{Role, Serving, Packet, State, Pending, Active, Closing, Kind, Default, Dedicated, Session, Bearer, PendingRequest, Arrival, Node, holding, fresh_node}
+use Rattle.gtp_machine.specs.Message.{Message, Create_session_request, Create_bearer_request, CreateSessionRequest, CreateBearerRequest}
+use Rattle.gtp_machine.specs.Node.{Role, State, Pending, Active, Closing, Kind, Default, Dedicated, Session, Bearer, PendingRequest, Arrival, Node, holding, fresh_node}
 use Rattle.gtp_machine.specs.Removal.{on, without, without_session, without_bearer, finished_about, finished, closing_session, closing_bearer, session_closing}
-use Rattle.gtp_machine.specs.Choice.{IsFree, IsIdentity, HasPending}
-use Rattle.gtp_machine.specs.Response.{Named}
-use Rattle.gtp_machine.specs.Serving.{FitsCreateSession}
-use Rattle.gtp_machine.specs.Packet.{FitsCreateBearer}
+use Rattle.gtp_machine.specs.Choice.{IsFree, IsIdentity}
 use Rattle.gtp_machine.specs.Sound.{At, IsInState, IsBearerOf, IsSoundSession, IsSoundBearer, AsksSession, AsksBearer, IsAbout, opened_by, AreSoundRequests, IsSound, IsWithin}
 use Rattle.gtp_machine.proofs.Basics.FiniteMaps.{found-remove, found-empty, found-kept, found-changed, get-changed_some, get-kept, Each-insert}
 use Rattle.gtp_machine.proofs.Basics.Counting.{len-insert_most, len-insert_same, len-remove_most, len-kept_most}
-use Rattle.gtp_machine.proofs.Sound.Parts.{default_dedicated, at_here, at_insert, there_insert, Follows, follows_all, no_delete_session, requests_follow, requests_fewer, requests_add, opened_drawn, contexts_drawn, contexts_session, contexts_bearer, contexts_same}
-use Rattle.gtp_machine.proofs.Basics.Facts.{one_value, pending_active, pending_closing}
+use Rattle.gtp_machine.proofs.Sound.Parts.{about_opening, default_dedicated, at_here, at_insert, there_insert, Follows, follows_all, requests_follow, requests_fewer, requests_add, opened_drawn, contexts_drawn, contexts_session, contexts_bearer, contexts_same}
+use Rattle.gtp_machine.proofs.Basics.Facts.{one_value, pending_active, pending_closing, not_or_right}
 
 module _ (role : Role) where
   pub fresh : (config : Config) (counter : ℕ) → IsSound role (fresh_node config counter)
@@ -29,15 +26,18 @@ module _ (role : Role) where
   not_or_left true b e = absurd (cc e)
   not_or_left false b e = refl
 
-  not_or_right : (a b : Bool) → not (a || b) ≡ true → b ≡ false
-  not_or_right true b e = absurd (cc e)
-  not_or_right false true e = absurd (cc e)
-  not_or_right false false e = refl
-
   passes_both : (a b : Bool) → a ≡ false → b ≡ false → not (a || b) ≡ true
   passes_both a b x y = ap (λ k. not (k || b)) x ∙ ap not y
 
   module _ (old : Node) (sound : IsSound role old) where
+    -- fewer requests, and no more sessions, are within what is allowed
+    within_pending : (sessions : FiniteMap Session) (pending : FiniteMap PendingRequest) → len sessions ≤ len old.sessions → len pending ≤ len old.pending → ((m : ℕ) (q : PendingRequest) → get pending m ≡ Some q → get old.pending m ≡ Some q) → IsWithin sessions pending old.held old.drawn
+    within_pending sessions pending no_more fewer were = record { sessions_few = omega (arith, no_more, sound.within.sessions_few); pending_few = omega (arith, fewer, sound.within.pending_few); numbers = λ m q e. sound.within.numbers m q (were m q e); held_few = sound.within.held_few; drawn_few = sound.within.drawn_few }
+
+    -- and so are these sessions with these TEIDs
+    within_sessions : (sessions : FiniteMap Session) (drawn : List ℕ) → len sessions ≤ 1000 → length drawn ≤ 16777215 → IsWithin sessions old.pending old.held drawn
+    within_sessions sessions drawn few less = record { sessions_few = few; pending_few = sound.within.pending_few; numbers = sound.within.numbers; held_few = sound.within.held_few; drawn_few = less }
+
     -- sessions and bearers go, but no pending default bearer by itself
     pub without_sound : (session_goes bearer_goes : ℕ → Bool) → ((t : ℕ) (b : Bearer) → get old.bearers t ≡ Some b → b.kind ≡ Default → b.state ≡ Pending → bearer_goes t ≡ false) → IsSound role (without session_goes bearer_goes old)
     without_sound session_goes bearer_goes stays = record {
@@ -50,13 +50,7 @@ module _ (role : Role) where
         apart = λ s t a b i x y. sound.contexts.apart s t a b i (found-kept stays_bearer old.bearers s a x).1 (found-kept stays_bearer old.bearers t b y).1;
       };
       requests = requests_follow role old.sessions (kept stays_session old.sessions) old.bearers (kept stays_bearer old.bearers) (kept stays_pending old.pending) follows (requests_fewer role old.sessions old.bearers old.pending (kept stays_pending old.pending) (λ m q e. (found-kept stays_pending old.pending m q e).1) sound.requests);
-      within = record {
-        sessions_few = omega (arith, len-kept_most stays_session old.sessions, sound.within.sessions_few);
-        pending_few = omega (arith, len-kept_most stays_pending old.pending, sound.within.pending_few);
-        numbers = λ m q e. sound.within.numbers m q (found-kept stays_pending old.pending m q e).1;
-        held_few = sound.within.held_few;
-        drawn_few = sound.within.drawn_few;
-      };
+      within = within_pending (kept stays_session old.sessions) (kept stays_pending old.pending) (len-kept_most stays_session old.sessions) (len-kept_most stays_pending old.pending) (λ m q e. (found-kept stays_pending old.pending m q e).1);
     }
       where
         stays_session : ℕ → Session → Bool
@@ -93,13 +87,7 @@ module _ (role : Role) where
     without_bearer_sound key b stands dedicated = without_sound (λ t. false) (λ t. eqb t key) (λ t x e default w. ne_eqb t key (λ same. default_dedicated x.kind default (ap (λ (k : Bearer). k.kind) (one_value (get old.bearers key) x b (ap (λ k. get old.bearers k) (sym same) ∙ e) stands) ∙ dedicated)))
 
     removed_within : (number : ℕ) → IsWithin old.sessions (remove old.pending number) old.held old.drawn
-    removed_within number = record {
-      sessions_few = sound.within.sessions_few;
-      pending_few = omega (arith, len-remove_most old.pending number, sound.within.pending_few);
-      numbers = λ m q e. sound.within.numbers m q (found-remove old.pending number m q e).1;
-      held_few = sound.within.held_few;
-      drawn_few = sound.within.drawn_few;
-    }
+    removed_within number = within_pending old.sessions (remove old.pending number) (omega arith) (len-remove_most old.pending number) (λ m q e. (found-remove old.pending number m q e).1)
 
     pub removed_sound : (number : ℕ) → IsSound role (record old { pending = remove old.pending number })
     removed_sound number = record {
@@ -112,19 +100,16 @@ module _ (role : Role) where
     pub finished_sound : (number : ℕ) (p : PendingRequest) → get old.pending number ≡ Some p → IsSound role (finished old number p)
     finished_sound number p stands = by (sound.requests.each number p stands)
       where
-        alone : p.session ≡ None → p.bearer ≡ None → IsSound role (finished old number p)
-        alone session bearer = subst (λ (f : Node). IsSound role f) (sym (ap (λ b. finished_about old number p.session b) bearer ∙ ap (λ s. finished_about old number s None) session)) (removed_sound number)
-
-        whole : (t : ℕ) → p.session ≡ Some t → p.bearer ≡ None → IsSound role (finished old number p)
-        whole t session bearer = subst (λ (f : Node). IsSound role f) (sym (ap (λ b. finished_about old number p.session b) bearer ∙ ap (λ s. finished_about old number s None) session)) (without_session_sound t)
+        about : (s b : Option ℕ) → p.session ≡ s → p.bearer ≡ b → IsSound role (finished_about old number s b) → IsSound role (finished old number p)
+        about s b session bearer sound_then = subst (λ (f : Node). IsSound role f) (sym (ap (λ k. finished_about old number p.session k) bearer ∙ ap (λ k. finished_about old number k b) session)) sound_then
 
         one : (t : ℕ) (b : Bearer) → p.bearer ≡ Some t → get old.bearers t ≡ Some b → b.kind ≡ Dedicated → IsSound role (finished old number p)
-        one t b bearer at kind = subst (λ (f : Node). IsSound role f) (sym (ap (λ b. finished_about old number p.session b) bearer)) (without_bearer_sound t b at kind)
+        one t b bearer at kind = about p.session (Some t) refl bearer (without_bearer_sound t b at kind)
 
         by : IsAbout role old.sessions old.bearers number p → IsSound role (finished old number p)
-        by (inl e) = alone e.session e.bearer
-        by (inr (inl a)) = whole a.request.control.teid a.session a.bearer
-        by (inr (inr (inl d))) = whole d.about d.session d.bearer
+        by (inl e) = about None None e.session e.bearer (removed_sound number)
+        by (inr (inl a)) = about (Some a.request.control.teid) None a.session a.bearer (without_session_sound a.request.control.teid)
+        by (inr (inr (inl d))) = about (Some d.about) None d.session d.bearer (without_session_sound d.about)
         by (inr (inr (inr (inl a)))) = ⊎_elim (λ w. one a.request.context.user.teid w.0 a.bearer w.1 w.2.is_kind) (λ w. one a.request.context.user.teid w.0.0 a.bearer w.0.1 w.0.2.is_kind) a.wanted
         by (inr (inr (inr (inr d)))) = one d.key d.closes.0 d.bearer d.closes.1 d.closes.2.is_kind
 
@@ -170,13 +155,7 @@ module _ (role : Role) where
       requests = requests_follow role old.sessions (insert old.sessions control s) old.bearers (insert old.bearers user b) old.pending (λ m q e. follows_all old.sessions (insert old.sessions control s) old.bearers (insert old.bearers user b) q
           (λ t st n at. at_insert old.sessions control s (IsInState st) t (λ y same e is. absurd (free_session control t y control_free e same)) at)
           (λ t c k st n at. at_insert old.bearers user b (IsBearerOf c k st) t (λ y same e is. absurd (free_bearer user t y user_free e same)) at)) sound.requests;
-      within = record {
-        sessions_few = omega (arith, len-insert_most old.sessions control s, room);
-        pending_few = sound.within.pending_few;
-        numbers = sound.within.numbers;
-        held_few = sound.within.held_few;
-        drawn_few = omega (arith, draws);
-      };
+      within = within_sessions (insert old.sessions control s) (user ∷ control ∷ old.drawn) (omega (arith, len-insert_most old.sessions control s, room)) (omega (arith, draws));
     }
 
     -- a dedicated bearer comes under a free TEID
@@ -186,7 +165,7 @@ module _ (role : Role) where
       requests = requests_follow role old.sessions old.sessions old.bearers (insert old.bearers user b) old.pending (λ m q e. follows_all old.sessions old.sessions old.bearers (insert old.bearers user b) q
           (λ t st n at. at)
           (λ t c k st n at. at_insert old.bearers user b (IsBearerOf c k st) t (λ y same e is. absurd (free_bearer user t y free e same)) at)) sound.requests;
-      within = record { sessions_few = sound.within.sessions_few; pending_few = sound.within.pending_few; numbers = sound.within.numbers; held_few = sound.within.held_few; drawn_few = omega (arith, draws) };
+      within = within_sessions old.sessions (user ∷ old.drawn) sound.within.sessions_few (omega (arith, draws));
     }
 
     -- an active bearer is replaced by one of its session, kind and identity, with its remote, in any state but pending
@@ -226,7 +205,7 @@ module _ (role : Role) where
             (sym (ap (λ (k : Bearer). k.identity) second.is ∙ two.1) ∙ ib);
       };
       requests = requests_follow role old.sessions (insert old.sessions session (closing_session s)) old.bearers (changed (closing_bearer session) old.bearers) old.pending (λ m q e. follows q) sound.requests;
-      within = record { sessions_few = omega (arith, len-insert_same old.sessions session (closing_session s) s stands, sound.within.sessions_few); pending_few = sound.within.pending_few; numbers = sound.within.numbers; held_few = sound.within.held_few; drawn_few = sound.within.drawn_few };
+      within = within_sessions (insert old.sessions session (closing_session s)) old.drawn (omega (arith, len-insert_same old.sessions session (closing_session s) s stands, sound.within.sessions_few)) sound.within.drawn_few;
     }
       where
         closed_session : IsSoundSession old.drawn session (closing_session s)
@@ -268,31 +247,17 @@ module _ (role : Role) where
 
     -- what a pending Create Session Request is about
     pub is_session : (number : ℕ) (p : PendingRequest) (q : CreateSessionRequest) → get old.pending number ≡ Some p → p.request ≡ Create_session_request q → (a : AsksSession role old.sessions old.bearers number p) × (a.request ≡ q)
-    is_session number p q stands asked = by (sound.requests.each number p stands)
-      where
-        opens : opened_by p.request ≡ Some q.control.teid
-        opens = ap opened_by asked
-
-        by : IsAbout role old.sessions old.bearers number p → (a : AsksSession role old.sessions old.bearers number p) × (a.request ≡ q)
-        by (inl e) = absurd (cc (e.asked, asked))
-        by (inr (inl a)) = (a, let same : a.request ≡ q = cc (a.asked, asked) in same)
-        by (inr (inr (inl d))) = absurd (no_delete_session role number p.request q.control.teid d.asked opens)
-        by (inr (inr (inr (inl a)))) = absurd (cc (a.asked, asked))
-        by (inr (inr (inr (inr d)))) = absurd (cc (d.asked, asked))
+    is_session number p q stands asked = ⊎_elim
+        (λ a. (a, let same : a.request ≡ q = cc (a.asked, asked) in same))
+        (λ a. absurd (cc (a.asked, asked)))
+        (about_opening role old.sessions old.bearers number p q.control.teid (ap opened_by asked) (sound.requests.each number p stands))
 
     -- what a pending Create Bearer Request is about
     pub is_bearer : (number : ℕ) (p : PendingRequest) (r : CreateBearerRequest) → get old.pending number ≡ Some p → p.request ≡ Create_bearer_request r → (a : AsksBearer role old.sessions old.bearers number p) × (a.request ≡ r)
-    is_bearer number p r stands asked = by (sound.requests.each number p stands)
-      where
-        opens : opened_by p.request ≡ Some r.context.user.teid
-        opens = ap opened_by asked
-
-        by : IsAbout role old.sessions old.bearers number p → (a : AsksBearer role old.sessions old.bearers number p) × (a.request ≡ r)
-        by (inl e) = absurd (cc (e.asked, asked))
-        by (inr (inl a)) = absurd (cc (a.asked, asked))
-        by (inr (inr (inl d))) = absurd (no_delete_session role number p.request r.context.user.teid d.asked opens)
-        by (inr (inr (inr (inl a)))) = (a, let same : a.request ≡ r = cc (a.asked, asked) in same)
-        by (inr (inr (inr (inr d)))) = absurd (cc (d.asked, asked))
+    is_bearer number p r stands asked = ⊎_elim
+        (λ a. absurd (cc (a.asked, asked)))
+        (λ a. (a, let same : a.request ≡ r = cc (a.asked, asked) in same))
+        (about_opening role old.sessions old.bearers number p r.context.user.teid (ap opened_by asked) (sound.requests.each number p stands))
 
     -- a pending session opens with its default bearer, and its request is finished
     pub session_opens : (number : ℕ) (p : PendingRequest) (a : AsksSession role old.sessions old.bearers number p) → get old.pending number ≡ Some p → (now : Session) (opened : Bearer) → now.state ≡ Active → (r : ℕ) × (now.remote ≡ Some r) → opened.session ≡ a.default.0.session → opened.identity ≡ a.default.0.identity → opened.kind ≡ a.default.0.kind → opened.state ≡ Active → (r : ℕ) × (opened.remote ≡ Some r) → IsSound role (record old { sessions = insert old.sessions a.request.control.teid now; bearers = insert old.bearers a.request.context.user.teid opened; pending = remove old.pending number })
@@ -311,13 +276,7 @@ module _ (role : Role) where
               })
               (contexts_session old.drawn old.sessions old.bearers c now (record { own = (sound.contexts.each_session c a.waits.0 a.waits.1).own; named = λ n. remote; blank = λ w. absurd (pending_active now.state w active) }) sound.contexts);
           requests = requests_follow role old.sessions (insert old.sessions c now) old.bearers (insert old.bearers u opened) (remove old.pending number) (λ m q e. follows m q (found-remove old.pending number m q e)) (requests_fewer role old.sessions old.bearers old.pending (remove old.pending number) (λ m q e. (found-remove old.pending number m q e).1) sound.requests);
-          within = record {
-            sessions_few = omega (arith, len-insert_same old.sessions c now a.waits.0 a.waits.1, sound.within.sessions_few);
-            pending_few = omega (arith, len-remove_most old.pending number, sound.within.pending_few);
-            numbers = λ m q e. sound.within.numbers m q (found-remove old.pending number m q e).1;
-            held_few = sound.within.held_few;
-            drawn_few = sound.within.drawn_few;
-          };
+          within = within_pending (insert old.sessions c now) (remove old.pending number) (omega (arith, len-insert_same old.sessions c now a.waits.0 a.waits.1)) (len-remove_most old.pending number) (λ m q e. (found-remove old.pending number m q e).1);
         }
       where
         follows : (m : ℕ) (q : PendingRequest) → (m ≢ number) × (get old.pending m ≡ Some q) → Follows old.sessions (insert old.sessions a.request.control.teid now) old.bearers (insert old.bearers a.request.context.user.teid opened) q
@@ -360,11 +319,3 @@ module _ (role : Role) where
           wanted = λ s t o is by x. inl (at_insert old.bearers r.context.user.teid n (IsBearerOf s Dedicated Pending) t (λ y same e k. absurd (found.0 (sound.requests.lone m number q p t found.1 stands o (ap opened_by asked ∙ ap (λ z. Some z) (sym same))))) x);
           ends = λ s t is by x. at_insert old.bearers r.context.user.teid n (IsBearerOf s Dedicated Closing) t (λ y same e k. absurd (pending_closing y.state (ap (λ (z : Bearer). z.state) (is_it t y same e) ∙ waits) k.in_state)) x;
         }
-
--- A response that names what a sound node's request is about fits it: `about` needs no test.
-module _ (old : Node) where
-  pub fits_session : IsSound Serving old → (a : CreateSessionResponse) (at : HasPending old a.number) (q : CreateSessionRequest) → at.pending.request ≡ Create_session_request q → Named at.pending a.header a.cause → FitsCreateSession at.pending a
-  fits_session sound a at q asked named = record { request = q; asked = asked; session = _; about = (is_session Serving old sound a.number at.pending q at.waits asked).0.session; named = named }
-
-  pub fits_bearer : IsSound Packet old → (x : CreateBearerResponse) (at : HasPending old x.number) (r : CreateBearerRequest) → at.pending.request ≡ Create_bearer_request r → Named at.pending x.header x.cause → FitsCreateBearer at.pending x
-  fits_bearer sound x at r asked named = let ask = (is_bearer Packet old sound x.number at.pending r at.waits asked).0 in record { request = r; asked = asked; session = ask.about; about = ask.session; bearer = ask.request.context.user.teid; about_bearer = ask.bearer; named = named }

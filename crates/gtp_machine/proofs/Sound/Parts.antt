@@ -1,11 +1,11 @@
 -- What a change of tables leaves of the soundness of what stands in them.
-use Rattle.std.proofs.Common.{◌≡◌, ◌≢◌, inl, inr, ⊎_elim, ℕ, List, Some, sym, ◌∙◌, ap, subst}
+use Rattle.std.proofs.Common.{◌≡◌, ◌≢◌, ◌⊎◌, inl, inr, ⊎_elim, ℕ, List, Some, sym, ◌∙◌, ap, subst}
 use Rattle.std.proofs.lemmas.Bool.{cases_eq}
 use Rattle.std.specs.FinMap.{get, insert}
 use Rattle.gtp_values.specs.FiniteMap.{FiniteMap, Among}
 use Rattle.gtp_machine.specs.Message.{Message}
 use Rattle.gtp_machine.specs.Node.{Role, Serving, Packet, State, Pending, Active, Closing, Kind, Default, Dedicated, Session, Bearer, PendingRequest}
-use Rattle.gtp_machine.specs.Sound.{At, IsInState, IsBearerOf, IsSoundSession, IsSoundBearer, AreApart, IsWanted, DeletesSession, IsAbout, opened_by, AreLone, AreSoundContexts, AreSoundRequests}
+use Rattle.gtp_machine.specs.Sound.{At, IsInState, IsBearerOf, IsSoundSession, IsSoundBearer, AreApart, IsWanted, DeletesSession, AsksSession, AsksBearer, IsAbout, opened_by, AreLone, AreSoundContexts, AreSoundRequests}
 use Rattle.gtp_machine.proofs.Basics.FiniteMaps.{found-insert, get-insert_same, get-insert_other, Each-insert}
 
 pub default_dedicated : (k : Kind) → k ≡ Default → k ≡ Dedicated → ⊥
@@ -23,10 +23,7 @@ module _ {X : Type 0} (table : FiniteMap X) (key : ℕ) (x : X) where
       (cases_eq t key)
 
   pub there_insert : (t : ℕ) → (y : X) × (get table t ≡ Some y) → (y : X) × (get (insert table key x) t ≡ Some y)
-  there_insert t at = ⊎_elim
-      (λ same. (x, ap (λ k. get (insert table key x) k) same ∙ get-insert_same table key x))
-      (λ other. (at.0, get-insert_other table key x t other ∙ at.1))
-      (cases_eq t key)
+  there_insert t at = let r = at_insert (λ y. Unit {0}) t (λ y same e u. tt) (at.0, at.1, tt) in (r.0, r.1)
 
 -- what a pending request is about is still so
 pub record Follows (old_sessions new_sessions : FiniteMap Session) (old_bearers new_bearers : FiniteMap Bearer) (p : PendingRequest) : Type 0 where
@@ -91,15 +88,23 @@ module _ (role : Role) where
         ]
       ]
 
+  -- a pending request that opens a context asks for it
+  pub about_opening : (S : FiniteMap Session) (B : FiniteMap Bearer) (number : ℕ) (p : PendingRequest) (t : ℕ) → opened_by p.request ≡ Some t → IsAbout role S B number p
+      → AsksSession role S B number p ⊎ AsksBearer role S B number p
+  about_opening S B number p t o (inl e) = let n = sym (ap opened_by e.asked) ∙ o in absurd (cc n)
+  about_opening S B number p t o (inr (inl a)) = inl a
+  about_opening S B number p t o (inr (inr (inl d))) = absurd (no_delete_session role number p.request t d.asked o)
+  about_opening S B number p t o (inr (inr (inr (inl a)))) = inr a
+  about_opening S B number p t o (inr (inr (inr (inr d)))) = let n = sym (ap opened_by d.asked) ∙ o in absurd (cc n)
+
   -- what a pending request opens was drawn
   pub opened_drawn : (drawn : List ℕ) (S : FiniteMap Session) (B : FiniteMap Bearer) (number : ℕ) (p : PendingRequest) (t : ℕ) → AreSoundContexts drawn S B → IsAbout role S B number p → opened_by p.request ≡ Some t → Among t drawn
-  opened_drawn drawn S B number p t c (inl e) o = let n = sym (ap opened_by e.asked) ∙ o in absurd (cc n)
-  opened_drawn drawn S B number p t c (inr (inl a)) o = let same : a.request.control.teid ≡ t = cc (sym (ap opened_by a.asked) ∙ o) in subst (λ k. Among k drawn) same (c.each_session a.request.control.teid a.waits.0 a.waits.1).own
-  opened_drawn drawn S B number p t c (inr (inr (inl d))) o = absurd (no_delete_session role number p.request t d.asked o)
-  opened_drawn drawn S B number p t c (inr (inr (inr (inl a)))) o =
+  opened_drawn drawn S B number p t c is o = ⊎_elim
+      (λ a. let same : a.request.control.teid ≡ t = cc (sym (ap opened_by a.asked) ∙ o) in subst (λ k. Among k drawn) same (c.each_session a.request.control.teid a.waits.0 a.waits.1).own)
+      (λ a.
       let same : a.request.context.user.teid ≡ t = cc (sym (ap opened_by a.asked) ∙ o) in
-      subst (λ k. Among k drawn) same (⊎_elim (λ w. (c.each_bearer a.request.context.user.teid w.0 w.1).own) (λ w. (c.each_bearer a.request.context.user.teid w.0.0 w.0.1).own) a.wanted)
-  opened_drawn drawn S B number p t c (inr (inr (inr (inr d)))) o = let n = sym (ap opened_by d.asked) ∙ o in absurd (cc n)
+      subst (λ k. Among k drawn) same (⊎_elim (λ w. (c.each_bearer a.request.context.user.teid w.0 w.1).own) (λ w. (c.each_bearer a.request.context.user.teid w.0.0 w.0.1).own) a.wanted))
+      (about_opening S B number p t o is)
 
 -- more TEIDs are drawn
 pub contexts_drawn : (drawn more : List ℕ) (S : FiniteMap Session) (B : FiniteMap Bearer) → ((t : ℕ) → Among t drawn → Among t more) → AreSoundContexts drawn S B → AreSoundContexts more S B

@@ -29,11 +29,11 @@ use Rattle.gtp_v2.proofs.Pairs.{datagram_decided}
 use Rattle.gtp_machine.specs.declared.message_type.MessageType.TheVariants as types
 use Rattle.gtp_machine.specs.MessageType.{type_at}
 use Rattle.gtp_machine.specs.Element.{IsAccepting, cause_of, teid_in}
-use Rattle.gtp_machine.specs.Message.{CreatedBearer, GivenBearer, Message}
+use Rattle.gtp_machine.specs.Message.{CreatedBearer, GivenBearer}
 use Rattle.gtp_machine.specs.Node.{Arrival}
-use Rattle.gtp_machine.specs.Input.{Control_came, ControlReading, Control_message, MessageType, Defect, Too_short, Out_of_range}
+use Rattle.gtp_machine.specs.Input.{Control_came, MessageType, Defect, Too_short, Out_of_range}
 use Rattle.gtp_machine.specs.Decoded.{row_in, contexts_in, end_in, first_in, cause_at, row, values_in, groups_in, created, given, session_request_in, bearer_request_in, message_by, message_of}
-use Rattle.gtp_machine.specs.Reading.{control_fault, control_reading_of, control_reading, element_fault, defect_in, request_type, missing_in, DatagramReading, Alone, Both, announces, messages_read, datagram_fault, pair_reading_of, IsDatagramReadOf, taken_as}
+use Rattle.gtp_machine.specs.Reading.{control_fault, control_reading_of, control_reading, element_fault, defect_in, request_type, missing_in, DatagramReading, Alone, Both, announces, messages_read, pair_reading_of, IsDatagramReadOf, taken_as}
 use Rattle.gtp_machine.specs.Sound.{NamesItsEnds, IsWellFormed, ReadsWhole, PairReadsWhole, TakenWhole}
 use Rattle.gtp_machine.proofs.Octets.Datagrams.{datagram_by_grammar}
 use Rattle.gtp_machine.proofs.Octets.Readings.{typed_lines}
@@ -254,17 +254,14 @@ pair_whole request (Ok d) e = by_messages ((datagram_decided request.octets).ok 
 pub pair_reads_whole : PairReadsWhole
 pair_reads_whole octets first second reads = by ((datagram_by_grammar octets (Both first second)).0 reads)
   where
-    never : (first second : Message) (reading : ControlReading) → Both first second ≡ Alone reading → ⊥
-    never first second reading e = cc e
-
     by : IsDatagramReadOf octets (Both first second) → NamesItsEnds first × NamesItsEnds second
-    by (inl (d, inl (m, is, same), as_d)) = absurd (never first second (Control_message (message_of m)) (as_d ∙ ap (λ (v : DatagramValue). messages_read v.first v.second) same))
+    by (inl (d, inl (m, is, same), as_d)) = absurd (cc (as_d ∙ ap (λ (v : DatagramValue). messages_read v.first v.second) same))
     by (inl (d, inr (front, back, announced, (a, a_is, (b, b_is, same))), as_d)) =
         let both : Both first second ≡ Both (message_of a) (message_of b) = as_d ∙ ap (λ (v : DatagramValue). messages_read v.first v.second) same in
         let one : first ≡ message_of a = cc both in
         let other : second ≡ message_of b = cc both in
         (subst NamesItsEnds (sym one) (message_whole front a a_is), subst NamesItsEnds (sym other) (message_whole back b b_is))
-    by (inr (fault, fails, as_f)) = absurd (never first second (datagram_fault (announces octets) fault) as_f)
+    by (inr (fault, fails, as_f)) = absurd (cc as_f)
 
 pub taken_whole : TakenWhole
 taken_whole request reading is = subst (λ (r : DatagramReading). IsWellFormed (Control_came request (taken_as r))) (sym is) (by_announcement (announces request.octets))

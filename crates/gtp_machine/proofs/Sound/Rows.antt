@@ -1,9 +1,6 @@
 -- Each row leaves a sound node sound.
 use Rattle.std.proofs.Common.{◌≡◌, inl, inr, ⊎_elim, ℕ, ◌+◌, ◌≤◌, ◌<◌, Bool, false, List, [], ◌∷◌, length, Option, Some, None, refl, sym, ◌∙◌, ap, subst, arith}
 use Rattle.std.specs.FinMap.{get, insert, remove, len}
-use Rattle.gtp_values.specs.Counter.{age_of}
-use Rattle.gtp_values.specs.declared.counter.Age.{Age}
-use Rattle.gtp_values.specs.declared.counter.Age.TheVariants.{Same, Later, Earlier}
 use Rattle.gtp_values.specs.declared.qos.Qos.{Qos}
 use Rattle.gtp_values.specs.declared.address.Endpoint.{Endpoint}
 use Rattle.gtp_values.specs.FiniteMap.{Among}
@@ -12,22 +9,21 @@ use Rattle.gtp_tables.specs.Index.{names}
 use Rattle.gtp_machine.specs.Step.{Done, Steps}
 use Rattle.gtp_machine.specs.Element.{IsAccepting}
 use Rattle.gtp_machine.specs.Message.{CreateSessionRequest, CreateSessionResponse, DeleteSessionRequest, CreateBearerRequest, CreateBearerResponse, DeleteBearerRequest, RemovedBearer, Message, Create_session_response, Create_bearer_request, Create_bearer_response, Packet_data, End_marker, Error_indication, recovery_of, first_created, first_given, first_identity}
-use Rattle.gtp_machine.specs.Node.{Role, Serving, Packet, Pending, Active, Closing, Default, Dedicated, Session, Bearer, Arrival, Held, Node, holding, fresh_node}
-use Rattle.gtp_machine.specs.Input.{Outcome, Specification, ControlReading, Control_message, Faulty, Control_fault, UserReading, User_message, Extension_needed, User_fault, Command, Create_session, Delete_session, Create_bearer, Delete_bearer, Release_session, Mark_end, Send_echo, Send_user, Move, Resend, Give_up, Forget, Commanded, Control_came, User_came, Moves_on, Effect, Came_to, Begun, says}
-use Rattle.gtp_machine.specs.Choice.{IsFreeNumber, HasPending, IsIdentity}
+use Rattle.gtp_machine.specs.Node.{Role, Serving, Packet, Pending, Active, Closing, Default, Dedicated, Session, Bearer, Arrival, Held, Node, fresh_node}
+use Rattle.gtp_machine.specs.Input.{EventOutcome, Outcome, Specification, ControlReading, UserReading, Command, Create_session, Delete_session, Create_bearer, Delete_bearer, Release_session, Mark_end, Send_echo, Send_user, Move, Resend, Give_up, Forget, Commanded, Control_came, User_came, Moves_on, Effect, Came_to, Begun, says}
+use Rattle.gtp_machine.specs.Choice.{IsFreeNumber, HasPending, IsIdentity, HasHeldRoom, HasSessionRoom, HasDraws}
 use Rattle.gtp_machine.specs.Response.{EndsRequest}
 use Rattle.gtp_machine.specs.Removal.{without, finished, without_session, without_bearer, session_closing, closing_session, is_opened}
-use Rattle.gtp_machine.specs.Recovery.{peer_restarted, Judges, Weighs, Hears}
+use Rattle.gtp_machine.specs.Recovery.{peer_restarted, Hears}
 use Rattle.gtp_machine.specs.Move.{MoveStep}
 use Rattle.gtp_machine.specs.User.{UserTaken, UserStep, ended_bearer, default_among}
 use Rattle.gtp_machine.specs.Command.{asks, session_request, pending_session, pending_bearer, session_begun, BeginsSession, bearer_request, create_bearer_asked as begun_bearer, pending_dedicated, BeginsBearer, ClosesBearer, CommandStep}
 use Rattle.gtp_machine.specs.Answer.{TakesReading, ControlStep}
-use Rattle.gtp_machine.specs.MessageType.{answers_type}
 use Rattle.gtp_machine.specs.Serving.{FitsCreateSession, DescribesSession, opened_session, opened_bearer, OpensSession, CreateSessionAnswered, granted_bearer, CreateBearerAsked, RemovesEach, DeleteBearerTaken, DeleteBearerAsked, ServingTakes}
 use Rattle.gtp_machine.specs.Config.{control_end, template_for}
-use Rattle.gtp_machine.proofs.Basics.Finishing.{on_finish}
+use Rattle.gtp_machine.proofs.Basics.Finishing.{quietly, on_session_begun, on_session_deleted, on_bearer_begun, on_bearer_deleted, on_session_released, on_end_marked, on_echo_begun, on_packet_sent, on_packet_came, on_end_came, on_error_came, on_user_step, on_finish, on_session_answered, on_bearer_answered, on_bearer_asked, on_session_asked, on_hears, on_control, on_read}
 use Rattle.gtp_machine.proofs.Basics.Templates.{goes}
-use Rattle.gtp_machine.specs.Packet.{session_cause, session_response, made_session, made_bearer, session_made, CreateSessionAsked, DeleteSessionAsked, FitsCreateBearer, DescribesBearer, CanOpen, opened_dedicated, OpensBearer, CreateBearerAnswered, PacketTakes}
+use Rattle.gtp_machine.specs.Packet.{session_cause, session_response, made_session, made_bearer, session_made, MakesSession, CreateSessionAsked, DeleteSessionAsked, FitsCreateBearer, DescribesBearer, CanOpen, opened_dedicated, OpensBearer, CreateBearerAnswered, PacketTakes}
 use Rattle.gtp_machine.specs.Sound.{At, IsInState, IsBearerOf, DeletesSession, IsSound, NamesItsEnds, IsWellFormed, AreWellFormed, StaysSound, ReachedIsSound}
 use Rattle.gtp_machine.proofs.Basics.FiniteMaps.{get-insert_same}
 use Rattle.gtp_machine.proofs.Sound.Parts.{at_here, no_delete_session}
@@ -35,13 +31,17 @@ use Rattle.gtp_machine.proofs.Sound.Changes.{fresh, without_sound, without_sessi
 use Rattle.gtp_machine.proofs.Changes.Forgetting.{leaves}
 use Rattle.std.proofs.lemmas.Option.{same_Some as some_is}
 use Rattle.gtp_values.proofs.Outcomes.{none_some}
-use Rattle.gtp_machine.proofs.Basics.Kinds.{faulted_leaves, by_serving, by_packet}
+use Rattle.gtp_machine.proofs.Basics.Kinds.{by_serving, by_packet}
 use Rattle.gtp_machine.proofs.Basics.Facts.{one_value, pending_active}
 
 module _ (role : Role) where
   -- what a row says of its effect
   by_row : (e f : Effect) → e ≡ f → IsSound role f.node → IsSound role e.node
   by_row e f gives s = subst (λ (k : Effect). IsSound role k.node) (sym gives) s
+
+  -- nothing changes
+  quiet : (old : Node) → IsSound role old → (e : Effect) (outcome : EventOutcome) → e ≡ quietly old outcome → IsSound role e.node
+  quiet old sound e outcome gives = by_row e _ gives sound
 
 -- a bearer is begun
 begins_bearer : (old : Node) → IsSound Packet old → (session : ℕ) (at : Session) (tft : List ℕ) (qos : Qos) (e : Effect) → get old.sessions session ≡ Some at → length old.drawn + 1 ≤ 16777215 → len old.pending < 256 → BeginsBearer old session at tft qos e → IsSound Packet e.node
@@ -112,67 +112,54 @@ module _ (old : Node) where
 
   command : (role : Role) → IsSound role old → (c : Command) → IsWellFormed (Commanded c) → (e : Effect) → CommandStep role c old e → IsSound role e.node
   command Packet sound (Create_session spec) formed e r = by_row Packet e _ r sound
-  command Serving sound (Create_session spec) formed e (inl f) = by_row Serving e _ f.1 sound
-  command Serving sound (Create_session spec) formed e (inr (room, inl f)) = by_row Serving e _ f.1 sound
-  command Serving sound (Create_session spec) formed e (inr (room, inr (draws, inl f))) = by_row Serving e _ f.1 sound
-  command Serving sound (Create_session spec) formed e (inr (room, inr (draws, inr (few, r)))) = begins sound spec formed e room.few draws.left few.few r
+  command Serving sound (Create_session spec) formed e r =
+      on_session_begun old e (quiet Serving old sound e) Serving spec
+      (λ room draws few r. begins sound spec formed e room.few draws.left few.few r)
+      r
   command Packet sound (Delete_session session) formed e r = by_row Packet e _ r sound
-  command Serving sound (Delete_session session) formed e (inl f) = by_row Serving e _ f.1 sound
-  command Serving sound (Delete_session session) formed e (inr (at, inl f)) = by_row Serving e _ f.1 sound
-  command Serving sound (Delete_session session) formed e (inr (at, inr (active, inl f))) = by_row Serving e _ f.1 sound
-  command Serving sound (Delete_session session) formed e (inr (at, inr (active, inr (few, r)))) = closes Serving sound session at.session r.number _ e at.stands active few.few r.number_free (_, refl, refl) r.gives
+  command Serving sound (Delete_session session) formed e r =
+      on_session_deleted old e (quiet Serving old sound e) Serving session
+      (λ at active few r. closes Serving sound session at.session r.number _ e at.stands active few.few r.number_free (_, refl, refl) r.gives)
+      r
   command Serving sound (Create_bearer session tft qos) formed e r = by_row Serving e _ r sound
-  command Packet sound (Create_bearer session tft qos) formed e (inl f) = by_row Packet e _ f.1 sound
-  command Packet sound (Create_bearer session tft qos) formed e (inr (at, inl f)) = by_row Packet e _ f.1 sound
-  command Packet sound (Create_bearer session tft qos) formed e (inr (at, inr (active, inl f))) = by_row Packet e _ f.1 sound
-  command Packet sound (Create_bearer session tft qos) formed e (inr (at, inr (active, inr (draws, inl f)))) = by_row Packet e _ f.1 sound
-  command Packet sound (Create_bearer session tft qos) formed e (inr (at, inr (active, inr (draws, inr (few, r))))) = begins_bearer old sound session at.session tft qos e at.stands draws.left few.few r
+  command Packet sound (Create_bearer session tft qos) formed e r =
+      on_bearer_begun old e (quiet Packet old sound e) Packet session tft qos
+      (λ at active draws few r. begins_bearer old sound session at.session tft qos e at.stands draws.left few.few r)
+      r
   command Serving sound (Delete_bearer session identity) formed e r = by_row Serving e _ r sound
-  command Packet sound (Delete_bearer session identity) formed e (inl f) = by_row Packet e _ f.1 sound
-  command Packet sound (Delete_bearer session identity) formed e (inr (at, inl f)) = by_row Packet e _ f.1 sound
-  command Packet sound (Delete_bearer session identity) formed e (inr (at, inr (named, inl f))) = by_row Packet e _ f.1 sound
-  command Packet sound (Delete_bearer session identity) formed e (inr (at, inr (named, inr (active, inl f)))) = by_row Packet e _ f.1 sound
-  command Packet sound (Delete_bearer session identity) formed e (inr (at, inr (named, inr (active, inr (few, r))))) = closes_bearer sound session at.session identity named.key named.at.bearer e named.at.stands active.1 named.of named.dedicated few.few r
+  command Packet sound (Delete_bearer session identity) formed e r =
+      on_bearer_deleted old e (quiet Packet old sound e) Packet session identity
+      (λ at named active few r. closes_bearer sound session at.session identity named.key named.at.bearer e named.at.stands active named.of named.dedicated few.few r)
+      r
   command Serving sound (Release_session session) formed e r = by_row Serving e _ r sound
-  command Packet sound (Release_session session) formed e (inl f) = by_row Packet e _ f.1 sound
-  command Packet sound (Release_session session) formed e (inr (at, inl f)) = by_row Packet e _ f.1 sound
-  command Packet sound (Release_session session) formed e (inr (at, inr (active, inl f))) = by_row Packet e _ f.1 sound
-  command Packet sound (Release_session session) formed e (inr (at, inr (active, inr (few, r)))) = closes Packet sound session at.session r.number _ e at.stands active few.few r.number_free (_, refl, refl, refl) r.gives
-  command Serving sound (Mark_end bearer) formed e r = by_row Serving e _ r sound
-  command Packet sound (Mark_end bearer) formed e (inl f) = by_row Packet e _ f.1 sound
-  command Packet sound (Mark_end bearer) formed e (inr (at, inl f)) = by_row Packet e _ f.1 sound
-  command Packet sound (Mark_end bearer) formed e (inr (at, inr (active, inl f))) = by_row Packet e _ f.1 sound
-  command Packet sound (Mark_end bearer) formed e (inr (at, inr (active, inr (before, gives)))) = by_row Packet e _ gives (ends_bearer Packet sound bearer at.bearer at.stands active)
-  command role sound Send_echo formed e (inl f) = by_row role e _ f.1 sound
-  command role sound Send_echo formed e (inr (few, r)) = by_row role e _ r.gives (asks_sound role old sound old r.number _ sound refl few.few r.number_free.small (inl (record { request = _; asked = refl; numbered = refl; session = refl; bearer = refl })) (λ m p t at o same. none_some t same))
-  command role sound (Send_user bearer payload) formed e (inl f) = by_row role e _ f.1 sound
-  command role sound (Send_user bearer payload) formed e (inr (at, inl f)) = by_row role e _ f.1 sound
-  command role sound (Send_user bearer payload) formed e (inr (at, inr (active, inl f))) = by_row role e _ f.1 sound
-  command role sound (Send_user bearer payload) formed e (inr (at, inr (active, inr (goes, inl f)))) = by_row role e _ f.1 sound
-  command role sound (Send_user bearer payload) formed e (inr (at, inr (active, inr (goes, inr (short, r))))) = by_row role e _ r.gives sound
+  command Packet sound (Release_session session) formed e r =
+      on_session_released old e (quiet Packet old sound e) Packet session
+      (λ at active few r. closes Packet sound session at.session r.number _ e at.stands active few.few r.number_free (_, refl, refl, refl) r.gives)
+      r
+  command role sound (Mark_end bearer) formed e r =
+      on_end_marked old e (quiet role old sound e) role bearer
+      (λ at active gives. by_row role e _ gives (ends_bearer role sound bearer at.bearer at.stands active))
+      r
+  command role sound Send_echo formed e r = on_echo_begun old e (quiet role old sound e)
+      (λ few r. by_row role e _ r.gives (asks_sound role old sound old r.number _ sound refl few.few r.number_free.small (inl (record { request = _; asked = refl; numbered = refl; session = refl; bearer = refl })) (λ m p t at o same. none_some t same)))
+      r
+  command role sound (Send_user bearer payload) formed e r = on_packet_sent old e (quiet role old sound e) role bearer payload (λ at active r. by_row role e _ r.gives sound) r
 
   -- bearers with that remote go, and no pending one has it
   broken_sound : (role : Role) → IsSound role old → (remote : ℕ) → (session_goes : ℕ → Bool) → IsSound role (without session_goes (λ t. names remote (get old.bearers t)) old)
   broken_sound role sound remote session_goes = without_sound role old sound session_goes (λ t. names remote (get old.bearers t)) (λ t b e kind waits. ap (names remote) e ∙ ap (is_number remote) ((sound.contexts.each_bearer t b e).blank waits))
 
   user_taken : (role : Role) → IsSound role old → (source : Endpoint) (m : Message) (e : Effect) → UserTaken role source m old e → IsSound role e.node
-  user_taken role sound source (Packet_data t p) e (inl f) = by_row role e _ f.1 sound
-  user_taken role sound source (Packet_data t p) e (inr (at, inl f)) = by_row role e _ f.1 sound
-  user_taken role sound source (Packet_data t p) e (inr (at, inr (active, inl f))) = by_row role e _ f.1 sound
-  user_taken role sound source (Packet_data t p) e (inr (at, inr (active, inr (comes, r)))) = by_row role e _ r.gives sound
-  user_taken Packet sound source (End_marker t) e r = by_row Packet e _ r sound
-  user_taken Serving sound source (End_marker t) e (inl f) = by_row Serving e _ f.1 sound
-  user_taken Serving sound source (End_marker t) e (inr (at, inl f)) = by_row Serving e _ f.1 sound
-  user_taken Serving sound source (End_marker t) e (inr (at, inr (active, gives))) = by_row Serving e _ gives (ends_bearer Serving sound t at.bearer at.stands active)
-  user_taken role sound source (Error_indication t address) e (inl f) = by_row role e _ f.1 sound
-  user_taken role sound source (Error_indication t address) e (inr (named, gives)) = by_row role e _ gives (broken_sound role sound t (λ s. default_among t s old.bearers))
+  user_taken role sound source (Packet_data t p) e r = on_packet_came old e (quiet role old sound e) role t p (λ f. by_row role e _ f sound) (λ at active r. by_row role e _ r.gives sound) r
+  user_taken role sound source (End_marker t) e r = on_end_came old e (quiet role old sound e) role t (λ at active gives. by_row role e _ gives (ends_bearer role sound t at.bearer at.stands active)) r
+  user_taken role sound source (Error_indication t address) e r =
+      on_error_came old e (quiet role old sound e) t
+      (λ gives. by_row role e _ gives (broken_sound role sound t (λ s. default_among t s old.bearers)))
+      r
   user_taken role sound source _ e r = by_row role e _ r sound
 
   user_step : (role : Role) → IsSound role old → (source : Endpoint) (reading : UserReading) (e : Effect) → UserStep role source reading old e → IsSound role e.node
-  user_step role sound source reading e (inl f) = by_row role e _ f.1 sound
-  user_step role sound source (User_message m) e (inr (peer, r)) = user_taken role sound source m e r
-  user_step role sound source Extension_needed e (inr (peer, r)) = by_row role e _ r sound
-  user_step role sound source (User_fault fault) e (inr (peer, r)) = by_row role e _ r sound
+  user_step role sound source reading e r = on_user_step old e (quiet role old sound e) role source reading (λ m is r. user_taken role sound source m e r) (λ f. by_row role e _ f sound) r
 
   moves : (role : Role) → IsSound role old → (move : Move) (e : Effect) → MoveStep old move e → IsSound role e.node
   moves role sound (Resend number) e r = by_row role e _ r.gives sound
@@ -190,7 +177,7 @@ module _ (old : Node) where
   ends role sound number at = finished_sound role old sound number at.pending at.waits
 
   response_finishes : (role : Role) → IsSound role old → {number : ℕ} {Fits : HasPending old number → Type 0} {outcome : Outcome} (e : Effect) → EndsRequest old number Fits outcome e → IsSound role e.node
-  response_finishes role sound e r = on_finish old e (λ why f. by_row role e _ f sound) (λ at f. by_row role e _ f (ends role sound _ at)) r
+  response_finishes role sound e r = on_finish old e (quiet role old sound e) (λ at f. by_row role e _ f (ends role sound _ at)) r
 
   module _ (sound : IsSound Serving old) where
     opens : (a : CreateSessionResponse) → NamesItsEnds (Create_session_response a) → (at : HasPending old a.number) (fits : FitsCreateSession at.pending a) → IsAccepting a.cause → (new : DescribesSession old fits.session a) → IsAccepting new.context.cause → (e : Effect) → OpensSession old a fits.request fits.session new.at.session new.address e → IsSound Serving e.node
@@ -212,29 +199,23 @@ module _ (old : Node) where
         (context.0, ap first_created new.alone ∙ context.1))))
 
     create_session_answered : (a : CreateSessionResponse) → NamesItsEnds (Create_session_response a) → (e : Effect) → CreateSessionAnswered a old e → IsSound Serving e.node
-    create_session_answered a whole e (inl f) = by_row Serving e _ f.1 sound
-    create_session_answered a whole e (inr (at, inl f)) = by_row Serving e _ f.1 sound
-    create_session_answered a whole e (inr (at, inr (fits, inl f))) = by_row Serving e _ f.1 (ends Serving sound a.number at)
-    create_session_answered a whole e (inr (at, inr (fits, inr (accepts, inl f)))) = by_row Serving e _ f.1 sound
-    create_session_answered a whole e (inr (at, inr (fits, inr (accepts, inr (new, inl f))))) = by_row Serving e _ f.1 (ends Serving sound a.number at)
-    create_session_answered a whole e (inr (at, inr (fits, inr (accepts, inr (new, inr (both, r)))))) = opens a whole at fits accepts new both e r
-
-    holds : (role : Role) → IsSound role old → (request : Arrival) (answer : List Message) → length old.held < 4096 → IsSound role (holding request answer old)
-    holds role s request answer room = holding_sound role old s request answer room
+    create_session_answered a whole e r =
+        on_session_answered old e (quiet Serving old sound e) a
+        (λ at outcome f. by_row Serving e _ f (ends Serving sound a.number at))
+        (λ at fits accepts new both r. opens a whole at fits accepts new both e r)
+        r
 
     create_bearer_asked : (request : Arrival) (q : CreateBearerRequest) (e : Effect) → CreateBearerAsked request q old e → IsSound Serving e.node
-    create_bearer_asked request q e (inl f) = by_row Serving e _ f.1 sound
-    create_bearer_asked request q e (inr (room, inl f)) = by_row Serving e _ f.1 (holding_sound Serving old sound request _ room.few)
-    create_bearer_asked request q e (inr (room, inr (at, inl f))) = by_row Serving e _ f.1 sound
-    create_bearer_asked request q e (inr (room, inr (at, inr (active, inl f)))) = by_row Serving e _ f.1 (holding_sound Serving old sound request _ room.few)
-    create_bearer_asked request q e (inr (room, inr (at, inr (active, inr (one, inl f))))) = by_row Serving e _ f.1 (holding_sound Serving old sound request _ room.few)
-    create_bearer_asked request q e (inr (room, inr (at, inr (active, inr (one, inr (linked, inl f)))))) = by_row Serving e _ f.1 (holding_sound Serving old sound request _ room.few)
-    create_bearer_asked request q e (inr (room, inr (at, inr (active, inr (one, inr (linked, inr (free, r))))))) =
+    create_bearer_asked request q e r =
+        on_bearer_asked old e (quiet Serving old sound e) request q
+        (λ room x cause f. by_row Serving e _ f (holding_sound Serving old sound request _ room.few))
+        (λ room at draws r.
         by_row Serving e _ r.gives (holding_sound Serving (record old { drawn = r.user ∷ old.drawn; bearers = insert old.bearers r.user (granted_bearer q r.identity) })
-        (bearer_comes Serving old sound r.user (granted_bearer q r.identity) r.user_free free.1.left
+        (bearer_comes Serving old sound r.user (granted_bearer q r.identity) r.user_free draws.left
         (record { own = inl refl; of = (at.session, at.stands); named = λ a. (q.context.user.teid, refl); blank = λ w. absurd (cc w); range = λ i e. subst IsIdentity (some_is r.identity i e) r.identity_free.range })
         (λ t a i e same ia ib. r.identity_free.unused t a e same (ia ∙ sym ib)))
-        request _ room.few)
+        request _ room.few))
+        r
 
   removes_each : (session : ℕ) (identities : List ℕ) (from : Node) (contexts : List RemovedBearer) (new : Node) → IsSound Serving from → RemovesEach session identities from contexts new → IsSound Serving new × (new.held ≡ from.held)
   removes_each session [] from contexts new s r = (subst (λ n. IsSound Serving n) (sym r.1) s, ap (λ (n : Node). n.held) r.1)
@@ -268,18 +249,13 @@ module _ (old : Node) where
         (λ m drops whole e r. by_row Serving e _ (drops.only request old e r) sound)
 
   module _ (sound : IsSound Packet old) where
-    create_session_asked : (request : Arrival) (q : CreateSessionRequest) (e : Effect) → CreateSessionAsked request q old e → IsSound Packet e.node
-    create_session_asked request q e (inl f) = by_row Packet e _ f.1 sound
-    create_session_asked request q e (inr (room, inl f)) = by_row Packet e _ f.1 (holding_sound Packet old sound request _ room.few)
-    create_session_asked request q e (inr (room, inr (one, inl f))) = by_row Packet e _ f.1 (holding_sound Packet old sound request _ room.few)
-    create_session_asked request q e (inr (room, inr (one, inr (identity, inl f)))) = by_row Packet e _ f.1 (holding_sound Packet old sound request _ room.few)
-    create_session_asked request q e (inr (room, inr (one, inr (identity, inr (configured, inl f))))) = by_row Packet e _ f.1 (holding_sound Packet old sound request _ room.few)
-    create_session_asked request q e (inr (room, inr (one, inr (identity, inr (configured, inr (served, inl f)))))) = by_row Packet e _ f.1 (holding_sound Packet old sound request _ room.few)
-    create_session_asked request q e (inr (room, inr (one, inr (identity, inr (configured, inr (served, inr (few, inl f))))))) = by_row Packet e _ f.1 (holding_sound Packet old sound request _ room.few)
-    create_session_asked request q e (inr (room, inr (one, inr (identity, inr (configured, inr (served, inr (few, inr (can, r)))))))) =
+    -- a session is made, and the answer is held
+    makes : (request : Arrival) (q : CreateSessionRequest) → HasHeldRoom old → IsIdentity q.context.identity → HasSessionRoom old → HasDraws old 2 → (e : Effect) → MakesSession request old q e
+        → IsSound Packet e.node
+    makes request q room identity few draws e r =
         let made = session_made old q r.control r.user r.address in
         let made_sound : IsSound Packet made =
-        session_comes Packet old sound r.control r.user (made_session q r.address) (made_bearer q r.control) r.control_free r.user_free refl few.0.few few.1.left
+        session_comes Packet old sound r.control r.user (made_session q r.address) (made_bearer q r.control) r.control_free r.user_free refl few.few draws.left
         (record { own = inr (inl refl); named = λ n. (q.control.teid, refl); blank = λ w. absurd (cc w) })
         (record { own = inl refl; of = (made_session q r.address, get-insert_same old.sessions r.control (made_session q r.address)); named = λ a. (q.context.user.teid, refl); blank = λ w. absurd (cc w); range = λ i e. subst IsIdentity (some_is q.context.identity i e) identity }) in
         ⊎_elim
@@ -289,6 +265,13 @@ module _ (old : Node) where
         let begun : Effect = record { out = says (control_end made.config.peer.control) (Create_bearer_request wanted); outcome = Came_to (Begun (Some x.adds.user)); node = begun_bearer made r.control wanted x.adds.user } in
         by_row Packet e _ x.adds.gives (holding_sound Packet begun.node (begins_bearer made made_sound r.control (made_session q r.address) x.template.tft x.template.qos begun (get-insert_same old.sessions r.control (made_session q r.address)) x.draws.left x.room.few (record { user = x.adds.user; number = x.adds.number; user_free = x.adds.user_free; number_free = x.adds.number_free; gives = refl })) request _ room.few))
         (goes request (session_response old q r.control r.user r.address) (session_cause q.pdn r.address) r.control (made_session q r.address) made e (template_for q.access_point old.config.templates) r.gives)
+
+    create_session_asked : (request : Arrival) (q : CreateSessionRequest) (e : Effect) → CreateSessionAsked request q old e → IsSound Packet e.node
+    create_session_asked request q e r =
+        on_session_asked old e (quiet Packet old sound e) request q
+        (λ room cause high f. by_row Packet e _ f (holding_sound Packet old sound request _ room.few))
+        (λ room identity few draws r. makes request q room identity few draws e r)
+        r
 
     delete_session_asked : (request : Arrival) (d : DeleteSessionRequest) (e : Effect) → DeleteSessionAsked request d old e → IsSound Packet e.node
     delete_session_asked request d e (inl f) = by_row Packet e _ f.1 sound
@@ -318,14 +301,11 @@ module _ (old : Node) where
         (λ t a i e of ia ib. can.unused t a e (of ∙ (ap (λ (k : Bearer). k.session) same ∙ (waits.2.of ∙ about))) (ia ∙ (sym ib ∙ identity)))))
 
     create_bearer_answered : (x : CreateBearerResponse) → NamesItsEnds (Create_bearer_response x) → (e : Effect) → CreateBearerAnswered x old e → IsSound Packet e.node
-    create_bearer_answered x whole e (inl f) = by_row Packet e _ f.1 sound
-    create_bearer_answered x whole e (inr (at, inl f)) = by_row Packet e _ f.1 sound
-    create_bearer_answered x whole e (inr (at, inr (fits, inl f))) = by_row Packet e _ f.1 (ends Packet sound x.number at)
-    create_bearer_answered x whole e (inr (at, inr (fits, inr (accepts, inl f)))) = by_row Packet e _ f.1 sound
-    create_bearer_answered x whole e (inr (at, inr (fits, inr (accepts, inr (new, inl f))))) = by_row Packet e _ f.1 (ends Packet sound x.number at)
-    create_bearer_answered x whole e (inr (at, inr (fits, inr (accepts, inr (new, inr (both, inl f)))))) = by_row Packet e _ f.1 sound
-    create_bearer_answered x whole e (inr (at, inr (fits, inr (accepts, inr (new, inr (both, inr (returned, inl f))))))) = by_row Packet e _ f.1 (ends Packet sound x.number at)
-    create_bearer_answered x whole e (inr (at, inr (fits, inr (accepts, inr (new, inr (both, inr (returned, inr (can, r)))))))) = opens_bearer x whole at fits accepts new both can e r
+    create_bearer_answered x whole e r =
+        on_bearer_answered old e (quiet Packet old sound e) x
+        (λ at outcome f. by_row Packet e _ f (ends Packet sound x.number at))
+        (λ at fits accepts new both returned can r. opens_bearer x whole at fits accepts new both can e r)
+        r
 
     packet_takes : (request : Arrival) (m : Message) → NamesItsEnds m → (e : Effect) → PacketTakes request m old e → IsSound Packet e.node
     packet_takes request =
@@ -340,32 +320,22 @@ module _ (old : Node) where
 
 -- a counter is heard, and then the message is taken
 module _ (role : Role) (Takes : Node → Effect → Type 0) (takes : (node : Node) → IsSound role node → (e : Effect) → Takes node e → IsSound role e.node) (old : Node) (sound : IsSound role old) where
-  judges : (counter : ℕ) (a : Age) (e : Effect) → Judges Takes old counter a e → IsSound role e.node
-  judges counter Same e r = takes old sound e r
-  judges counter Later e r = takes (peer_restarted old counter) (restarted_sound old role sound counter) e r
-  judges counter Earlier e r = by_row role e _ r sound
-
-  weighs : (counter : ℕ) (known : Option ℕ) (e : Effect) → Weighs Takes old counter known e → IsSound role e.node
-  weighs counter None e r = takes (record old { known = Some counter }) (known_sound role old sound (Some counter)) e r
-  weighs counter (Some known) e r = judges counter (age_of known counter) e r
-
   hears : (heard : Option ℕ) (e : Effect) → Hears Takes old heard e → IsSound role e.node
-  hears None e r = takes old sound e r
-  hears (Some counter) e r = by_row role e _ r.2 (weighs counter old.known r.0 r.1)
+  hears =
+      on_hears (λ e. IsSound role e.node) Takes old (takes old sound)
+      (λ counter. takes (record old { known = Some counter }) (known_sound role old sound (Some counter)))
+      (λ counter. takes (peer_restarted old counter) (restarted_sound old role sound counter))
+      (quiet role old sound) (λ taken heard learned s. s)
 
 -- and so does what was read, at either gateway
 module _ (role : Role) (Takes : Arrival → Message → Node → Effect → Type 0)
     (rows : (node : Node) → IsSound role node → (request : Arrival) (m : Message) → NamesItsEnds m → (e : Effect) → Takes request m node e → IsSound role e.node) (old : Node) (sound : IsSound role old) (request : Arrival) where
-  reads : (reading : ControlReading) → IsWellFormed (Control_came request reading) → (e : Effect) → TakesReading role Takes reading request old e → IsSound role e.node
-  reads (Control_message m) whole e (inl f) = by_row role e _ f.1 sound
-  reads (Control_message m) whole e (inr (taken, r)) = hears role (Takes request m) (λ node s. rows node s request m whole) old sound (recovery_of m) e r
-  reads (Faulty f) whole e r = subst (λ n. IsSound role n) (sym (faulted_leaves (answers_type role f.kind) request f old e r)) sound
-  reads (Control_fault fault) whole e r = by_row role e _ r sound
-
   control : (reading : ControlReading) → IsWellFormed (Control_came request reading) → (e : Effect) → ControlStep (TakesReading role Takes reading) request old e → IsSound role e.node
-  control reading whole e (inl f) = by_row role e _ f.1 sound
-  control reading whole e (inr (peer, inl r)) = by_row role e _ r.gives sound
-  control reading whole e (inr (peer, inr r)) = reads reading whole e r.1
+  control reading whole e =
+      on_control old e (quiet role old sound e) request (λ r. by_row role e _ r.gives sound) (λ new.
+      on_read old e (quiet role old sound e) role Takes request reading
+      (λ m is taken. hears role (Takes request m) (λ node s. rows node s request m (subst (λ k. IsWellFormed (Control_came request k)) is whole)) old sound (recovery_of m) e)
+      (λ f is gives. by_row role e _ gives sound))
 
 pub stays_sound : StaysSound
 stays_sound role old (Commanded c) e sound read r = command old role sound c read e r

@@ -1,33 +1,31 @@
 -- Each response to a create request goes back to the moment at which its gateway gave it.
-use Rattle.std.proofs.Common.{◌≡◌, ◌⊎◌, inl, inr, ⊎_elim, ℕ, zero, suc, ◌+◌, ◌≤◌, Bool, true, false, not, List, [], ◌∷◌, ◌++◌, length, length-append, take, Option, Some, None, refl, sym, ◌∙◌, ap, subst, append_assoc, append-nil, arith, slice_get}
+use Rattle.std.proofs.Common.{◌≡◌, ◌⊎◌, inl, inr, ⊎_elim, ℕ, zero, suc, ◌+◌, ◌≤◌, true, false, not, List, [], ◌∷◌, ◌++◌, length, length-append, take, Option, Some, refl, sym, ◌∙◌, ap, subst, append_assoc, append-nil, arith, slice_get}
 use Rattle.std.proofs.lemmas.Bool.{not-true}
 use Rattle.gtp_values.proofs.Allocations.{address_back}
-use Rattle.gtp_values.specs.Counter.{age_of}
-use Rattle.gtp_values.specs.declared.counter.Age.{Age}
-use Rattle.gtp_values.specs.declared.counter.Age.TheVariants.{Same, Later, Earlier}
 use Rattle.gtp_values.specs.FiniteMap.{Among}
 use Rattle.std.specs.FinMap.{get, insert}
 use Rattle.gtp_machine.specs.Config.{Addresses, Config, template_for, user_end}
 use Rattle.gtp_values.specs.declared.cause.Cause.{Cause}
-use Rattle.gtp_machine.specs.Element.{IsAccepting, cause_of, cause_at}
+use Rattle.gtp_machine.specs.Element.{IsAccepting}
 use Rattle.gtp_machine.specs.Message.{CreateSessionRequest, CreateSessionResponse, CreateBearerRequest, CreateBearerResponse, Message, Create_session_request, Create_session_response, Create_bearer_request, Create_bearer_response, Other_control, Plane, Control, User, plane_of, first_returned}
 use Rattle.gtp_machine.specs.Node.{Role, Serving, Packet, Arrival, Held, Node}
-use Rattle.gtp_machine.specs.Input.{Input, Commanded, Control_came, Control_message, User_message, User_fault, Sending, Effect, messages, datagrams}
-use Rattle.gtp_machine.specs.Recovery.{peer_restarted, Judges, Weighs, Hears}
+use Rattle.gtp_machine.specs.Input.{Commanded, Control_came, Control_message, User_message, User_fault, Sending, Effect, messages, datagrams}
+use Rattle.gtp_machine.specs.Recovery.{peer_restarted, Hears}
 use Rattle.gtp_machine.specs.Tick.{ticked}
-use Rattle.gtp_machine.specs.Step.{Step}
 use Rattle.gtp_machine.specs.Reading.{user_cut_fault}
 use Rattle.gtp_machine.specs.Spelling.{spelled, announcing, datagram_plane, spelled_all}
 use Rattle.gtp_machine.specs.Serving.{granted_bearer, CreateBearerAsked}
 use Rattle.gtp_machine.specs.Command.{pending_dedicated}
-use Rattle.gtp_machine.specs.Packet.{session_cause, session_response, made_session, made_bearer, session_made, session_refused, CreateSessionAsked}
-use Rattle.gtp_machine.specs.World.{World, SentDatagram, other, side_of, signed, with_side, with_steps, noted, Note, Moves, MovesTwice, TicksOn, Delivers, marked_late, come_from, arrival, first_came, second_came, fault_of_cut, delivered_on, cut_on, restarted, Event, Does, Tick, Deliver, Cut, Restart, Happens, Run, start}
+use Rattle.gtp_machine.specs.Packet.{session_cause, session_response, made_session, made_bearer, session_made, session_refused, MakesSession, CreateSessionAsked}
+use Rattle.gtp_machine.specs.World.{World, SentDatagram, other, side_of, signed, with_side, with_steps, noted, Note, Moves, Delivers, marked_late, come_from, arrival, fault_of_cut, delivered_on, cut_on, restarted, Event, Does, Tick, Deliver, Cut, Restart, Happens, Run, start}
 use Rattle.gtp_machine.specs.Laws.{OfEachRun, Moment, ComesLast, IssuedAnswer, BringsOctets, AnswersRequest, IsMadeFor, IsGrantedFor, AnswersSessionRequest, AnswersBearerRequest, EachResponseAnswers}
+use Rattle.gtp_machine.proofs.Basics.Facts.{false_true}
+use Rattle.gtp_machine.proofs.Basics.Finishing.{on_session_asked, on_hears}
 use Rattle.gtp_machine.proofs.Basics.FiniteMaps.{get-insert_same, get-insert_other, Among-one_more, among_at}
 use Rattle.gtp_machine.proofs.Basics.Datagrams.{IsFew}
 use Rattle.gtp_machine.proofs.Basics.Templates.{goes as goes_out}
 use Rattle.gtp_machine.proofs.Requests.Opening.{Trace, IsMute, opening, foreign, same_held}
-use Rattle.gtp_machine.proofs.Worlds.Coming.{by_few, alone_comes, pair_comes}
+use Rattle.gtp_machine.proofs.Worlds.Coming.{by_few, pair_comes, to_packet, Grown, ticks_moved, Took, took, took_late, took_datagram, TookBoth, took_both, took_both_late}
 use Rattle.gtp_machine.proofs.Exchange.Held.{HeldOfSent, not_announcing, always_held}
 use Rattle.gtp_machine.proofs.Basics.Kinds.{is_create_answer}
 use Rattle.gtp_machine.proofs.Requests.Holding.{are_plain, command_calm, user_calm}
@@ -35,49 +33,7 @@ use Rattle.gtp_machine.proofs.Requests.Replying.{IsLesser, IsRepeated, IsReplied
 use Rattle.gtp_machine.proofs.Exchange.Made.{accepts_cause}
 use Rattle.gtp_values.proofs.Outcomes.{none_some}
 use Rattle.gtp_values.proofs.Tests.{both}
-use Rattle.gtp_machine.proofs.Worlds.Runs.{Invariant, found_whole, to_packet, always, Run-push}
-
--- what the world has of a step of one gateway
-record Grown (old : World) (role : Role) (e : Effect) (new : World) : Type 0 where
-  pub list : new.datagrams ≡ old.datagrams ++ signed role (datagrams e.out.sent)
-  pub node : (side_of new role).node ≡ e.node
-  pub elsewhere : (side_of new (other role)).node ≡ (side_of old (other role)).node
-
--- a step of one gateway on an input
-record Took (old : World) (role : Role) (input : Input) (new : World) : Type 0 where
-  pub effect : Effect
-  pub step : Step role (side_of old role).node input effect
-  pub grown : Grown old role effect new
-
-took : (old : World) (role : Role) (input : Input) (new : World) → Moves old role input new → Took old role input new
-took old Serving input new m = record { effect = m.effect; step = m.step; grown = record { list = ap (λ (w : World). w.datagrams) m.becomes; node = ap (λ (w : World). w.serving.node) m.becomes; elsewhere = ap (λ (w : World). w.packet.node) m.becomes } }
-took old Packet input new m = record { effect = m.effect; step = m.step; grown = record { list = ap (λ (w : World). w.datagrams) m.becomes; node = ap (λ (w : World). w.packet.node) m.becomes; elsewhere = ap (λ (w : World). w.serving.node) m.becomes } }
-
-took_late : (old : World) (role : Role) (request : Arrival) (input : Input) (new : World) → Moves (marked_late old role request) role input new → Took old role input new
-took_late old Serving request input new m = record { effect = m.effect; step = m.step; grown = record { list = ap (λ (w : World). w.datagrams) m.becomes; node = ap (λ (w : World). w.serving.node) m.becomes; elsewhere = ap (λ (w : World). w.packet.node) m.becomes } }
-took_late old Packet request input new m = record { effect = m.effect; step = m.step; grown = record { list = ap (λ (w : World). w.datagrams) m.becomes; node = ap (λ (w : World). w.packet.node) m.becomes; elsewhere = ap (λ (w : World). w.serving.node) m.becomes } }
-
--- a datagram of one message comes
-took_datagram : (old : World) (sender : Role) (m : Message) (new : World) → Delivers old sender (m ∷ []) new → Took old (other sender) (delivered_on (plane_of m) (side_of old sender).node.config.own (m ∷ [])) new
-took_datagram old sender m new (inl d) = took old (other sender) _ new (alone_comes old (other sender) _ new m d.1)
-took_datagram old Serving m new (inr d) = took_late old Packet _ _ new (alone_comes (marked_late old Packet (arrival old.serving.node.config.own m)) Packet _ new m d.1)
-took_datagram old Packet m new (inr d) = took_late old Serving _ _ new (alone_comes (marked_late old Serving (arrival old.packet.node.config.own m)) Serving _ new m d.1)
-
--- the serving gateway takes the messages of a pair, one after the other
-record TookBoth (old : World) (a : CreateSessionResponse) (r : CreateBearerRequest) (new : World) : Type 0 where
-  pub effect : Effect
-  pub step : Step Serving old.serving.node (first_came old.packet.node.config.own (Create_session_response a)) effect
-  pub next : Effect
-  pub follows : Step Serving effect.node (second_came old.packet.node.config.own (Create_bearer_request r)) next
-  pub list : new.datagrams ≡ (old.datagrams ++ signed Serving (datagrams effect.out.sent)) ++ signed Serving (datagrams next.out.sent)
-  pub node : new.serving.node ≡ next.node
-  pub elsewhere : new.packet.node ≡ old.packet.node
-
-took_both : (old : World) (a : CreateSessionResponse) (r : CreateBearerRequest) (new : World) → MovesTwice old Serving (first_came old.packet.node.config.own (Create_session_response a)) (second_came old.packet.node.config.own (Create_bearer_request r)) new → TookBoth old a r new
-took_both old a r new m = record { effect = m.effect; step = m.step; next = m.next; follows = m.follows; list = ap (λ (w : World). w.datagrams) m.becomes; node = ap (λ (w : World). w.serving.node) m.becomes; elsewhere = ap (λ (w : World). w.packet.node) m.becomes }
-
-took_both_late : (old : World) (request : Arrival) (a : CreateSessionResponse) (r : CreateBearerRequest) (new : World) → MovesTwice (marked_late old Serving request) Serving (first_came old.packet.node.config.own (Create_session_response a)) (second_came old.packet.node.config.own (Create_bearer_request r)) new → TookBoth old a r new
-took_both_late old request a r new m = record { effect = m.effect; step = m.step; next = m.next; follows = m.follows; list = ap (λ (w : World). w.datagrams) m.becomes; node = ap (λ (w : World). w.serving.node) m.becomes; elsewhere = ap (λ (w : World). w.packet.node) m.becomes }
+use Rattle.gtp_machine.proofs.Worlds.Runs.{Invariant, side_in, found_whole, always, Run-push}
 
 -- a pair comes as a whole
 abbrev TookWhole : World → Role → CreateSessionResponse → CreateBearerRequest → World → Type 0
@@ -87,17 +43,10 @@ pair_to_serving : (old : World) (a : CreateSessionResponse) (r : CreateBearerReq
 pair_to_serving old a r new (inl d) = ⊎_elim (λ whole. inl (took old Serving _ new whole)) (λ apart. inr (took_both old a r new apart.moves)) (pair_comes old Serving old.packet.node.config.own new a r d.1)
 pair_to_serving old a r new (inr d) = let x = arrival old.packet.node.config.own (Create_bearer_request r) in ⊎_elim (λ whole. inl (took_late old Serving x _ new whole)) (λ apart. inr (took_both_late old x a r new apart.moves)) (pair_comes (marked_late old Serving x) Serving old.packet.node.config.own new a r d.1)
 
-pair_to_packet : (own : Addresses) (old : World) (a : CreateSessionResponse) (r : CreateBearerRequest) (new : World) → Delivers old Serving (Create_session_response a ∷ Create_bearer_request r ∷ []) new → TookWhole old Packet a r new
-pair_to_packet own old a r new (inl d) = took old Packet _ new (to_packet own old old.serving.node.config.own a r new d.1)
-pair_to_packet own old a r new (inr d) = let x = arrival old.serving.node.config.own (Create_bearer_request r) in took_late old Packet x _ new (to_packet own (marked_late old Packet x) old.serving.node.config.own a r new d.1)
-
-ticks_grown : (old : World) (role : Role) (new : World) (t : TicksOn old role new) → Grown old role (ticked t.out t.after) new
-ticks_grown old Serving new t = record { list = ap (λ (w : World). w.datagrams) t.becomes; node = ap (λ (w : World). w.serving.node) t.becomes; elsewhere = ap (λ (w : World). w.packet.node) t.becomes }
-ticks_grown old Packet new t = record { list = ap (λ (w : World). w.datagrams) t.becomes; node = ap (λ (w : World). w.packet.node) t.becomes; elsewhere = ap (λ (w : World). w.serving.node) t.becomes }
-
-twice : (role : Role) → other (other role) ≡ role
-twice Serving = refl
-twice Packet = refl
+pair_to_packet : (old : World) (a : CreateSessionResponse) (r : CreateBearerRequest) (new : World) → Delivers old Serving (Create_session_response a ∷ Create_bearer_request r ∷ []) new
+    → TookWhole old Packet a r new
+pair_to_packet old a r new (inl d) = took old Packet _ new (to_packet old old.serving.node.config.own a r new d.1)
+pair_to_packet old a r new (inr d) = let x = arrival old.serving.node.config.own (Create_bearer_request r) in took_late old Packet x _ new (to_packet (marked_late old Packet x) old.serving.node.config.own a r new d.1)
 
 one_of_both : (role by : Role) → (by ≡ role) ⊎ (by ≡ other role)
 one_of_both Serving Serving = inl refl
@@ -116,15 +65,9 @@ only_place : (x s : SentDatagram) (k : ℕ) → slice_get (x ∷ []) k ≡ Some 
 only_place x s zero e = (refl, cc)
 only_place x s (suc k) e = absurd (cc e)
 
-false_true : {b : Bool} → b ≡ false → b ≡ true → ⊥
-false_true f t = cc
-
 plain_rest : (first rest : List Message) → are_plain (first ++ rest) ≡ true → are_plain rest ≡ true
 plain_rest [] rest plain = plain
 plain_rest (m ∷ first) rest plain = plain_rest first rest (both (not (is_create_answer m)) (are_plain (first ++ rest)) plain).right
-
-same_first : (m n : Message) (more others : List Message) → m ∷ more ≡ n ∷ others → m ≡ n
-same_first m n more others e = cc
 
 plain_first : (m : Message) (more : List Message) → are_plain (m ∷ more) ≡ true → is_create_answer m ≡ false
 plain_first m more plain = not-true (is_create_answer m) (both (not (is_create_answer m)) (are_plain more) plain).left
@@ -213,7 +156,7 @@ module _ (first : World) (done : List Event) (mid : World) (reached : Run first 
       sent number by m more at is = ⊎_elim
           (λ was. backed_later number by m (backs.sent number by m more was is))
           (λ now. subst (λ n. IsBacked first events new n by m) now.1 (sends now.0 by m more now.2 is))
-          (slice_cases mid.datagrams (signed role (datagrams e.out.sent)) number (record { role = by; what = m ∷ more }) (subst (λ (k : List SentDatagram). slice_get k number ≡ Some (record { role = by; what = m ∷ more })) g.list at))
+          (slice_cases mid.datagrams (signed role (datagrams e.out.sent)) number (record { role = by; what = m ∷ more }) (subst (λ (k : List SentDatagram). slice_get k number ≡ Some (record { role = by; what = m ∷ more })) g.listed at))
 
       elsewhere : (h : Held) (m : Message) (more : List Message) → Among h (side_of new (other role)).node.held → h.answer ≡ m ∷ more → is_create_answer m ≡ true → IsHeldFor first events new (other role) h m
       elsewhere h m more among whole is = held_later (other role) h m (backs.held (other role) h m more (subst (λ (n : Node). Among h n.held) g.elsewhere among) whole is)
@@ -229,15 +172,15 @@ module _ (first : World) (done : List Event) (mid : World) (reached : Run first 
 
   lesser : (role : Role) (e : Effect) → Grown mid role e new → IsLesser (side_of mid role).node e → Backs first events new
   lesser role e g l = grows role e g
-      (λ k by m more at is. absurd (false_true (plain_signed role e.out.sent l.plain k by m more at) is))
-      (λ h m more among whole is. ⊎_elim (λ was. held_later role h m (backs.held role h m more was whole is)) (λ plain. absurd (false_true (plain_first m more (ap are_plain (sym whole) ∙ plain)) is)) (l.held h among))
+      (λ k by m more at is. absurd (false_true _ (plain_signed role e.out.sent l.plain k by m more at) is))
+      (λ h m more among whole is. ⊎_elim (λ was. held_later role h m (backs.held role h m more was whole is)) (λ plain. absurd (false_true _ (plain_first m more (ap are_plain (sym whole) ∙ plain)) is)) (l.held h among))
 
   -- what is said is the one datagram that comes to the list
   one_said : (role : Role) (e : Effect) (answer : List Message) → datagrams e.out.sent ≡ answer ∷ [] → (k : ℕ) (s : SentDatagram) → slice_get (signed role (datagrams e.out.sent)) k ≡ Some s → (k ≡ 0) × (record { role = role; what = answer } ≡ s)
   one_said role e answer says k s at = only_place (record { role = role; what = answer }) s k (subst (λ (l : List (List Message)). slice_get (signed role l) k ≡ Some s) says at)
 
   said_now : (role : Role) (e : Effect) (answer : List Message) → Grown mid role e new → datagrams e.out.sent ≡ answer ∷ [] → new.datagrams ≡ mid.datagrams ++ signed role (answer ∷ [])
-  said_now role e answer g says = g.list ∙ ap (λ (l : List (List Message)). mid.datagrams ++ signed role l) says
+  said_now role e answer g says = g.listed ∙ ap (λ (l : List (List Message)). mid.datagrams ++ signed role l) says
 
   repeated : (role : Role) (request : Arrival) (e : Effect) → Grown mid role e new → BringsOctets mid event role request → IsRepeated request (side_of mid role).node e → Backs first events new
   repeated role request e g brings r = grows role e g
@@ -267,12 +210,12 @@ module _ (first : World) (done : List Event) (mid : World) (reached : Run first 
   replied role number datagram m at e came sent comes same_held g brings r = grows role e g
       (λ k by n more found is.
       let one = one_said role e (r.answer ∷ r.more) r.says k (record { role = by; what = n ∷ more }) found in
-      let same = same_first r.answer n r.more more (ap (λ (x : SentDatagram). x.what) one.1) in
+      let same : r.answer ≡ n = cc (ap (λ (x : SentDatagram). x.what) one.1) in
       subst (λ b. IsBacked first events new (length mid.datagrams + k) b n) (ap (λ (x : SentDatagram). x.role) one.1) (subst (λ a. IsBacked first events new (length mid.datagrams + k) role a) same (backed k one.0)))
       (λ h n more among whole is. ⊎_elim
       (λ was. held_later role h n (backs.held role h n more (subst (λ (hs : List Held). Among h hs) same_held was) whole is))
       (λ same.
-      let answer = same_first r.answer n r.more more (sym (ap (λ (x : Held). x.answer) same) ∙ whole) in
+      let answer : r.answer ≡ n = cc (sym (ap (λ (x : Held). x.answer) same) ∙ whole) in
       subst (λ x. IsHeldFor first events new role x n) (sym same) (subst (λ a. IsHeldFor first events new role (record { request = arrival (side_of mid (other role)).node.config.own m; answer = r.answer ∷ r.more }) a) answer (record { request = m; issued = issued; same = refl; whole = refl })))
       (Among-one_more h (record { request = arrival (side_of mid (other role)).node.config.own m; answer = r.answer ∷ r.more }) at.held (subst (λ (hs : List Held). Among h hs) r.held among)))
     where
@@ -284,17 +227,28 @@ module _ (first : World) (done : List Event) (mid : World) (reached : Run first 
 
   -- a datagram of one message comes, by its plane
   datagram : (role : Role) (number : ℕ) (m : Message) (plane : Plane) → event ≡ Deliver number → slice_get mid.datagrams number ≡ Some (record { role = other role; what = m ∷ [] }) → BringsOctets mid event role (arrival (side_of mid (other role)).node.config.own m) → Took mid role (delivered_on plane (side_of mid (other role)).node.config.own (m ∷ [])) new → Backs first events new
-  datagram role number m User came at brings t = lesser role t.effect t.grown (lesser_calm _ t.effect (user_calm role (user_end (side_of mid (other role)).node.config.own.user) (User_message m) (side_of mid role).node t.effect t.step))
+  datagram role number m User came at brings t = lesser role t.effect t.moved.grown (lesser_calm _ t.effect (user_calm role (user_end (side_of mid (other role)).node.config.own.user) (User_message m) (side_of mid role).node t.effect t.step))
   datagram role number m Control came at brings t = ⊎_elim
-      (λ l. lesser role t.effect t.grown l)
-      (λ others. ⊎_elim (λ r. repeated role (arrival (side_of mid (other role)).node.config.own m) t.effect t.grown brings r) (λ r. replied role number (m ∷ []) m (side_of mid role).node t.effect came at (refl, refl) refl t.grown brings r) others)
+      (λ l. lesser role t.effect t.moved.grown l)
+      (λ others. ⊎_elim (λ r. repeated role (arrival (side_of mid (other role)).node.config.own m) t.effect t.moved.grown brings r) (λ r. replied role number (m ∷ []) m (side_of mid role).node t.effect came at (refl, refl) refl t.moved.grown brings r) others)
       (message_replies role m (arrival (side_of mid (other role)).node.config.own m) (side_of mid role).node t.effect t.step)
 
   -- a pair comes as a whole
   whole_pair : (role : Role) (a : CreateSessionResponse) (r : CreateBearerRequest) → BringsOctets mid event role (come_from (side_of mid (other role)).node.config.own (spelled_all (Create_session_response a ∷ Create_bearer_request r ∷ []))) → TookWhole mid role a r new → Backs first events new
   whole_pair role a r brings t = ⊎_elim
-      (λ mute. lesser role t.effect t.grown (mute_lesser (side_of mid role).node t.effect mute))
-      (λ again. repeated role _ t.effect t.grown brings (record { held = again.held; stands = again.stands; same = again.same; says = ap (λ (f : Effect). datagrams f.out.sent) again.gives; stays = ap (λ (f : Effect). f.node.held) again.gives }))
+      (λ mute. lesser role t.effect t.moved.grown (mute_lesser (side_of mid role).node t.effect mute))
+      (λ again. repeated role _ t.effect t.moved.grown brings (record {
+        held =
+            again.held;
+        stands = again.stands;
+        same = again.same;
+        says = ap
+            (λ (f : Effect). datagrams f.out.sent)
+            again.gives;
+        stays = ap
+            (λ (f : Effect). f.node.held)
+            again.gives;
+      }))
       (foreign role _ 0 (side_of mid role).node t.effect t.step)
 
   -- the messages of a pair come, one after the other: the first gets nothing, since no answer is held for octets that announce a message
@@ -310,7 +264,7 @@ module _ (first : World) (done : List Event) (mid : World) (reached : Run first 
       taken mute =
           let silent : t.effect.out.sent ≡ [] = ap (λ (x : Trace). x.sent) mute in
           let same = same_held mid.serving.node (come_from mid.packet.node.config.own (announcing (Create_session_response a))) t.effect (inl mute) in
-          let g : Grown mid Serving t.next new = record { list = t.list ∙ ap (λ l. (mid.datagrams ++ signed Serving (datagrams l)) ++ signed Serving (datagrams t.next.out.sent)) silent ∙ ap (λ l. l ++ signed Serving (datagrams t.next.out.sent)) (append-nil mid.datagrams); node = t.node; elsewhere = t.elsewhere } in
+          let g : Grown mid Serving t.next new = record { listed = t.listed ∙ ap (λ l. (mid.datagrams ++ signed Serving (datagrams l)) ++ signed Serving (datagrams t.next.out.sent)) silent ∙ ap (λ l. l ++ signed Serving (datagrams t.next.out.sent)) (append-nil mid.datagrams); node = t.node; elsewhere = t.elsewhere } in
           ⊎_elim
           (λ l. lesser Serving t.next g (record { plain = l.plain; held = λ h among. ⊎_elim (λ was. inl (subst (Among h) same was)) (λ plain. inr plain) (l.held h among) }))
           (λ others. ⊎_elim
@@ -321,18 +275,14 @@ module _ (first : World) (done : List Event) (mid : World) (reached : Run first 
 
   -- first octets of a datagram come, by its plane
   cut : (role : Role) (whole : List Message) (count : ℕ) (plane : Plane) → BringsOctets mid event role (come_from (side_of mid (other role)).node.config.own (take count (spelled_all whole))) → Took mid role (cut_on plane (side_of mid (other role)).node.config.own whole count) new → Backs first events new
-  cut role whole count User brings t = lesser role t.effect t.grown (lesser_calm _ t.effect (user_calm role (user_end (side_of mid (other role)).node.config.own.user) (User_fault (user_cut_fault count)) (side_of mid role).node t.effect t.step))
+  cut role whole count User brings t = lesser role t.effect t.moved.grown (lesser_calm _ t.effect (user_calm role (user_end (side_of mid (other role)).node.config.own.user) (User_fault (user_cut_fault count)) (side_of mid role).node t.effect t.step))
   cut role whole count Control brings t = ⊎_elim
-      (λ l. lesser role t.effect t.grown l)
-      (λ others. ⊎_elim (λ r. repeated role (come_from (side_of mid (other role)).node.config.own (take count (spelled_all whole))) t.effect t.grown brings r) (λ none. absurd none) others)
+      (λ l. lesser role t.effect t.moved.grown l)
+      (λ others. ⊎_elim (λ r. repeated role (come_from (side_of mid (other role)).node.config.own (take count (spelled_all whole))) t.effect t.moved.grown brings r) (λ none. absurd none) others)
       (fault_replies role (fault_of_cut whole count) (come_from (side_of mid (other role)).node.config.own (take count (spelled_all whole))) (side_of mid role).node t.effect t.step)
 
 asks_in : (own : Addresses) (w : World) → Invariant own w → (role : Role) → AllAsk (side_of w role).node.pending
-asks_in own w inv Serving number p stands = (inv.serving.knows.pending number p stands).asks
-asks_in own w inv Packet number p stands = (inv.packet.knows.pending number p stands).asks
-
-command_lesser : (role : Role) (command : _) (old : Node) (e : Effect) → Step role old (Commanded command) e → IsLesser old e
-command_lesser role command old e r = lesser_calm old e (command_calm role command old e r)
+asks_in own w inv role number p stands = ((side_in w inv role).knows.pending number p stands).asks
 
 restart_keeps : (mid : World) (role : Role) (note : Note) (by : Role) (h : Held) → Among h (side_of (with_steps (noted (with_side mid role (restarted (side_of mid role))) note) role []) by).node.held → Among h (side_of mid by).node.held
 restart_keeps mid Serving note Serving h none = absurd none
@@ -360,7 +310,7 @@ module _ (first : World) (done : List Event) (mid : World) (reached : Run first 
 
   -- a pair of this gateway comes to the other
   delivered_pair : (sender : Role) (number : ℕ) (a : CreateSessionResponse) (r : CreateBearerRequest) (new : World) → Happens mid (Deliver number) new → slice_get mid.datagrams number ≡ Some (record { role = sender; what = Create_session_response a ∷ Create_bearer_request r ∷ [] }) → Delivers mid sender (Create_session_response a ∷ Create_bearer_request r ∷ []) new → Backs first (done ++ Deliver number ∷ []) new
-  delivered_pair Serving number a r new happens at d = whole_pair first done mid reached backs (Deliver number) new happens Packet a r (Create_session_response a ∷ Create_bearer_request r ∷ [], at, (_, inl refl, refl)) (pair_to_packet own mid a r new d)
+  delivered_pair Serving number a r new happens at d = whole_pair first done mid reached backs (Deliver number) new happens Packet a r (Create_session_response a ∷ Create_bearer_request r ∷ [], at, (_, inl refl, refl)) (pair_to_packet mid a r new d)
   delivered_pair Packet number a r new happens at d = ⊎_elim
       (λ whole. whole_pair first done mid reached backs (Deliver number) new happens Serving a r (Create_session_response a ∷ Create_bearer_request r ∷ [], at, (_, inl refl, refl)) whole)
       (λ t. both_messages first done mid reached backs (Deliver number) new happens held_of number a r refl at (Create_session_response a ∷ Create_bearer_request r ∷ [], at, (spelled (Create_bearer_request r), inr refl, refl)) t)
@@ -377,8 +327,8 @@ module _ (first : World) (done : List Event) (mid : World) (reached : Run first 
   cut_short Packet number count whole new happens at c = cut first done mid reached backs (Cut number count) new happens Serving whole count (datagram_plane whole) (whole, at, refl) (took mid Serving _ new c)
 
   next : (event : Event) (new : World) → Happens mid event new → Backs first (done ++ event ∷ []) new
-  next (Does role command) new m = let t = took mid role (Commanded command) new m in lesser first done mid reached backs (Does role command) new m role t.effect t.grown (command_lesser role command (side_of mid role).node t.effect t.step)
-  next (Tick role) new t = lesser first done mid reached backs (Tick role) new t role (ticked t.out t.after) (ticks_grown mid role new t) (tick_lesser t.moves (side_of mid role).node (asks_in own mid inv role) t.out t.after t.tick)
+  next (Does role command) new m = let t = took mid role (Commanded command) new m in lesser first done mid reached backs (Does role command) new m role t.effect t.moved.grown (lesser_calm (side_of mid role).node t.effect (command_calm role command (side_of mid role).node t.effect t.step))
+  next (Tick role) new t = lesser first done mid reached backs (Tick role) new t role (ticked t.out t.after) (ticks_moved mid role new t).grown (tick_lesser t.moves (side_of mid role).node (asks_in own mid inv role) t.out t.after t.tick)
   next (Deliver number) new (inl none) = same_world (Deliver number) _ new (inl none) none.1
   next (Deliver number) new (inr (found, d)) =
       delivered_few found.sent.role number found.sent.what (found_whole own mid inv number found.sent found.is).few new (inr (found, d)) found.is d
@@ -425,25 +375,16 @@ record NamesSession (request : Arrival) (q : CreateSessionRequest) (e : Effect) 
   pub accepted : IsAccepting a.cause → IsMadeFor e.node q a
   pub refused : (IsAccepting a.cause → ⊥) → e.out.made ≡ []
 
-none_said : (m : Message) (more : List Message) → [] ≡ (m ∷ more) ∷ [] → ⊥
-none_said m more e = cc
-
-one_bearer : (y x : CreateBearerResponse) (others more : List Message) → ◌≡◌ {A = List (List Message)} ((Create_bearer_response y ∷ others) ∷ []) ((Create_bearer_response x ∷ more) ∷ []) → y ≡ x
-one_bearer y x others more e = cc
-
-one_session : (b a : CreateSessionResponse) (others more : List Message) → ◌≡◌ {A = List (List Message)} ((Create_session_response b ∷ others) ∷ []) ((Create_session_response a ∷ more) ∷ []) → b ≡ a
-one_session b a others more e = cc
-
 -- a cause from 64 on refuses
 refuses : (cause : Cause) → 64 ≤ cause.value → IsAccepting cause → ⊥
 refuses cause high accepts = omega (arith, high, accepts.high)
 
 module _ (request : Arrival) (r : CreateBearerRequest) (e : Effect) (x : CreateBearerResponse) (more : List Message) (says : datagrams e.out.sent ≡ (Create_bearer_response x ∷ more) ∷ []) where
   silent : (f : Effect) → e ≡ f → datagrams f.out.sent ≡ [] → NamesBearer request r e x
-  silent f gives none = absurd (none_said (Create_bearer_response x) more (sym none ∙ ap (λ (k : Effect). datagrams k.out.sent) (sym gives) ∙ says))
+  silent f gives none = absurd (cc (sym none ∙ ap (λ (k : Effect). datagrams k.out.sent) (sym gives) ∙ says))
 
   named : (y : CreateBearerResponse) (f : Effect) → e ≡ f → datagrams f.out.sent ≡ (Create_bearer_response y ∷ []) ∷ [] → NamesBearer request r f y → NamesBearer request r e x
-  named y f gives said names = subst (λ k. NamesBearer request r k x) (sym gives) (subst (NamesBearer request r f) (one_bearer y x [] more (sym said ∙ ap (λ (k : Effect). datagrams k.out.sent) (sym gives) ∙ says)) names)
+  named y f gives said names = subst (λ k. NamesBearer request r k x) (sym gives) (subst (NamesBearer request r f) (cc (sym said ∙ ap (λ (k : Effect). datagrams k.out.sent) (sym gives) ∙ says)) names)
 
   -- a refusal
   refusal : (y : CreateBearerResponse) (f : Effect) → e ≡ f → datagrams f.out.sent ≡ (Create_bearer_response y ∷ []) ∷ [] → f.out.made ≡ [] → 64 ≤ y.cause.value → y.number ≡ r.number → ((t : ℕ) → first_returned y.contexts ≡ Some t → t ≡ r.context.user.teid) → NamesBearer request r e x
@@ -466,57 +407,18 @@ module _ (request : Arrival) (r : CreateBearerRequest) (e : Effect) (x : CreateB
 
 module _ (request : Arrival) (q : CreateSessionRequest) (a : CreateSessionResponse) (more : List Message) where
   silent_session : (e f : Effect) → datagrams e.out.sent ≡ (Create_session_response a ∷ more) ∷ [] → e ≡ f → datagrams f.out.sent ≡ [] → NamesSession request q e a
-  silent_session e f says gives none = absurd (none_said (Create_session_response a) more (sym none ∙ ap (λ (k : Effect). datagrams k.out.sent) (sym gives) ∙ says))
+  silent_session e f says gives none = absurd (cc (sym none ∙ ap (λ (k : Effect). datagrams k.out.sent) (sym gives) ∙ says))
 
   named_session : (e f : Effect) (b : CreateSessionResponse) (others : List Message) → datagrams e.out.sent ≡ (Create_session_response a ∷ more) ∷ [] → e ≡ f → datagrams f.out.sent ≡ (Create_session_response b ∷ others) ∷ [] → NamesSession request q f b → NamesSession request q e a
-  named_session e f b others says gives said names = subst (λ k. NamesSession request q k a) (sym gives) (subst (NamesSession request q f) (one_session b a others more (sym said ∙ ap (λ (k : Effect). datagrams k.out.sent) (sym gives) ∙ says)) names)
+  named_session e f b others says gives said names = subst (λ k. NamesSession request q k a) (sym gives) (subst (NamesSession request q f) (cc (sym said ∙ ap (λ (k : Effect). datagrams k.out.sent) (sym gives) ∙ says)) names)
 
   refused_session : (old : Node) (e : Effect) (cause : Cause) → datagrams e.out.sent ≡ (Create_session_response a ∷ more) ∷ [] → e ≡ session_refused request q cause old → 64 ≤ cause.value → NamesSession request q e a
   refused_session old e cause says gives high = named_session e (session_refused request q cause old) _ _ says gives refl (record { number = refl; header = refl; made = λ accepts. absurd (refuses cause high accepts); accepted = λ accepts. absurd (refuses cause high accepts); refused = λ no. refl })
 
-  session_named : (old : Node) (e : Effect) → datagrams e.out.sent ≡ (Create_session_response a ∷ more) ∷ [] → CreateSessionAsked request q old e → NamesSession request q e a
-  session_named old e says (inl f) = silent_session e _ says f.1 refl
-  session_named old e says (inr (b, inl f)) = refused_session old e (cause_of 94) says f.1 (omega arith)
-  session_named old e says (inr (b, inr (c, inl f))) = refused_session old e (cause_at 69 73 0) says f.1 (omega arith)
-  session_named old e says (inr (b, inr (c, inr (d, inl f)))) = refused_session old e (cause_of 78) says f.1 (omega arith)
-  session_named old e says (inr (b, inr (c, inr (d, inr (g, inl f))))) = refused_session old e (cause_of 83) says f.1 (omega arith)
-  session_named old e says (inr (b, inr (c, inr (d, inr (g, inr (h, inl f)))))) = refused_session old e (cause_of 73) says f.1 (omega arith)
-  session_named old e says (inr (b, inr (c, inr (d, inr (g, inr (h, inr (k, inl f))))))) = refused_session old e (cause_of 84) says f.1 (omega arith)
-  session_named old e says (inr (b, inr (c, inr (d, inr (g, inr (h, inr (k, inr (l, r)))))))) = ⊎_elim
-      (λ alone. named_session e _ _ _ says alone refl (record {
-        number = refl;
-        header = refl;
-        made = λ accepts. refl;
-        accepted = λ accepts. record {
-          control = r.control;
-          user = r.user;
-          address = r.address;
-          names_control = refl;
-          names_user = refl;
-          names_address = address_back 64 r.address r.given.some_part;
-          names_identity = refl;
-          session = session_stands;
-          bearer = bearer_stands;
-        };
-        refused = λ no. absurd (no (accepts_cause q.pdn r.address));
-      }))
-      (λ x. named_session e _ _ _ says x.adds.gives refl (record {
-        number = refl;
-        header = refl;
-        made = λ accepts. refl;
-        accepted = λ accepts. record {
-          control = r.control;
-          user = r.user;
-          address = r.address;
-          names_control = refl;
-          names_user = refl;
-          names_address = address_back 64 r.address r.given.some_part;
-          names_identity = refl;
-          session = session_stands;
-          bearer = get-insert_other (insert old.bearers r.user (made_bearer q r.control)) x.adds.user (pending_dedicated r.control) r.user (λ same. x.adds.user_free.undrawn (inl (sym same))) ∙ bearer_stands;
-        };
-        refused = λ no. absurd (no (accepts_cause q.pdn r.address));
-      }))
+  made_session_named : (old : Node) (e : Effect) → datagrams e.out.sent ≡ (Create_session_response a ∷ more) ∷ [] → MakesSession request old q e → NamesSession request q e a
+  made_session_named old e says r = ⊎_elim
+      (λ alone. named_session e _ _ _ says alone refl (made_so _ refl session_stands bearer_stands))
+      (λ x. named_session e _ _ _ says x.adds.gives refl (made_so _ refl session_stands (get-insert_other (insert old.bearers r.user (made_bearer q r.control)) x.adds.user (pending_dedicated r.control) r.user (λ same. x.adds.user_free.undrawn (inl (sym same))) ∙ bearer_stands)))
       (goes_out request (session_response old q r.control r.user r.address) (session_cause q.pdn r.address) r.control (made_session q r.address) (session_made old q r.control r.user r.address) e (template_for q.access_point old.config.templates) r.gives)
     where
       session_stands : get (insert old.sessions r.control (made_session q r.address)) r.control ≡ Some (made_session q r.address)
@@ -525,27 +427,53 @@ module _ (request : Arrival) (q : CreateSessionRequest) (a : CreateSessionRespon
       bearer_stands : get (insert old.bearers r.user (made_bearer q r.control)) r.user ≡ Some (made_bearer q r.control)
       bearer_stands = get-insert_same old.bearers r.user (made_bearer q r.control)
 
-  judged : (old : Node) (c : ℕ) (age : Age) (e : Effect) → datagrams e.out.sent ≡ (Create_session_response a ∷ more) ∷ [] → Judges (CreateSessionAsked request q) old c age e → NamesSession request q e a
-  judged old c Same e says r = session_named old e says r
-  judged old c Later e says r = session_named (peer_restarted old c) e says r
-  judged old c Earlier e says r = silent_session e _ says r refl
+      made_so : (f : Effect) → f.out.made ≡ request ∷ [] → get f.node.sessions r.control ≡ Some (made_session q r.address) → get f.node.bearers r.user ≡ Some (made_bearer q r.control)
+          → NamesSession request q f (session_response old q r.control r.user r.address)
+      made_so f made session bearer = record {
+        number = refl;
+        header = refl;
+        made = λ accepts. made;
+        accepted = λ accepts. record {
+          control = r.control;
+          user = r.user;
+          address = r.address;
+          names_control = refl;
+          names_user = refl;
+          names_address = address_back 64 r.address r.given.some_part;
+          names_identity = refl;
+          session = session;
+          bearer = bearer;
+        };
+        refused = λ no. absurd (no (accepts_cause q.pdn r.address));
+      }
 
-  weighed : (old : Node) (c : ℕ) (known : Option ℕ) (e : Effect) → datagrams e.out.sent ≡ (Create_session_response a ∷ more) ∷ [] → Weighs (CreateSessionAsked request q) old c known e → NamesSession request q e a
-  weighed old c None e says r = session_named (record old { known = Some c }) e says r
-  weighed old c (Some k) e says r = judged old c (age_of k c) e says r
+  session_named : (old : Node) (e : Effect) → datagrams e.out.sent ≡ (Create_session_response a ∷ more) ∷ [] → CreateSessionAsked request q old e → NamesSession request q e a
+  session_named old e says r =
+      on_session_asked old e (λ outcome f. silent_session e _ says f refl) request q
+      (λ room cause high f. refused_session old e cause says f high)
+      (λ room identity few draws r. made_session_named old e says r)
+      r
 
   -- what is heard changes neither
   with_heard : (taken : Effect) (h learned : Option ℕ) → NamesSession request q taken a → NamesSession request q (record taken { out = record taken.out { heard = h; learned = learned } }) a
   with_heard taken h learned n = record { number = n.number; header = n.header; made = n.made; accepted = n.accepted; refused = n.refused }
 
-  heard : (old : Node) (o : Option ℕ) (e : Effect) → datagrams e.out.sent ≡ (Create_session_response a ∷ more) ∷ [] → Hears (CreateSessionAsked request q) old o e → NamesSession request q e a
-  heard old None e says r = session_named old e says r
-  heard old (Some c) e says r = subst (λ k. NamesSession request q k a) (sym r.2) (with_heard r.0 _ _ (weighed old c old.known r.0 (sym (ap (λ (k : Effect). datagrams k.out.sent) r.2) ∙ says) r.1))
+  -- whatever counter is heard first
+  abbrev IsNamed : Effect → Type 0
+  IsNamed e = datagrams e.out.sent ≡ (Create_session_response a ∷ more) ∷ [] → NamesSession request q e a
+
+  heard : (old : Node) (o : Option ℕ) (e : Effect) → Hears (CreateSessionAsked request q) old o e → IsNamed e
+  heard old =
+      on_hears IsNamed (CreateSessionAsked request q) old (λ e r says. session_named old e says r)
+      (λ c e r says. session_named (record old { known = Some c }) e says r)
+      (λ c e r says. session_named (peer_restarted old c) e says r)
+      (λ e outcome gives says. silent_session e _ says gives refl)
+      (λ taken heard learned names says. with_heard taken heard learned (names says))
 
 module _ (first : World) (events : List Event) (last : World) (number : ℕ) where
   session_back : (a : CreateSessionResponse) (m : Message) → AnswersRequest first events last number Packet m (Create_session_response a) → AnswersSessionRequest first events last number a
   session_back a (Create_session_request q) b =
-      let n = heard _ q a b.issued.more _ q.recovery b.issued.effect b.issued.says b.issued.asked in
+      let n = heard _ q a b.issued.more _ q.recovery b.issued.effect b.issued.asked b.issued.says in
       record { request = q; back = b; numbered = n.number; header = n.header; made = n.made; accepted = n.accepted; refused = n.refused }
   session_back a m b = absurd b.issued.asked
 
@@ -561,7 +489,7 @@ begins_with [] m few among is = absurd few
 begins_with (n ∷ []) m few (inl same) is = ([], ap (λ k. k ∷ []) (sym same))
 begins_with (n ∷ []) m few (inr none) is = absurd none
 begins_with (n ∷ k ∷ []) m few (inl same) is = (k ∷ [], ap (λ l. l ∷ k ∷ []) (sym same))
-begins_with (n ∷ k ∷ []) m few (inr (inl same)) is = absurd (false_true (ap is_create_answer (same ∙ few.second)) is)
+begins_with (n ∷ k ∷ []) m few (inr (inl same)) is = absurd (false_true _ (ap is_create_answer (same ∙ few.second)) is)
 begins_with (n ∷ k ∷ []) m few (inr (inr none)) is = absurd none
 begins_with (n ∷ k ∷ l ∷ rest) m few among is = absurd few
 

@@ -1,26 +1,26 @@
 -- The same run goes on: a request comes again, a datagram is lost, packets come in the other order, a bearer is deleted, and a restart is heard.
-use Rattle.std.proofs.Common.{◌≡◌, ◌≢◌, ◌<◌, ◌⊎◌, inl, inr, ℕ, List, [], ◌∷◌, Some, None, false, refl, sym, ◌∙◌, ap, arith, ⊎_elim, Bool, true, not, rules, ◌==◌, ◌||◌}
+use Rattle.std.proofs.Common.{◌≡◌, ◌≢◌, ◌<◌, inl, inr, ℕ, List, [], ◌∷◌, Some, None, false, refl, ap, arith, Bool, true, not, rules, ◌==◌, ◌||◌}
 use Rattle.std.specs.FinMap.{get, insert, remove, empty, get-empty, len, len-empty, get-remove}
 use Rattle.std.specs.Ordering.{nat_cmp}
 use Rattle.std.proofs.lemmas.Cmp.{nat_cmp_total}
-use Rattle.gtp_machine.specs.Config.{user_end, control_end}
 use Rattle.gtp_machine.specs.Element.{cause_of}
-use Rattle.gtp_machine.specs.Message.{Create_session_request, Create_session_response, Create_bearer_request, Packet_data, subscriber_of, DeleteBearerRequest, DeleteBearerResponse, Delete_bearer_request, Delete_bearer_response, Echo, Echo_request}
-use Rattle.gtp_machine.specs.Node.{Serving, Packet, Session, Bearer, PendingRequest, Arrival, Held, Closing}
-use Rattle.gtp_machine.specs.Input.{Create_session, Create_bearer, Send_user, Commanded, Accepted, GoneOut, Entry, Effect, entry_for, nothing, says, Repeated, Closed, Delete_bearer, Send_echo, User_message}
-use Rattle.gtp_machine.specs.Command.{asks, CommandStep}
+use Rattle.gtp_machine.specs.Message.{Create_session_request, Create_session_response, Create_bearer_request, Packet_data, DeleteBearerRequest, DeleteBearerResponse, Delete_bearer_request, Delete_bearer_response, Echo, Echo_request}
+use Rattle.gtp_machine.specs.Node.{Serving, Packet, Session, Bearer, PendingRequest, Arrival, Closing}
+use Rattle.gtp_machine.specs.Input.{Create_session, Create_bearer, Send_user, Commanded, Entry, Effect, says, Repeated, Closed, Delete_bearer, Send_echo}
+use Rattle.gtp_machine.specs.Command.{asks}
 use Rattle.gtp_machine.specs.Answer.{IsNew, answered, echoed}
-use Rattle.gtp_machine.specs.Serving.{granted_bearer}
-use Rattle.gtp_machine.specs.World.{with_steps, World, Does, Deliver, Moves, Delivers, noted, arrival, Restart, Restarted, with_side, restarted, quiet_note, note_of, Came_to}
-use Rattle.gtp_machine.proofs.Worlds.Coming.{on_time}
+use Rattle.gtp_machine.specs.Serving.{granted_bearer, DeleteBearerAsked}
+use Rattle.gtp_machine.specs.Packet.{DeleteBearerAnswered}
+use Rattle.gtp_machine.specs.World.{with_steps, World, Does, Deliver, Happens, Moves, noted, arrival, Restart, Restarted, with_side, restarted, quiet_note, note_of, Came_to}
+use Rattle.gtp_machine.proofs.Basics.Facts.{false_true, ◌⊗◌}
+use Rattle.gtp_machine.proofs.Worlds.Coming.{after, arrives, ◌⨾◌}
 use Rattle.gtp_machine.proofs.Basics.FiniteMaps.{get-insert_same, get-kept, found-kept}
 use Rattle.gtp_machine.specs.Laws.{GetsThrough, GoesOn, ARunIsPossible, HearsRestart}
 use Rattle.gtp_machine.proofs.Basics.Counting.{len-insert_most, len-remove_most}
-use Rattle.gtp_machine.proofs.Worlds.Beginning.{serving_ip, packet_ip, serving_config, packet_config, only_v4, gives_v4, plain_qos, control, none_pending, after, from_serving, from_packet, heard}
-use Rattle.gtp_machine.proofs.Worlds.Possible.{spec, dedicated, q, asked, a, at_serving, at_packet, r, at_packet_bearer, entry, w1, w2, w3, w4, w5, w6, w7, w8, second, serving_stands, step1, step2, step3, step4, step5, step6, step7, step8}
+use Rattle.gtp_machine.proofs.Worlds.Beginning.{serving_config, packet_config, only_v4, gives_v4, plain_qos, control, none_pending, from_serving, from_packet, heard}
+use Rattle.gtp_machine.proofs.Worlds.Possible.{spec, dedicated, q, asked, a, at_serving, at_packet, r, at_packet_bearer, entry_with, sent_with, sends_with, taken_with, takes_with, w1, w2, w3, w4, w5, w6, w7, w8, new_of_type, serving_stands, step1, step2, step3, step4, step5, step6, step7, step8}
 use Rattle.gtp_machine.proofs.Worlds.Sendable.{session_request, session_response, bearer_request, bearer_response, delete_bearer_request, delete_bearer_response, echo_request, echo_response, packet, AllSendable, among_sendable}
 use Rattle.gtp_values.specs.FiniteMap.{Among, FiniteMap, kept}
-use Rattle.gtp_machine.specs.User.{UserStep}
 use Rattle.gtp_machine.specs.Removal.{without_bearer, is_opened}
 use Rattle.gtp_machine.specs.Recovery.{peer_restarted}
 use Rattle.gtp_machine.specs.Response.{finishing}
@@ -32,59 +32,36 @@ e9 = record { out = says asked.source (Create_session_response a); outcome = Cam
 abbrev w9 : World
 w9 = after w8 Packet (from_serving (Create_session_request q)) e9
 
-step9 : Delivers w8 Serving (Create_session_request q ∷ []) w9
-step9 = on_time w8 Serving (Create_session_request q) w9 (
-  λ none. none,
-  record {
-    effect = e9;
-    step = inr (refl, inl (record { held = record { request = asked; answer = Create_session_response a ∷ [] }; stands = inl refl; same = refl; gives = refl }));
-    becomes = refl;
-  },
-)
+step9 : Happens w8 (Deliver 0) w9
+step9 =
+    arrives w8 Serving (Create_session_request q) e9 0 refl (λ none. none)
+    (refl ⨾ inl (record { held = record { request = asked; answer = Create_session_response a ∷ [] }; stands = inl refl; same = refl; gives = refl }))
 
 -- two packets are sent
-abbrev entry_with : ℕ → Entry
-entry_with octet = entry_for dedicated (octet ∷ []) (subscriber_of q) (Some 6)
-
-abbrev sent_with : ℕ → Effect
-sent_with octet = record { out = record (says (user_end packet_ip) (Packet_data dedicated (octet ∷ []))) { handed = entry_with octet ∷ [] }; outcome = Came_to GoneOut; node = w6.serving.node }
-
-sends_with : (octet : ℕ) → CommandStep Serving (Send_user dedicated (octet ∷ [])) w6.serving.node (sent_with octet)
-sends_with octet = inr (
-  record { bearer = granted_bearer r 6; stands = get-insert_same w4.serving.node.bearers dedicated (granted_bearer r 6) },
-  inr (refl, inr (tt, inr (omega arith, record { of = record { session = at_serving; stands = serving_stands }; gives = refl }))),
-)
-
 abbrev w10 : World
 w10 = after w9 Serving (Commanded (Send_user dedicated (121 ∷ []))) (sent_with 121)
 
 abbrev w11 : World
 w11 = after w10 Serving (Commanded (Send_user dedicated (122 ∷ []))) (sent_with 122)
 
+step10 : Moves w9 Serving (Commanded (Send_user dedicated (121 ∷ []))) w10
+step10 = record { effect = sent_with 121; step = sends_with 121; becomes = refl }
+
+step11 : Moves w10 Serving (Commanded (Send_user dedicated (122 ∷ []))) w11
+step11 = record { effect = sent_with 122; step = sends_with 122; becomes = refl }
+
 -- they come, the second first
-abbrev taken_with : ℕ → Effect
-taken_with octet = record { out = record nothing { accepted = entry_with octet ∷ [] }; outcome = Came_to Accepted; node = w7.packet.node }
-
-takes_with : (octet : ℕ) → UserStep Packet (user_end serving_ip) (User_message (Packet_data dedicated (octet ∷ []))) w7.packet.node (taken_with octet)
-takes_with octet = inr (
-  refl,
-  inr (
-    record { bearer = at_packet_bearer; stands = get-insert_same w5.packet.node.bearers dedicated at_packet_bearer },
-    inr (refl, inr (tt, record { of = record { session = at_packet; stands = get-insert_same empty control at_packet }; gives = refl })),
-  ),
-)
-
 abbrev w12 : World
 w12 = after w11 Packet (from_serving (Packet_data dedicated (122 ∷ []))) (taken_with 122)
 
 abbrev w13 : World
 w13 = after w12 Packet (from_serving (Packet_data dedicated (121 ∷ []))) (taken_with 121)
 
-step12 : Delivers w11 Serving (Packet_data dedicated (122 ∷ []) ∷ []) w12
-step12 = on_time w11 Serving (Packet_data dedicated (122 ∷ [])) w12 (λ none. none, record { effect = taken_with 122; step = takes_with 122; becomes = refl })
+step12 : Happens w11 (Deliver 7) w12
+step12 = arrives w11 Serving (Packet_data dedicated (122 ∷ [])) (taken_with 122) 7 refl (λ none. none) (takes_with 122)
 
-step13 : Delivers w12 Serving (Packet_data dedicated (121 ∷ []) ∷ []) w13
-step13 = on_time w12 Serving (Packet_data dedicated (121 ∷ [])) w13 (λ none. none, record { effect = taken_with 121; step = takes_with 121; becomes = refl })
+step13 : Happens w12 (Deliver 6) w13
+step13 = arrives w12 Serving (Packet_data dedicated (121 ∷ [])) (taken_with 121) 6 refl (λ none. none) (takes_with 121)
 
 -- delete_bearer
 abbrev d : DeleteBearerRequest
@@ -114,19 +91,12 @@ unused_number = get-remove nat_cmp_total (insert empty 0 (record { session = Som
 step14 : Moves w13 Packet (Commanded (Delete_bearer control 6)) w14
 step14 = record {
   effect = e14;
-  step = inr (
-    record { session = at_packet; stands = get-insert_same empty control at_packet },
-    inr (
-      record { key = dedicated; at = record { bearer = at_packet_bearer; stands = get-insert_same w5.packet.node.bearers dedicated at_packet_bearer }; of = refl; dedicated = refl; has = refl },
-      inr (
-        (refl, refl),
-        inr (
-          record { few = few_pending },
-          record { number = 0; number_free = record { unused = unused_number; small = omega arith }; gives = refl },
-        ),
-      ),
-    ),
-  );
+  step =
+      record { session = at_packet; stands = get-insert_same empty control at_packet }
+      ⨾ record { key = dedicated; at = record { bearer = at_packet_bearer; stands = get-insert_same w5.packet.node.bearers dedicated at_packet_bearer }; of = refl; dedicated = refl; has = refl }
+      ⨾ (refl, refl)
+      ⨾ record { few = few_pending }
+      ⨾ record { number = 0; number_free = record { unused = unused_number; small = omega arith }; gives = refl };
   becomes = refl;
 }
 
@@ -145,53 +115,28 @@ w15 = after w14 Serving (from_packet (Delete_bearer_request d)) e15
 
 -- its answer to the Create Bearer Request is held for that alone
 new_to_serving : IsNew w14.serving.node to_delete
-new_to_serving held (inl is) same = apart (ap second (ap (λ (k : Held). k.request.octets) (sym is) ∙ ap (λ (k : Arrival). k.octets) same))
-  where
-    apart : ◌≡◌ {A = ℕ} 95 99 → ⊥
-    apart e = omega arith
-new_to_serving held (inr none) same = none
+new_to_serving = new_of_type w14.serving.node _ to_delete refl (λ e. let kind : ◌≡◌ {A = ℕ} 95 99 = e in omega (arith, kind))
 
-step15 : Delivers w14 Packet (Delete_bearer_request d ∷ []) w15
-step15 = on_time w14 Packet (Delete_bearer_request d) w15 (
-  λ none. none,
-  record {
-    effect = e15;
-    step = inr (
-      refl,
-      inr (
-        new_to_serving,
-        inr (
-          refl,
-          inr (
-            record { few = omega arith },
-            inr (
-              record { session = at_serving; stands = serving_stands },
-              inr (
-                (λ e. cc e),
-                inr (
-                  omega arith,
-                  record {
-                    contexts = record { identity = 6; cause = cause_of 16 } ∷ [];
-                    left = without_bearer w14.serving.node dedicated;
-                    removes = (
-                      [],
-                      inr (
-                        record { key = dedicated; at = record { bearer = granted_bearer r 6; stands = get-insert_same w4.serving.node.bearers dedicated (granted_bearer r 6) }; of = refl; dedicated = refl; has = refl },
-                        (refl, (refl, refl)),
-                      ),
-                    );
-                    gives = refl;
-                  },
-                ),
-              ),
-            ),
-          ),
-        ),
-      ),
-    );
-    becomes = refl;
-  },
-)
+-- the bearer goes
+removed : DeleteBearerAsked to_delete d w14.serving.node e15
+removed =
+    record { few = omega arith }
+    ⨾ record { session = at_serving; stands = serving_stands }
+    ⨾ (λ e. cc e)
+    ⨾ omega arith
+    ⨾ record {
+      contexts = record { identity = 6; cause = cause_of 16 } ∷ [];
+      left = without_bearer w14.serving.node dedicated;
+      removes = (
+        [],
+        record { key = dedicated; at = record { bearer = granted_bearer r 6; stands = get-insert_same w4.serving.node.bearers dedicated (granted_bearer r 6) }; of = refl; dedicated = refl; has = refl }
+            ⨾ (refl, (refl, refl)),
+      );
+      gives = refl;
+    }
+
+step15 : Happens w14 (Deliver 8) w15
+step15 = arrives w14 Packet (Delete_bearer_request d) e15 8 refl (λ none. none) (refl ⨾ inr (new_to_serving, refl ⨾ removed))
 
 -- the Delete Bearer Response comes
 abbrev closed : Effect
@@ -200,42 +145,16 @@ closed = finishing w15.packet.node 0 deleting Closed
 abbrev w16 : World
 w16 = after w15 Packet (from_serving (Delete_bearer_response answer)) (heard closed)
 
--- an answer to the Create Session Request is held, and no other
-new_type : (kind : ℕ) (octets : List ℕ) → second octets ≡ kind → 32 < kind ⊎ kind < 32 → IsNew w15.packet.node (record { source = control_end serving_ip; octets = octets })
-new_type kind octets is other held (inl at) same = ⊎_elim (λ more. omega (arith, more, is_32)) (λ less. omega (arith, less, is_32)) other
+step16 : Happens w15 (Deliver 9) w16
+step16 =
+    arrives w15 Serving (Delete_bearer_response answer) (heard closed) 9 refl (λ none. none)
+    (refl ⨾ inr (new_of_type w15.packet.node _ _ refl (λ e. let kind : ◌≡◌ {A = ℕ} 32 100 = e in omega (arith, kind)), refl ⨾ (closed, ended, refl)))
   where
-    is_32 : 32 ≡ kind
-    is_32 = ap second (ap (λ (k : Held). k.request.octets) (sym at) ∙ ap (λ (k : Arrival). k.octets) same) ∙ is
-new_type kind octets is other held (inr none) same = none
-
-step16 : Delivers w15 Serving (Delete_bearer_response answer ∷ []) w16
-step16 = on_time w15 Serving (Delete_bearer_response answer) w16 (
-  λ none. none,
-  record {
-    effect = heard closed;
-    step = inr (
-      refl,
-      inr (
-        new_type 100 _ refl (inl (omega arith)),
-        inr (
-          refl,
-          (
-            closed,
-            inr (
-              record { pending = deleting; waits = get-insert_same w13.packet.node.pending 0 deleting },
-              inr (
-                record { request = d; asked = refl; named = inl refl },
-                refl,
-              ),
-            ),
-            refl,
-          ),
-        ),
-      ),
-    );
-    becomes = refl;
-  },
-)
+    ended : DeleteBearerAnswered answer w15.packet.node closed
+    ended =
+        record { pending = deleting; waits = get-insert_same w13.packet.node.pending 0 deleting }
+        ⨾ record { request = d; asked = refl; named = inl refl }
+        ⨾ refl
 
 -- the serving gateway restarts, and its Echo Request tells so
 abbrev w17 : World
@@ -253,7 +172,7 @@ w18 = after w17 Serving (Commanded Send_echo) e18
 step18 : Moves w17 Serving (Commanded Send_echo) w18
 step18 = record {
   effect = e18;
-  step = inr (record { few = none_pending }, record { number = 0; number_free = record { unused = get-empty nat_cmp 0; small = omega arith }; gives = refl });
+  step = record { few = none_pending } ⨾ record { number = 0; number_free = record { unused = get-empty nat_cmp 0; small = omega arith }; gives = refl };
   becomes = refl;
 }
 
@@ -266,15 +185,10 @@ e19 = let taken = echoed told echo (peer_restarted w18.packet.node 2) in record 
 abbrev w19 : World
 w19 = after w18 Packet (from_serving (Echo_request echo)) e19
 
-step19 : Delivers w18 Serving (Echo_request echo ∷ []) w19
-step19 = on_time w18 Serving (Echo_request echo) w19 (
-  λ none. none,
-  record {
-    effect = e19;
-    step = inr (refl, inr (new_type 1 _ refl (inr (omega arith)), inr (refl, (echoed told echo (peer_restarted w18.packet.node 2), refl, refl))));
-    becomes = refl;
-  },
-)
+step19 : Happens w18 (Deliver 10) w19
+step19 =
+    arrives w18 Serving (Echo_request echo) e19 10 refl (λ none. none)
+    (refl ⨾ inr (new_of_type w18.packet.node _ _ refl (λ e. let kind : ◌≡◌ {A = ℕ} 32 1 = e in omega (arith, kind)), refl ⨾ (echoed told echo (peer_restarted w18.packet.node 2), refl, refl)))
 
 stands_before : get w18.packet.node.sessions control ≡ Some at_packet
 stands_before = get-kept (λ t (s : Session). true) (insert empty control at_packet) control at_packet (get-insert_same empty control at_packet) refl
@@ -290,7 +204,7 @@ hears_restart : HearsRestart w16 control
 hears_restart = record {
   events = Restart Serving ∷ Does Serving Send_echo ∷ Deliver 10 ∷ [];
   world = w19;
-  run = (w17, inr (omega arith, refl), (w18, step18, (w19, inr (record { sent = _; is = refl }, step19), refl)));
+  run = (w17, inr (omega arith, refl), (w18, step18, (w19, step19, refl)));
   restarts = refl;
   heard = inl refl;
   on_time = refl;
@@ -299,19 +213,20 @@ hears_restart = record {
 }
   where
     all : AllSendable w19.history
-    all = (
-      session_request 1 0 only_v4 (omega arith) gives_v4,
-      (
-        session_response 1 0 only_v4 (omega arith) gives_v4,
-        (
-          bearer_request,
-          (
-            bearer_response,
-            (packet 120 (omega arith), (session_response 1 0 only_v4 (omega arith) gives_v4, (packet 121 (omega arith), (packet 122 (omega arith), (delete_bearer_request, (delete_bearer_response, (echo_request 2 (omega arith), (echo_response 1 (omega arith), tt)))))))),
-          ),
-        ),
-      ),
-    )
+    all =
+        session_request 1 0 only_v4 (omega arith) (gives_v4 [])
+        ⊗ session_response 1 0 only_v4 (omega arith) (gives_v4 [])
+        ⊗ bearer_request
+        ⊗ bearer_response
+        ⊗ packet 120 (omega arith)
+        ⊗ session_response 1 0 only_v4 (omega arith) (gives_v4 [])
+        ⊗ packet 121 (omega arith)
+        ⊗ packet 122 (omega arith)
+        ⊗ delete_bearer_request
+        ⊗ delete_bearer_response
+        ⊗ echo_request 2 (omega arith)
+        ⊗ echo_response 1 (omega arith)
+        ⊗ tt
 
 goes_on : GoesOn w8 control control dedicated dedicated
 unfolding hears_restart
@@ -319,7 +234,7 @@ goes_on = record {
   again = w9;
   repeats = record {
     number = 0;
-    comes = inr (record { sent = _; is = refl }, step9);
+    comes = step9;
     note = note_of (Came_to Repeated) e9.out;
     notes = refl;
     repeated = refl;
@@ -329,31 +244,7 @@ goes_on = record {
   };
   events = Does Serving (Send_user dedicated (121 ∷ [])) ∷ Does Serving (Send_user dedicated (122 ∷ [])) ∷ Deliver 7 ∷ Deliver 6 ∷ Does Packet (Delete_bearer control 6) ∷ Deliver 8 ∷ Deliver 9 ∷ [];
   world = w16;
-  run = (
-    w10,
-    record { effect = sent_with 121; step = sends_with 121; becomes = refl },
-    (
-      w11,
-      record { effect = sent_with 122; step = sends_with 122; becomes = refl },
-      (
-        w12,
-        inr (record { sent = _; is = refl }, step12),
-        (
-          w13,
-          inr (record { sent = _; is = refl }, step13),
-          (
-            w14,
-            step14,
-            (
-              w15,
-              inr (record { sent = _; is = refl }, step15),
-              (w16, inr (record { sent = _; is = refl }, step16), refl),
-            ),
-          ),
-        ),
-      ),
-    ),
-  );
+  run = (w10, step10, (w11, step11, (w12, step12, (w13, step13, (w14, step14, (w15, step15, (w16, step16, refl)))))));
   first = entry_with 121;
   second = entry_with 122;
   apart = apart;
@@ -374,11 +265,8 @@ goes_on = record {
     apart : entry_with 121 ≢ entry_with 122
     apart e = let same : ◌≡◌ {A = ℕ} 121 122 = ap (λ (k : Entry). octet_of k.payload) e in omega arith
 
-    not_so : false ≡ true → ⊥
-    not_so e = cc
-
     not_kept : (bearers : FiniteMap Bearer) (b : Bearer) → get (kept (λ t (k : Bearer). not ((t == dedicated) || false)) bearers) dedicated ≡ Some b → ⊥
-    not_kept bearers b e = not_so (found-kept (λ t (k : Bearer). not ((t == dedicated) || false)) bearers dedicated b e).0
+    not_kept bearers b e = false_true _ refl (found-kept (λ t (k : Bearer). not ((t == dedicated) || false)) bearers dedicated b e).0
 
     never : Among (Deliver 5)
         (Does Serving (Send_user dedicated (121 ∷ [])) ∷ Does Serving (Send_user dedicated (122 ∷ [])) ∷ Deliver 7 ∷ Deliver 6 ∷ Does Packet (Delete_bearer control 6) ∷ Deliver 8 ∷ Deliver 9 ∷ Restart Serving ∷ Does Serving Send_echo ∷ Deliver 10 ∷ []) → ⊥
@@ -390,7 +278,7 @@ gets_through = record {
   packet = packet_config 0;
   events = Does Serving (Create_session spec) ∷ Deliver 0 ∷ Deliver 1 ∷ Does Packet (Create_bearer control (33 ∷ []) plain_qos) ∷ Deliver 2 ∷ Deliver 3 ∷ Does Serving (Send_user dedicated (120 ∷ [])) ∷ Deliver 4 ∷ [];
   world = w8;
-  run = (w1, step1, (w2, inr (record { sent = _; is = refl }, step2), (w3, inr (record { sent = _; is = refl }, step3), (w4, step4, (w5, inr (record { sent = _; is = refl }, step5), (w6, inr (record { sent = _; is = refl }, step6), (w7, step7, (w8, inr (record { sent = _; is = refl }, step8), refl))))))));
+  run = (w1, step1, (w2, step2, (w3, step3, (w4, step4, (w5, step5, (w6, step6, (w7, step7, (w8, step8, refl))))))));
   session = control;
   session_there = control;
   at_serving = at_serving;
@@ -404,7 +292,7 @@ gets_through = record {
   dedicated = refl;
   of_session = refl;
   of_session_there = refl;
-  taken = entry;
+  taken = entry_with 120;
   handed = inl refl;
   accepted = inl refl;
   on_bearer = refl;

@@ -1,5 +1,5 @@
 -- What is known of the peer is the latest counter that was heard.
-use Rattle.std.proofs.Common.{◌≡◌, inl, inr, ℕ, ◌+◌, ◌%◌, ◌<◌, ◌≤◌, List, ◌∷◌, Option, Some, None, refl, sym, ◌∙◌, ap, subst, arith}
+use Rattle.std.proofs.Common.{◌≡◌, inl, inr, ℕ, ◌+◌, ◌%◌, ◌≤◌, List, ◌∷◌, Option, Some, None, refl, sym, ◌∙◌, ap, subst, arith}
 use Rattle.gtp_values.specs.FiniteMap.{Among}
 use Rattle.gtp_values.specs.Counter.{age_of}
 use Rattle.gtp_values.specs.declared.counter.Age.{Age}
@@ -34,48 +34,40 @@ module _ (peer : Side) (few : peer.restarts ≤ 127) where
       let starts = same_start peer.first l.start o.start k c (omega (arith, l.by_now)) (omega (arith, o.by_now)) l.is o.is e in
       l.is ∙ ap (λ n. (peer.first + n) % 256) (sym starts) ∙ sym o.is
 
-  -- what was known stays so, where the counter is of no later start
+  -- one more counter that was heard, of no later start
+  by_start : (seen : List ℕ) (c latest start : ℕ) → start ≤ latest → c ≡ (peer.first + start) % 256 → ((r : ℕ) → Among r seen → IsByStart peer latest r) → (r : ℕ) → Among r (c ∷ seen) → IsByStart peer latest r
+  by_start seen c latest start no_later is before r (inl same) = record { start = start; no_later = no_later; is = same ∙ is }
+  by_start seen c latest start no_later is before r (inr there) = before r there
+
+  -- what was known stays so
   known_stays : (seen : List ℕ) (k c : ℕ) (l : IsLatest peer seen k) (start : ℕ) → start ≤ l.start → c ≡ (peer.first + start) % 256 → IsLatest peer (c ∷ seen) k
-  known_stays seen k c l start no_later is = record { start = l.start; by_now = l.by_now; is = l.is; heard = inr l.heard; others = others }
-    where
-      others : (r : ℕ) → Among r (c ∷ seen) → IsByStart peer l.start r
-      others r (inl same) = record { start = start; no_later = no_later; is = same ∙ is }
-      others r (inr there) = l.others r there
+  known_stays seen k c l start no_later is = record { start = l.start; by_now = l.by_now; is = l.is; heard = inr l.heard; others = by_start seen c l.start start no_later is l.others }
+
+  -- a counter is known, and is the latest
+  Hearing-some : (seen : List ℕ) (k : ℕ) (new : Option ℕ) → new ≡ Some k → IsLatest peer seen k → Hearing peer new seen
+  Hearing-some seen k new is l = subst (λ n. Hearing peer n seen) (sym is) (record { none = λ none. absurd (cc none); latest = λ j some. subst (IsLatest peer seen) (let same : k ≡ j = cc some in same) l })
+
+  -- it is heard now, and those before are of no later start
+  heard_now : (seen : List ℕ) (c : ℕ) (new : Option ℕ) → new ≡ Some c → (o : IsOfStart peer c) → ((r : ℕ) → Among r seen → IsByStart peer o.start r) → Hearing peer new (c ∷ seen)
+  heard_now seen c new is o before = Hearing-some (c ∷ seen) c new is (record { start = o.start; by_now = o.by_now; is = o.is; heard = inl refl; others = by_start seen c o.start o.start (omega arith) o.is before })
 
   by_age : (seen : List ℕ) (k c : ℕ) (new : Option ℕ) → Hearing peer (Some k) seen → IsOfStart peer c → (a : Age) → age_of k c ≡ a → KnownBy a k c new → Hearing peer new (c ∷ seen)
   by_age seen k c new h o Same e is =
       let l = h.latest k refl in
       let starts = same_start peer.first l.start o.start k c (omega (arith, l.by_now)) (omega (arith, o.by_now)) l.is o.is e in
-      subst (λ n. Hearing peer n (c ∷ seen)) (sym is) (record { none = λ none. absurd (cc none); latest = λ j some. subst (IsLatest peer (c ∷ seen)) (let same : k ≡ j = cc some in same) (known_stays seen k c l o.start (omega (arith, starts)) o.is) })
+      Hearing-some (c ∷ seen) k new is (known_stays seen k c l o.start (omega (arith, starts)) o.is)
   by_age seen k c new h o Earlier e is =
       let l = h.latest k refl in
       let starts = earlier_start peer.first l.start o.start k c (omega (arith, l.by_now)) (omega (arith, o.by_now)) l.is o.is e in
-      subst (λ n. Hearing peer n (c ∷ seen)) (sym is) (record { none = λ none. absurd (cc none); latest = λ j some. subst (IsLatest peer (c ∷ seen)) (let same : k ≡ j = cc some in same) (known_stays seen k c l o.start (omega (arith, starts)) o.is) })
+      Hearing-some (c ∷ seen) k new is (known_stays seen k c l o.start (omega (arith, starts)) o.is)
   by_age seen k c new h o Later e is =
       let l = h.latest k refl in
       let starts = later_start peer.first l.start o.start k c (omega (arith, l.by_now)) (omega (arith, o.by_now)) l.is o.is e in
-      subst (λ n. Hearing peer n (c ∷ seen)) (sym is) (record { none = λ none. absurd (cc none); latest = λ j some. subst (IsLatest peer (c ∷ seen)) (let same : c ≡ j = cc some in same) (heard_now l starts) })
-    where
-      heard_now : (l : IsLatest peer seen k) → l.start < o.start → IsLatest peer (c ∷ seen) c
-      heard_now l before = record { start = o.start; by_now = o.by_now; is = o.is; heard = inl refl; others = others }
-        where
-          others : (r : ℕ) → Among r (c ∷ seen) → IsByStart peer o.start r
-          others r (inl same) = record { start = o.start; no_later = omega arith; is = same ∙ o.is }
-          others r (inr there) = let b = l.others r there in record { start = b.start; no_later = omega (arith, b.no_later, before); is = b.is }
-
-  first_heard : (seen : List ℕ) (c : ℕ) → Hearing peer None seen → IsOfStart peer c → Hearing peer (Some c) (c ∷ seen)
-  first_heard seen c h o = record { none = λ none. absurd (cc none); latest = λ j some. subst (IsLatest peer (c ∷ seen)) (let same : c ≡ j = cc some in same) now }
-    where
-      others : (r : ℕ) → Among r (c ∷ seen) → IsByStart peer o.start r
-      others r (inl same) = record { start = o.start; no_later = omega arith; is = same ∙ o.is }
-      others r (inr there) = absurd (h.none refl r there)
-
-      now : IsLatest peer (c ∷ seen) c
-      now = record { start = o.start; by_now = o.by_now; is = o.is; heard = inl refl; others = others }
+      heard_now seen c new is o (λ r there. let b = l.others r there in record { start = b.start; no_later = omega (arith, b.no_later, starts); is = b.is })
 
   pub Hearing-step : (known heard new : Option ℕ) (seen : List ℕ) → Hearing peer known seen → KnownAfter known heard new → ((c : ℕ) → heard ≡ Some c → IsOfStart peer c) → Hearing peer new (with_heard heard seen)
   Hearing-step known None new seen h is told = subst (λ n. Hearing peer n seen) (sym is) h
-  Hearing-step None (Some c) new seen h is told = subst (λ n. Hearing peer n (c ∷ seen)) (sym is) (first_heard seen c h (told c refl))
+  Hearing-step None (Some c) new seen h is told = heard_now seen c new is (told c refl) (λ r there. absurd (h.none refl r there))
   Hearing-step (Some k) (Some c) new seen h is told = by_age seen k c new h (told c refl) (age_of k c) refl is
 
   -- nothing that was heard is later than what is known

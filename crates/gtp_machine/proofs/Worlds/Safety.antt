@@ -1,19 +1,20 @@
 -- The laws that hold at the end of each run.
-use Rattle.std.proofs.Common.{◌≡◌, ◌≢◌, ⊎_elim, ℕ, ◌≤◌, List, Option, Some, None, sym, ◌∙◌, ap, arith}
+use Rattle.std.proofs.Common.{◌≡◌, ⊎_elim, ℕ, ◌≤◌, List, Option, Some, sym, ◌∙◌, ap, arith}
 use Rattle.std.specs.FinMap.{get}
 use Rattle.gtp_machine.specs.Element.{Subscriber, address_of, teid_in}
-use Rattle.gtp_machine.specs.Message.{Control, User, CreateSessionRequest, CreateSessionResponse, CreateBearerResponse, Message, Create_session_request, Create_session_response, Create_bearer_request, Create_bearer_response, Owns, recovery_of, subscriber_of, first_identity}
-use Rattle.gtp_machine.specs.Node.{Role, Serving, Packet, Pending, Active, Session, Bearer}
+use Rattle.gtp_machine.specs.Message.{Control, User, CreateSessionRequest, CreateSessionResponse, CreateBearerResponse, Message, Create_session_request, Create_session_response, Owns, subscriber_of, first_identity}
+use Rattle.gtp_machine.specs.Node.{Role, Serving, Packet, Session, Bearer}
 use Rattle.gtp_machine.specs.Config.{Addresses}
 use Rattle.gtp_machine.specs.Choice.{counter_of}
-use Rattle.gtp_machine.specs.World.{World, Side, Sent, HasSent, side_of}
+use Rattle.gtp_machine.specs.World.{World, Side, Sent, HasSent, side_of, other}
 use Rattle.gtp_machine.specs.Safety.{Agree, SessionsAgree, MutualBearers, AgreeBearers, BearersAgree, OutlivesRestart, NoneOutlivesRestart, EachOwed}
-use Rattle.gtp_machine.specs.Laws.{Always, MessagesOfDatagrams, OneMessage, OwnsOn, PlanesApart, TeidsWereDrawn, ContextTeidsWereDrawn, NamedTeidsWereDrawn, IsOfStart, NoneAhead, IsLatestHeard, KnownIsLatest, OneResponsePerBearerRequest, EachOpened, EachClosesWhole, OneContextPerRequest}
+use Rattle.gtp_machine.specs.Laws.{Always, MessagesOfDatagrams, OneMessage, OwnsOn, PlanesApart, ContextTeidsWereDrawn, NamedTeidsWereDrawn, IsOfStart, NoneAhead, IsLatestHeard, KnownIsLatest, OneResponsePerBearerRequest, EachOpened, EachClosesWhole, OneContextPerRequest}
 use Rattle.gtp_machine.proofs.Origins.Drawing.{Drawing}
 use Rattle.gtp_machine.proofs.Origins.Contexts.{IsAskedWith, IsGranted, IsMadeWith, IsWanted}
 use Rattle.gtp_machine.proofs.Origins.Entries.{Once, same_request, same_user_request, same_answer, same_user_answer, same_bearer_answer, answer_not_request}
 use Rattle.gtp_machine.proofs.Worlds.Hearing.{Hearing, none_later}
-use Rattle.gtp_machine.proofs.Worlds.Runs.{SideInvariant, Invariant, always}
+use Rattle.gtp_machine.proofs.Origins.Naming.{session_goes_back, bearer_goes_back}
+use Rattle.gtp_machine.proofs.Worlds.Runs.{SideInvariant, Invariant, side_in, always}
 use Rattle.gtp_machine.proofs.Basics.Facts.{one_value}
 
 module _ (own : Addresses) (w : World) (inv : Invariant own w) where
@@ -85,45 +86,6 @@ module _ (own : Addresses) (w : World) (inv : Invariant own w) where
         there.origin)
         at.origin
 
-  -- the TEIDs of a session go back to messages
-  session_goes_back : (role : Role) (t : ℕ) (s : Session) → get (side_of w role).node.sessions t ≡ Some s → TeidsWereDrawn Control w.history role t s.remote
-  session_goes_back Serving t s stands =
-      let asked = inv.serving.knows.contexts.sessions_asked t s stands in
-      record {
-        here = record { message = Create_session_request asked.request; sent = asked.sent; owns = sym asked.control };
-        there = λ r e. let opened = asked.opened r e in record { message = Create_session_response opened.answer; sent = opened.sent; owns = sym opened.remote ∙ e };
-      }
-  session_goes_back Packet t s stands =
-      let made = inv.packet.knows.contexts.sessions_made t s stands in
-      record {
-        here = record { message = Create_session_response made.answer; sent = made.answered; owns = made.control };
-        there = λ r e. record { message = Create_session_request made.request; sent = made.asked; owns = one_value s.remote r made.request.control.teid e made.remote };
-      }
-
-  pub bearer_goes_back : (role : Role) (t : ℕ) (b : Bearer) → get (side_of w role).node.bearers t ≡ Some b → TeidsWereDrawn User w.history role t b.remote
-  bearer_goes_back Serving t b stands =
-      ⊎_elim
-      (λ o. record {
-        here = record { message = Create_session_request o.request; sent = o.sent; owns = sym o.user };
-        there = λ r e. let opened = o.opened r e in record { message = Create_session_response opened.answer; sent = opened.sent; owns = sym opened.user ∙ e };
-      })
-      (λ g. record {
-        here = record { message = Create_bearer_response g.answer; sent = g.answered; owns = g.user };
-        there = λ r e. record { message = Create_bearer_request g.request; sent = g.asked; owns = one_value b.remote r g.request.context.user.teid e g.remote };
-      })
-      (inv.serving.knows.contexts.bearers_asked t b stands).origin
-  bearer_goes_back Packet t b stands =
-      ⊎_elim
-      (λ o. record {
-        here = record { message = Create_session_response o.answer; sent = o.answered; owns = o.user };
-        there = λ r e. record { message = Create_session_request o.request; sent = o.asked; owns = one_value b.remote r o.request.context.user.teid e o.remote };
-      })
-      (λ p. record {
-        here = record { message = Create_bearer_request p.request; sent = p.asked; owns = sym p.user };
-        there = λ r e. let given = p.opened r e in record { message = Create_bearer_response given.answer; sent = given.sent; owns = sym given.remote ∙ e };
-      })
-      (inv.packet.knows.contexts.bearers_made t b stands).origin
-
 -- no session of a gateway is over
 none_over : (history : List Sent) (role : Role) (side peer : Side) → SideInvariant history role side peer → peer.restarts ≤ 127 → (t : ℕ) (s : Session) → get side.node.sessions t ≡ Some s → OutlivesRestart side.seen s → ⊥
 none_over history role side peer inv few t s stands over =
@@ -150,21 +112,19 @@ pub always_bearers : Always (λ w. BearersAgree w.serving.node w.packet.node)
 always_bearers serving packet sc pc events w r c d b e m = bearers_agree packet.own w (always serving packet sc pc events w r) c d b e m
 
 pub always_none_over : Always (λ w. (role : Role) → NoneOutlivesRestart (side_of w role).node (side_of w role).seen)
-always_none_over serving packet sc pc events w r Serving t s = let inv = always serving packet sc pc events w r in none_over w.history Serving w.serving w.packet inv.serving inv.packet.draws.few t s
-always_none_over serving packet sc pc events w r Packet t s = let inv = always serving packet sc pc events w r in none_over w.history Packet w.packet w.serving inv.packet inv.serving.draws.few t s
+always_none_over serving packet sc pc events w r role t s = let inv = always serving packet sc pc events w r in none_over w.history role (side_of w role) (side_of w (other role)) (side_in w inv role) (side_in w inv (other role)).draws.few t s
 
 pub always_owed : Always (λ w. EachOwed w.late w.handed w.accepted)
-always_owed serving packet sc pc events w r = (always serving packet sc pc events w r).owed
+always_owed serving packet sc pc events w r = (always serving packet sc pc events w r).logs.owed
 
 pub always_of_datagrams : Always MessagesOfDatagrams
 always_of_datagrams serving packet sc pc events w r = (always serving packet sc pc events w r).kept
 
 pub always_one_message : Always OneMessage
-always_one_message serving packet sc pc events w r Serving = (always serving packet sc pc events w r).serving.draws.once
-always_one_message serving packet sc pc events w r Packet = (always serving packet sc pc events w r).packet.draws.once
+always_one_message serving packet sc pc events w r role = (side_in w (always serving packet sc pc events w r) role).draws.once
 
 pub always_names_back : Always NamedTeidsWereDrawn
-always_names_back serving packet sc pc events w r = (always serving packet sc pc events w r).named
+always_names_back serving packet sc pc events w r = (always serving packet sc pc events w r).logs.named
 
 -- what a gateway draws for the control plane it does not draw for the user plane
 planes_apart : (side : Side) (role : Role) (history : List Sent) → Drawing side role history → (m : Message) (t : ℕ) → HasSent history role m → OwnsOn Control m t → OwnsOn User m t → ⊥
@@ -173,55 +133,29 @@ planes_apart side role history drawing (Create_session_response a) t has control
 planes_apart side role history drawing _ t has control user = control
 
 pub always_planes_apart : Always PlanesApart
-always_planes_apart serving packet sc pc events w r Serving = planes_apart w.serving Serving w.history (always serving packet sc pc events w r).serving.draws
-always_planes_apart serving packet sc pc events w r Packet = planes_apart w.packet Packet w.history (always serving packet sc pc events w r).packet.draws
+always_planes_apart serving packet sc pc events w r role = planes_apart (side_of w role) role w.history (side_in w (always serving packet sc pc events w r) role).draws
 
 pub always_goes_back : Always ContextTeidsWereDrawn
-always_goes_back serving packet sc pc events w r = let inv = always serving packet sc pc events w r in record { sessions = session_goes_back packet.own w inv; bearers = bearer_goes_back packet.own w inv }
+always_goes_back serving packet sc pc events w r = let inv = always serving packet sc pc events w r in record { sessions = λ role. session_goes_back w.history role (side_of w role).node (side_in w inv role).knows; bearers = λ role. bearer_goes_back w.history role (side_of w role).node (side_in w inv role).knows }
 
 pub always_none_ahead : Always NoneAhead
-always_none_ahead serving packet sc pc events w r = record { told = told; drawn = drawn }
-  where
-    inv : Invariant packet.own w
-    inv = always serving packet sc pc events w r
-
-    told : (role : Role) (m : Message) (c : ℕ) → HasSent w.history role m → recovery_of m ≡ Some c → IsOfStart (side_of w role) c
-    told Serving m c = inv.serving.draws.told m c
-    told Packet m c = inv.packet.draws.told m c
-
-    drawn : (role : Role) (m : Message) (t : ℕ) → HasSent w.history role m → Owns m t → IsOfStart (side_of w role) (counter_of t)
-    drawn Serving = drawn_of_start w.serving Serving w.history inv.serving.draws
-    drawn Packet = drawn_of_start w.packet Packet w.history inv.packet.draws
+always_none_ahead serving packet sc pc events w r =
+    let draws = λ (role : Role). (side_in w (always serving packet sc pc events w r) role).draws in
+    record { told = λ role m c. (draws role).told m c; drawn = λ role. drawn_of_start (side_of w role) role w.history (draws role) }
 
 pub always_known : Always KnownIsLatest
-always_known serving packet sc pc events w r Serving = let inv = always serving packet sc pc events w r in latest_heard w.packet w.serving.node.known w.serving.seen inv.packet.draws.few inv.serving.hearing
-always_known serving packet sc pc events w r Packet = let inv = always serving packet sc pc events w r in latest_heard w.serving w.packet.node.known w.packet.seen inv.serving.draws.few inv.packet.hearing
+always_known serving packet sc pc events w r role = let inv = always serving packet sc pc events w r in latest_heard (side_of w (other role)) (side_of w role).node.known (side_of w role).seen (side_in w inv (other role)).draws.few (side_in w inv role).hearing
 
 pub always_once : Always OneResponsePerBearerRequest
-always_once serving packet sc pc events w r = (always serving packet sc pc events w r).once
+always_once serving packet sc pc events w r = (always serving packet sc pc events w r).logs.once
 
 pub always_opened : Always EachOpened
-always_opened serving packet sc pc events w r = record { named = named; blank = blank; bearers = bearers }
-  where
-    inv : Invariant packet.own w
-    inv = always serving packet sc pc events w r
-
-    named : (role : Role) (t : ℕ) (s : Session) → get (side_of w role).node.sessions t ≡ Some s → s.state ≢ Pending → (remote : ℕ) × (s.remote ≡ Some remote)
-    named Serving t s stands = (inv.serving.knows.standing t s stands).named
-    named Packet t s stands = (inv.packet.knows.standing t s stands).named
-
-    blank : (role : Role) (t : ℕ) (s : Session) → get (side_of w role).node.sessions t ≡ Some s → s.state ≡ Pending → s.remote ≡ None
-    blank Serving t s stands = (inv.serving.knows.standing t s stands).blank
-    blank Packet t s stands = (inv.packet.knows.standing t s stands).blank
-
-    bearers : (role : Role) (t : ℕ) (b : Bearer) → get (side_of w role).node.bearers t ≡ Some b → b.state ≡ Active → (remote : ℕ) × (b.remote ≡ Some remote)
-    bearers Serving = inv.serving.knows.ready
-    bearers Packet = inv.packet.knows.ready
+always_opened serving packet sc pc events w r =
+    let knows = λ (role : Role). (side_in w (always serving packet sc pc events w r) role).knows in
+    record { named = λ role t s stands. ((knows role).standing t s stands).named; blank = λ role t s stands. ((knows role).standing t s stands).blank; bearers = λ role. (knows role).ready }
 
 pub always_closes_whole : Always EachClosesWhole
-always_closes_whole serving packet sc pc events w r Serving = (always serving packet sc pc events w r).serving.knows.closed
-always_closes_whole serving packet sc pc events w r Packet = (always serving packet sc pc events w r).packet.knows.closed
+always_closes_whole serving packet sc pc events w r role = (side_in w (always serving packet sc pc events w r) role).knows.closed
 
 pub always_made_once : Always OneContextPerRequest
-always_made_once serving packet sc pc events w r Serving = (always serving packet sc pc events w r).serving.making.once
-always_made_once serving packet sc pc events w r Packet = (always serving packet sc pc events w r).packet.making.once
+always_made_once serving packet sc pc events w r role = (side_in w (always serving packet sc pc events w r) role).making.once

@@ -1,25 +1,23 @@
 -- The messages of the possible run can be sent.
-use Rattle.std.proofs.Common.{◌≡◌, ◌⊎◌, inl, inr, ℕ, ◌≤◌, ◌<◌, ◌^◌, true, List, [], ◌∷◌, ◌++◌, Some, None, refl, sym, subst, arith, rules}
+use Rattle.std.proofs.Common.{◌≡◌, ◌⊎◌, inl, inr, ℕ, ◌≤◌, ◌<◌, true, List, [], ◌∷◌, ◌++◌, Some, None, refl, sym, subst, arith, rules}
 use Rattle.std.specs.Prelude.{nat_lt}
 use Rattle.std.specs.List.{list_all}
 use Rattle.std.proofs.lemmas.List.Elements.{All-from_recursion}
-use Rattle.gtp_ie.specs.Value.{OfQos, OfFTeid, encoding_of}
-use Rattle.gtp_ie.proofs.Again.{recovery_again, ebi_again, charging_id_again}
-use Rattle.gtp_ie.proofs.AgainNames.{tft_again}
+use Rattle.gtp_ie.specs.Value.{encoding_of}
+use Rattle.gtp_ie.proofs.Again.{recovery_again, ebi_again}
 use Rattle.gtp_v2.specs.Kinds.{HasKind, RowsHaveKinds}
 use Rattle.gtp_v2.specs.Text.{value_encoding, groups_encoding, several_encoding}
-use Rattle.gtp_v2.specs.CreateBearerRequest.{bearer_request_context_rows}
-use Rattle.gtp_v2.specs.CreateBearerResponse.{bearer_response_context_rows}
 use Rattle.gtp_v2.specs.DeleteBearerResponse.{removal_response_context_rows}
 use Rattle.gtp_user.specs.Encoding.{content_encoding, options_encoding}
-use Rattle.gtp_machine.specs.Element.{PdnAddress, cause_of, tunnel_end}
+use Rattle.gtp_machine.specs.Element.{PdnAddress, cause_of}
 use Rattle.gtp_machine.specs.Message.{Message, Echo_request, Echo_response, Create_session_request, Create_session_response, Create_bearer_request, Create_bearer_response, Delete_bearer_request, Delete_bearer_response, Packet_data}
 use Rattle.gtp_machine.specs.Node.{Role}
 use Rattle.gtp_machine.specs.Spelling.{AreOctets, IsSendable}
 use Rattle.gtp_machine.specs.World.{Sent, HasSent}
 use Rattle.gtp_machine.proofs.Worlds.Beginning as first
 use Rattle.gtp_machine.proofs.Worlds.Beginning.{plain_qos, control, user, serving_ip, packet_ip, serving_config, packet_config, packet_heard, w0}
-use Rattle.gtp_machine.proofs.Exchange.Ranges.{alone, spelled_cause as cause, spelled_end, spelled_qos, zeros, given_written, request_sendable, response_sendable}
+use Rattle.gtp_machine.proofs.Exchange.Ranges.{alone, spelled_cause as cause, zeros, given_written, request_sendable, response_sendable}
+use Rattle.gtp_machine.proofs.Exchange.Added.{wanted_sendable, grant_sendable}
 use Rattle.gtp_machine.proofs.Exchange.Nodes.{type_is, can_be_had}
 use Rattle.gtp_machine.specs.Exchange.{IsTemplate, IsConfigured, IsQos, IsSpecified}
 use Rattle.gtp_machine.specs.Choice.{IsGiven, IsIdentity}
@@ -62,17 +60,6 @@ specified pdn = record {
   qos = quality;
 }
 
--- the values of its elements are spelled by what is written
-qos : HasKind 80 (OfQos plain_qos)
-qos = spelled_qos plain_qos quality
-
--- an F-TEID of one of the two gateways
-at_serving : (interface teid : ℕ) → interface < 64 → teid < 2 ^ 32 → HasKind 87 (OfFTeid (tunnel_end interface teid serving_ip))
-at_serving interface teid low small = spelled_end interface teid serving_ip serving_is.user low small
-
-at_packet : (interface teid : ℕ) → interface < 64 → teid < 2 ^ 32 → HasKind 87 (OfFTeid (tunnel_end interface teid packet_ip))
-at_packet interface teid low small = spelled_end interface teid packet_ip (packet_is 0 (omega arith)).user low small
-
 module _ (pdn count : ℕ) (address : PdnAddress) (few : count ≤ 65536) (given : IsGiven (packet_heard pdn count address) pdn address) where
   identity : IsIdentity 5
   identity = record { low = omega arith; high = omega arith }
@@ -87,45 +74,10 @@ module _ (pdn count : ℕ) (address : PdnAddress) (few : count ≤ 65536) (given
   session_response = response_sendable (w0 count).serving.node (first.spec pdn) control user 0 serving_is (specified pdn) identity known (omega arith) (omega arith) (omega arith) (omega arith) (packet_heard pdn count address) control user address (packet_is count few) (omega arith) (omega arith) (omega arith) (given_written (packet_heard pdn count address) (packet_is count few) pdn address given)
 
 pub bearer_request : IsSendable (Create_bearer_request r)
-unfolding encoding_of value_encoding groups_encoding several_encoding
-bearer_request = record {
-  own = tt;
-  meets = record {
-    header = (omega arith, omega arith);
-    kinds = (
-      tt,
-      (
-        ebi_again 5 (omega arith),
-        (
-          alone (RowsHaveKinds bearer_request_context_rows) _ (ebi_again 0 (omega arith), (tft_again (33 ∷ []) (omega arith), (at_packet 5 dedicated (omega arith) (omega arith), (qos, (charging_id_again dedicated (omega arith), tt))))),
-          tt,
-        ),
-      ),
-    );
-    marks = search rules;
-    short = omega arith;
-  };
-  octets = closed _ refl;
-}
+bearer_request = wanted_sendable control 0 5 (33 ∷ []) plain_qos dedicated packet_ip (omega arith) (omega arith) (record { low = omega arith; high = omega arith }) (omega arith) (All-from_recursion (λ octet. octet < 256) (33 ∷ []) (omega arith, tt)) quality (omega arith) (ip 2 (omega arith))
 
 pub bearer_response : IsSendable (Create_bearer_response x)
-unfolding encoding_of value_encoding groups_encoding several_encoding
-bearer_response = record {
-  own = tt;
-  meets = record {
-    header = (omega arith, omega arith);
-    kinds = (
-      cause 16,
-      (
-        alone (RowsHaveKinds bearer_response_context_rows) _ (ebi_again 6 (omega arith), (cause 16, (at_serving 4 dedicated (omega arith) (omega arith), (at_packet 5 dedicated (omega arith) (omega arith), tt)))),
-        (recovery_again 1, tt),
-      ),
-    );
-    marks = search rules;
-    short = omega arith;
-  };
-  octets = closed _ refl;
-}
+bearer_response = grant_sendable control 0 1 dedicated packet_ip (omega arith) (omega arith) (omega arith) (omega arith) (ip 2 (omega arith)) 6 dedicated serving_ip (record { low = omega arith; high = omega arith }) (omega arith) (ip 1 (omega arith))
 
 pub delete_bearer_request : IsSendable (Delete_bearer_request (record { header = control; number = 0; linked = None; identities = 6 ∷ [] }))
 unfolding encoding_of value_encoding groups_encoding several_encoding

@@ -7,35 +7,17 @@ use Rattle.gtp_machine.proofs.Sound.Reads.{reads_whole, pair_reads_whole, taken_
 use Rattle.gtp_machine.proofs.Sound.Changes.{fresh}
 use Rattle.gtp_machine.proofs.laws.sound_nodes.Goals as goal
 
-pub returns-clause-starts : goal.returns-clause-starts
-returns-clause-starts c = λ role config counter. fresh role config counter
-
-pub returns-clause-stays : goal.returns-clause-stays
-returns-clause-stays c = stays_sound
-
-pub returns-clause-reached : goal.returns-clause-reached
-returns-clause-reached c = reached_sound
-
-pub returns-clause-steps : goal.returns-clause-steps
-returns-clause-steps c = always_steps
-
-pub returns-clause-ticks : goal.returns-clause-ticks
-returns-clause-ticks c = tick_stays_sound
-
-pub returns-clause-always_ticks : goal.returns-clause-always_ticks
-returns-clause-always_ticks c = always_ticks
-
-pub returns-clause-gives_up : goal.returns-clause-gives_up
-returns-clause-gives_up c = gives_up_due
-
-pub returns-clause-breaks : goal.returns-clause-breaks
-returns-clause-breaks c = breaks_by_default
-
-pub returns-clause-whole : goal.returns-clause-whole
-returns-clause-whole c = reads_whole
-
-pub returns-clause-pair_whole : goal.returns-clause-pair_whole
-returns-clause-pair_whole c = pair_reads_whole
-
-pub returns-clause-taken_whole : goal.returns-clause-taken_whole
-returns-clause-taken_whole c = taken_whole
+pub returns : goal.returns
+returns c = record {
+  starts = λ role config counter. fresh role config counter;
+  stays = stays_sound;
+  reached = reached_sound;
+  steps = always_steps;
+  ticks = tick_stays_sound;
+  always_ticks = always_ticks;
+  gives_up = gives_up_due;
+  breaks = breaks_by_default;
+  whole = reads_whole;
+  pair_whole = pair_reads_whole;
+  taken_whole = taken_whole;
+}
