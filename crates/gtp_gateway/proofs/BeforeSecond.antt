@@ -30,7 +30,7 @@ use Rattle.gtp_gateway.specs.receive.Piggybacked.{session_left, node_after_first
 use Rattle.gtp_gateway.specs.command.Purpose.{session_of, bearer_of}
 use Rattle.gtp_gateway.specs.receive.CreateSessionResponse.{IsOfSession}
 use Rattle.gtp_gateway.specs.tables.Opening.{node_by, IsOpenedAt, CanApply}
-use Rattle.gtp_gateway.proofs.Opened.{kept_insert, bearer_stood}
+use Rattle.gtp_gateway.proofs.Opened.{none_where, kept_insert, bearer_stood}
 use Rattle.gtp_gateway.proofs.RestartCounters.{config_stays, counter_stays, drawn_stays, held_stays}
 
 -- ---- what a verdict leaves as it was
@@ -43,12 +43,10 @@ record IsLike (n old : Node) : Type 0 where
   held : n.held ≡ old.held
 
 by_like : (v : ResponseVerdict) (number : ℕ) (n : Node) → IsLike (node_by v number n) n
-by_like (Drops why) number n = record { config = refl; counter = refl; drawn = refl; held = refl }
 by_like (Finishes purpose outcome) number n =
     let s = Shrunk-finished n number (session_of purpose) (bearer_of purpose) in
     record { config = s.config; counter = s.counter; drawn = s.drawn; held = s.held }
-by_like (OpensSession session opened at bearer) number n = record { config = refl; counter = refl; drawn = refl; held = refl }
-by_like (OpensBearer at bearer) number n = record { config = refl; counter = refl; drawn = refl; held = refl }
+by_like v number n = record { config = refl; counter = refl; drawn = refl; held = refl }
 
 module _ (heard : Heard) (v : ResponseVerdict) (number : ℕ) (n : Node) where
   abbrev left : Node
@@ -115,12 +113,9 @@ module _ (n : Node) (t : ℕ) (b : Bearer) where
 
   -- it stays as the counter is heard
   pub heard_more : (heard : Heard) → IsSpared heard b.session n.sessions → node_heard heard more ≡ record (node_heard heard n) { bearers = insert (node_heard heard n).bearers t b }
-  heard_more heards.Nothing spared = refl
-  heard_more (heards.First counter) spared = refl
-  heard_more (heards.Same counter) spared = refl
   heard_more (heards.Later counter) spared =
       λ i. record (node_heard (heards.Later counter) n) { bearers = kept_insert (λ (k : ℕ) (x : Bearer). not (false || is_opened (get n.sessions x.session))) n.bearers t b (ap not spared) i }
-  heard_more (heards.Earlier counter) spared = refl
+  heard_more heard spared = refl
 
   swapped : (at : ℕ) (bearer : Bearer) → t ≢ at → insert (insert n.bearers t b) at bearer ≡ insert (insert n.bearers at bearer) t b
   swapped at bearer other = same_map nat_cmp_total nat_cmp-IsAntisymmetric _ _ (λ q. let it : get (insert (insert n.bearers t b) at bearer) q ≡ get (insert (insert n.bearers at bearer) t b) q = grind (arith, gets, nat_tests, other) in it)
@@ -147,10 +142,9 @@ module _ (n : Node) (t : ℕ) (b : Bearer) where
 
   -- the response can still be applied
   can_more : (v : ResponseVerdict) → IsBeside v t b → CanApply v n → CanApply v more
-  can_more (Drops why) beside can = tt
-  can_more (Finishes purpose outcome) beside can = tt
   can_more (OpensSession session opened at bearer) beside can = (can.0, opened_more at bearer beside can.1)
   can_more (OpensBearer at bearer) beside can = opened_more at bearer beside can
+  can_more v beside can = tt
 
 -- so both may be done in either order
 pub settled_more : (heard : Heard) (v : ResponseVerdict) (number : ℕ) (n : Node) (t : ℕ) (b : Bearer) → MayStand heard v t b n
@@ -163,15 +157,12 @@ can_settle_more heard v n t b may can = subst (CanApply v) (sym (heard_more n t 
 -- ---- a bearer of a session that is active then may be put in before
 
 spared : (heard : Heard) (n : Node) (t : ℕ) (x : Session) → get (node_heard heard n).sessions t ≡ Some x → IsSpared heard t n.sessions
-spared heards.Nothing n t x is = tt
-spared (heards.First counter) n t x is = tt
-spared (heards.Same counter) n t x is = tt
 spared (heards.Later counter) n t x is = by (is_opened (get n.sessions t)) (found-kept (λ k (s : Session). not (is_opened (get n.sessions k))) n.sessions t x is).0
   where
     by : (b : Bool) → not b ≡ true → b ≡ false
     by true is = absurd (cc is)
     by false is = refl
-spared (heards.Earlier counter) n t x is = tt
+spared heard n t x is = tt
 
 beside : (v : ResponseVerdict) (number : ℕ) (heard : Heard) (n : Node) (t : ℕ) (b : Bearer) (s : Session) → IsOfSession v (node_heard heard n) → CanApply v (node_heard heard n) → IsAbove n.bearers t → get (node_after_first heard v number n).sessions b.session ≡ Some s → IsBeside v t b
 beside (Drops why) number heard n t b s of can above is = tt
@@ -316,11 +307,8 @@ module _ (n : Node) (number : ℕ) (t : ℕ) where
   finished_gone : (session bearer : Option ℕ) → bearer ≡ None → goes_by session bearer ≡ true → None ≡ get (finished_about n number session bearer).sessions t
   finished_gone session (Some b) none goes = absurd cc
   finished_gone None None none goes = absurd cc
-  finished_gone (Some gone) None none goes = by (get (finished_about n number (Some gone) None).sessions t) refl
-    where
-      by : (o : Option Session) → get (finished_about n number (Some gone) None).sessions t ≡ o → None ≡ o
-      by None is = refl
-      by (Some s) is = absurd ((finished_session n number (Some gone) None refl t s is).1 gone refl (sym (same_number gone t (sym (or_none (gone == t)) ∙ goes))))
+  finished_gone (Some gone) None none goes = sym (none_where (get (finished_about n number (Some gone) None).sessions t) (λ s is.
+      (finished_session n number (Some gone) None refl t s is).1 gone refl (sym (same_number gone t (sym (or_none (gone == t)) ∙ goes)))))
 
   finished_stays : (session bearer : Option ℕ) → bearer ≡ None → goes_by session bearer ≡ false → get n.sessions t ≡ get (finished_about n number session bearer).sessions t
   finished_stays session (Some b) none stays = absurd cc
@@ -339,11 +327,7 @@ module _ (n : Node) (number : ℕ) (t : ℕ) where
 
       by : (o : Option Session) → get n.sessions t ≡ o → o ≡ get (kept test n.sessions) t
       by (Some s) is = sym (get-kept test n.sessions t s is (passes s))
-      by None is = by_kept (get (kept test n.sessions) t) refl
-        where
-          by_kept : (o : Option Session) → get (kept test n.sessions) t ≡ o → None ≡ o
-          by_kept None there = refl
-          by_kept (Some s) there = let both : None ≡ Some s = sym is ∙ (found-kept test n.sessions t s there).1 in cc
+      by None is = sym (none_where (get (kept test n.sessions) t) (λ s there. let both : None ≡ Some s = sym is ∙ (found-kept test n.sessions t s there).1 in cc))
 
   finished_left : (session bearer : Option ℕ) → bearer ≡ None → (b : Bool) → goes_by session bearer ≡ b → (if b then None else get n.sessions t) ≡ get (finished_about n number session bearer).sessions t
   finished_left session bearer none true goes = finished_gone session bearer none goes

@@ -12,7 +12,7 @@ use Rattle.gtp_tables.specs.Part.{part_in}
 use Rattle.gtp_machine.specs.Choice.{asked_by}
 use Rattle.gtp_machine.specs.Node.{Session, Node}
 use Rattle.gtp_gateway.specs.declared.receive.create_bearer_request.judge.CreateBearerAnswer.{CreateBearerAnswer}
-use Rattle.gtp_gateway.specs.declared.receive.create_bearer_request.judge.CreateBearerAnswer.TheVariants.{Refused, NoResources, Granted}
+use Rattle.gtp_gateway.specs.declared.receive.create_bearer_request.judge.CreateBearerAnswer.TheVariants.{Granted}
 use Rattle.gtp_gateway.specs.declared.receive.create_bearer_request.BearerRequest.{BearerRequest}
 use Rattle.gtp_gateway.specs.declared.receive.restart_counter.Heard.{Heard}
 use Rattle.gtp_gateway.specs.declared.receive.create_session_request.judge.SessionGrant.{SessionGrant}
@@ -51,8 +51,6 @@ lowest_session identity pdn r g heard old new chosen is = record {
 }
 
 pub lowest_bearer : (r : BearerRequest) (a : CreateBearerAnswer) (old new : Node) → IsChosen r.header a old → new.bearers ≡ (changed_by (change_for r a) old).bearers → is_granted a ≡ true → MakesLowestBearer old new
-lowest_bearer r (Refused cause) old new chosen is granted = absurd cc
-lowest_bearer r NoResources old new chosen is granted = absurd cc
 lowest_bearer r (Granted g) old new chosen is granted = record {
   teid = g.drawn.teid;
   bearer = granted_to r g.identity;
@@ -64,3 +62,4 @@ lowest_bearer r (Granted g) old new chosen is granted = record {
   has = refl;
   lowest = chosen.identity;
 }
+lowest_bearer r a old new chosen is granted = absurd cc

@@ -22,7 +22,7 @@ use Rattle.gtp_gateway.specs.declared.receive.restart_counter.Heard.TheVariants 
 use Rattle.gtp_gateway.specs.tables.Change.{IsAbove}
 use Rattle.gtp_gateway.specs.receive.RestartCounter.{node_heard}
 use Rattle.gtp_gateway.proofs.RestartCounters.{counter_stays, drawn_stays}
-use Rattle.gtp_gateway.proofs.Opened.{kept_insert, session_stood}
+use Rattle.gtp_gateway.proofs.Opened.{none_where, kept_insert, session_stood}
 use Rattle.gtp_gateway.proofs.Templates.{same_octets}
 
 -- ---- what hearing leaves as it was
@@ -46,11 +46,7 @@ below_itself n h = omega (arith, h)
 
 -- under a TEID above all others nothing stands
 pub none_above : {X : Type 0} (table : FiniteMap X) (t : ℕ) → IsAbove table t → get table t ≡ None
-none_above {X} table t above = by (get table t) refl
-  where
-    by : (o : Option X) → get table t ≡ o → o ≡ None
-    by None is = refl
-    by (Some s) is = absurd (below_itself t (above t s is))
+none_above table t above = none_where (get table t) (λ x is. below_itself t (above t x is))
 
 -- a TEID above all others is above one more below it
 pub above_one : {X : Type 0} (table : FiniteMap X) (u t : ℕ) (x : X) → IsAbove table t → u < t → IsAbove (insert table u x) t
@@ -71,13 +67,10 @@ with_bearer n t b = record n { bearers = insert n.bearers t b }
 
 -- it stays, where its session is not there yet
 pub heard_with : (heard : Heard) (n : Node) (t : ℕ) (b : Bearer) → get n.sessions b.session ≡ None → node_heard heard (with_bearer n t b) ≡ with_bearer (node_heard heard n) t b
-heard_with heards.Nothing n t b none = refl
-heard_with (heards.First counter) n t b none = refl
-heard_with (heards.Same counter) n t b none = refl
 heard_with (heards.Later counter) n t b none =
     let stays = ap (λ (o : Option Session). not (false || is_opened o)) none in
     λ i. record (node_heard (heards.Later counter) n) { bearers = kept_insert (λ (k : ℕ) (x : Bearer). not (false || is_opened (get n.sessions x.session))) n.bearers t b stays i }
-heard_with (heards.Earlier counter) n t b none = refl
+heard_with heard n t b none = refl
 
 -- ---- addresses
 

@@ -13,13 +13,14 @@ use Rattle.gtp_reliable.specs.Held.{HeldPair, AreApart}
 use Rattle.gtp_reliable.specs.Pending.{AreDistinct}
 use Rattle.gtp_reliable.specs.Waiting.{Waiting, just_sent}
 use Rattle.gtp_machine.specs.Message.{Plane, Control, User, CreateSessionResponse, CreateBearerRequest, Create_session_response, Create_bearer_request}
-use Rattle.gtp_machine.specs.Node.{PendingRequest, Arrival, Held, Node, Bearer}
+use Rattle.gtp_machine.specs.Node.{PendingRequest, Arrival, Held, Node}
 use Rattle.gtp_machine.specs.Input.{Came_to, Command, Commanded, Mark_end, Send_user, Control_came, ControlReading, Entry, Out, Effect, Input, EventOutcome, Control_message}
 use Rattle.gtp_machine.specs.Choice.{HasPending}
 use Rattle.gtp_machine.specs.Spelling.{datagram_of}
 use Rattle.gtp_machine.specs.declared.outcome.Outcome.{Outcome}
 use Rattle.gtp_machine.specs.declared.outcome.Outcome.TheVariants as outcomes
 use Rattle.gtp_machine.specs.Determined.{OneAnswerPerRequest}
+use Rattle.gtp_machine.proofs.Basics.Finishing.{on_session_answered, on_hears}
 use Rattle.gtp_machine.proofs.Basics.FiniteMaps.{found-insert, get-insert_same, get-insert_other, found-kept}
 use Rattle.gtp_machine.proofs.Determined.Alike.{Fits, sound_fits, WaitsBeside, PickAlike, Alike}
 use Rattle.gtp_machine.proofs.Determined.Commands.{packet_sent, end_marked}
@@ -34,13 +35,10 @@ use Rattle.gtp_machine.specs.Reading.{Both, datagram_reading}
 use Rattle.gtp_machine.specs.Step.{Step as MachineStep, TakesPair}
 use Rattle.gtp_machine.specs.Serving.{CreateSessionAnswered}
 use Rattle.gtp_machine.specs.Answer.{Repeats}
-use Rattle.gtp_machine.specs.Recovery.{Judges, Weighs, Hears, peer_restarted}
+use Rattle.gtp_machine.specs.Recovery.{Hears, peer_restarted}
 use Rattle.gtp_machine.specs.Removal.{finished}
 use Rattle.gtp_machine.specs.declared.role.Role.{Role}
 use Rattle.gtp_machine.specs.declared.role.Role.TheVariants.{Serving, Packet}
-use Rattle.gtp_values.specs.Counter.{age_of}
-use Rattle.gtp_values.specs.declared.counter.Age.{Age}
-use Rattle.gtp_values.specs.declared.counter.Age.TheVariants as ages
 use Rattle.gtp_machine.proofs.Changes.Shrinking.{Shrunk-finished}
 use Rattle.gtp_machine.proofs.Requests.Opening.{IsMute, opening, same_drawn, same_held, none_made}
 use Rattle.gtp_machine.proofs.Sound.Rows.{stays_sound}
@@ -60,6 +58,7 @@ use Rattle.gtp_gateway.specs.user.Receive.{AreEntries}
 use Rattle.gtp_gateway.proofs.Answers.{none_held}
 use Rattle.gtp_gateway.proofs.ChosenOnce.{one_lowest_address, one_lowest_identity, lowest_address, lowest_identity, one_drawn, one_next}
 use Rattle.gtp_gateway.proofs.LeftAlike.{KeepsOnce, number_begun, left_by, one_left, left_ticked, left_goes}
+use Rattle.gtp_gateway.proofs.Opened.{none_where}
 use Rattle.gtp_gateway.proofs.Requests.{pending_push}
 
 -- ---- what is asked of a gateway
@@ -91,18 +90,16 @@ same_outcome a b e = cc
 -- what is told by a number that tells all of it
 one_told : {X : Type 0} (number : X → ℕ) → ((x y : X) → number x ≡ number y → x ≡ y) → (a b : Option X) → option_map number a ≡ option_map number b → a ≡ b
 one_told number all None None e = refl
-one_told number all None (Some y) e = cc
-one_told number all (Some x) None e = cc
 one_told number all (Some x) (Some y) e = let same : number x ≡ number y = cc in ap (λ k. Some k) (all x y same)
+one_told number all a b e = cc
 
 same_heard : (a b : Option Counter) → option_map (λ (c : Counter). c.0) a ≡ option_map (λ (c : Counter). c.0) b → a ≡ b
 same_heard = one_told (λ (c : Counter). c.0) (λ c d same. ap (λ (k : ℕ). let n : Counter = record { 0 = k } in n) same)
 
 same_made : (request : Arrival) (a b : Bool) → made_for request a ≡ made_for request b → a ≡ b
 same_made request true true e = refl
-same_made request true false e = cc
-same_made request false true e = cc
 same_made request false false e = refl
+same_made request a b e = cc
 
 is_made : (request : Arrival) (made : Bool) (arrivals : List Arrival) → made_for request made ≡ arrivals → arrivals ≢ [] → made ≡ true
 is_made request true arrivals e some = refl
@@ -200,46 +197,35 @@ module _ (plane : Plane) (source : Endpoint) (octets : List ℕ) (old : GatewayS
 
 -- a bearer that stands after a response stood before
 finished_bearer : (old : Node) (number : ℕ) (p : PendingRequest) (t : ℕ) → get old.bearers t ≡ None → get (finished old number p).bearers t ≡ None
-finished_bearer old number p t none = by (get (finished old number p).bearers t) refl
-  where
-    by : (o : Option Bearer) → get (finished old number p).bearers t ≡ o → o ≡ None
-    by None is = refl
-    by (Some b) is = let stood = (Shrunk-finished old number p.session p.bearer).shrinks.bearers t b is in let both : None ≡ Some stood.before = sym none ∙ stood.stood in absurd (cc both)
+finished_bearer old number p t none = none_where (get (finished old number p).bearers t) (λ b is.
+    let stood = (Shrunk-finished old number p.session p.bearer).shrinks.bearers t b is in
+    let both : None ≡ Some stood.before = sym none ∙ stood.stood in
+    cc)
 
-answered_bearer : (a : CreateSessionResponse) (old : Node) (e : Effect) (t : ℕ) → CreateSessionAnswered a old e → get old.bearers t ≡ None → get e.node.bearers t ≡ None
-answered_bearer a old e t (inl f) none = ap (λ (x : Effect). get x.node.bearers t) f.1 ∙ none
-answered_bearer a old e t (inr (b, inl f)) none = ap (λ (x : Effect). get x.node.bearers t) f.1 ∙ none
-answered_bearer a old e t (inr (b, inr (c, inl f))) none = ap (λ (x : Effect). get x.node.bearers t) f.1 ∙ finished_bearer old a.number b.pending t none
-answered_bearer a old e t (inr (b, inr (c, inr (d, inl f)))) none = ap (λ (x : Effect). get x.node.bearers t) f.1 ∙ none
-answered_bearer a old e t (inr (b, inr (c, inr (d, inr (g, inl f))))) none = ap (λ (x : Effect). get x.node.bearers t) f.1 ∙ finished_bearer old a.number b.pending t none
-answered_bearer a old e t (inr (b, inr (c, inr (d, inr (g, inr (h, r)))))) none =
-    ap (λ (x : Effect). get x.node.bearers t) r.gives ∙ (get-insert_other old.bearers c.request.context.user.teid _ t (λ same. let both : None ≡ Some r.default.bearer = sym none ∙ (ap (get old.bearers) same ∙ r.default.stands) in cc) ∙ none)
+answered_bearer : (a : CreateSessionResponse) (t : ℕ) (old : Node) (e : Effect) → get old.bearers t ≡ None → CreateSessionAnswered a old e → get e.node.bearers t ≡ None
+answered_bearer a t old e none =
+    on_session_answered old e (λ outcome is. ap (λ (x : Effect). get x.node.bearers t) is ∙ none) a
+    (λ at outcome is. ap (λ (x : Effect). get x.node.bearers t) is ∙ finished_bearer old a.number at.pending t none)
+    (λ at fits accepts new both r.
+    let apart : t ≢ fits.request.context.user.teid = λ same. (let both : None ≡ Some r.default.bearer = sym none ∙ (ap (get old.bearers) same ∙ r.default.stands) in cc) in
+    ap (λ (x : Effect). get x.node.bearers t) r.gives ∙ (get-insert_other old.bearers fits.request.context.user.teid _ t apart ∙ none))
 
 restarted_bearer : (old : Node) (counter t : ℕ) → get old.bearers t ≡ None → get (peer_restarted old counter).bearers t ≡ None
-restarted_bearer old counter t none = by (get (peer_restarted old counter).bearers t) refl
-  where
-    by : (o : Option Bearer) → get (peer_restarted old counter).bearers t ≡ o → o ≡ None
-    by None is = refl
-    by (Some b) is = let both : None ≡ Some b = sym none ∙ (found-kept _ old.bearers t b is).1 in absurd (cc both)
+restarted_bearer old counter t none = none_where (get (peer_restarted old counter).bearers t) (λ b is. let both : None ≡ Some b = sym none ∙ (found-kept _ old.bearers t b is).1 in cc)
 
-judged_bearer : (a : CreateSessionResponse) (old : Node) (counter : ℕ) (age : Age) (e : Effect) (t : ℕ) → Judges (CreateSessionAnswered a) old counter age e → get old.bearers t ≡ None → get e.node.bearers t ≡ None
-judged_bearer a old counter ages.Same e t r none = answered_bearer a old e t r none
-judged_bearer a old counter ages.Later e t r none = answered_bearer a (peer_restarted old counter) e t r (restarted_bearer old counter t none)
-judged_bearer a old counter ages.Earlier e t r none = ap (λ (x : Effect). get x.node.bearers t) r ∙ none
-
-weighed_bearer : (a : CreateSessionResponse) (old : Node) (counter : ℕ) (known : Option ℕ) (e : Effect) (t : ℕ) → Weighs (CreateSessionAnswered a) old counter known e → get old.bearers t ≡ None → get e.node.bearers t ≡ None
-weighed_bearer a old counter None e t r none = answered_bearer a (record old { known = Some counter }) e t r none
-weighed_bearer a old counter (Some known) e t r none = judged_bearer a old counter (age_of known counter) e t r none
-
-heard_bearer : (a : CreateSessionResponse) (old : Node) (recovery : Option ℕ) (e : Effect) (t : ℕ) → Hears (CreateSessionAnswered a) old recovery e → get old.bearers t ≡ None → get e.node.bearers t ≡ None
-heard_bearer a old None e t r none = answered_bearer a old e t r none
-heard_bearer a old (Some counter) e t (x, weighs, is) none = ap (λ (k : Effect). get k.node.bearers t) is ∙ weighed_bearer a old counter old.known x t weighs none
+heard_bearer : (a : CreateSessionResponse) (t : ℕ) (old : Node) (recovery : Option ℕ) (e : Effect) → get old.bearers t ≡ None → Hears (CreateSessionAnswered a) old recovery e → get e.node.bearers t ≡ None
+heard_bearer a t old recovery e none =
+    on_hears (λ x. get x.node.bearers t ≡ None) (CreateSessionAnswered a) old
+    (λ x. answered_bearer a t old x none)
+    (λ c x. answered_bearer a t (record old { known = Some c }) x none)
+    (λ c x. answered_bearer a t (peer_restarted old c) x (restarted_bearer old c t none))
+    (λ x outcome is. ap (λ (k : Effect). get k.node.bearers t) is ∙ none) (λ x heard learned so. so) recovery e
 
 opening_bearer : (request : Arrival) (a : CreateSessionResponse) (old : Node) (e : Effect) (t : ℕ) → MachineStep Serving old (Control_came request (Control_message (Create_session_response a))) e → get old.bearers t ≡ None → get e.node.bearers t ≡ None
 opening_bearer request a old e t (inl f) none = ap (λ (x : Effect). get x.node.bearers t) f.1 ∙ none
 opening_bearer request a old e t (inr (peer, inl r)) none = ap (λ (x : Effect). get x.node.bearers t) r.gives ∙ none
 opening_bearer request a old e t (inr (peer, inr (new, inl f))) none = ap (λ (x : Effect). get x.node.bearers t) f.1 ∙ none
-opening_bearer request a old e t (inr (peer, inr (new, inr (kind, r)))) none = heard_bearer a old a.recovery e t r none
+opening_bearer request a old e t (inr (peer, inr (new, inr (kind, r)))) none = heard_bearer a t old a.recovery e none r
 
 module _ (source : Endpoint) (octets : List ℕ) (old : GatewayState) (whole : IsSoundState old) (once : OneAnswerPerRequest old.node) (apart : AreDistinct old.queues.waiting) (serving : old.role ≡ Serving) (a : CreateSessionResponse) (q : CreateBearerRequest) (step other : Step) (new left : GatewayState)
     (m : AreReceived source octets a q old step new) (n : AreReceived source octets a q old other left) (goes : QueuesAfterMessage source (second_part octets) old new) (also_goes : QueuesAfterMessage source (second_part octets) old left) (between : IsSoundState (record old { node = m.first.node })) (chooses : ChoosesLowest step.report.made old.role old.node new.node) (also_chooses : ChoosesLowest other.report.made old.role old.node left.node) where

@@ -18,9 +18,7 @@ use Rattle.gtp_gateway.proofs.Columns.{session_stands}
 
 three : (a b c : Bool) → (a && b && c) ≡ true → (a ≡ true) × (b ≡ true) × (c ≡ true)
 three true true true h = (refl, refl, refl)
-three true true false h = absurd cc
-three true false c h = absurd cc
-three false b c h = absurd cc
+three a b c h = absurd cc
 
 module _ (m : FiniteMap Bearer) (remote session : ℕ) where
   among : HasDefault m remote session → default_among remote session m ≡ true

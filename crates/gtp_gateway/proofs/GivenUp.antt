@@ -3,16 +3,16 @@ use Rattle.std.proofs.Common.{◌≡◌, inl, inr, ℕ, Bool, true, false, cond,
 use Rattle.std.specs.Prelude.{filter, not, ◌||◌, ◌&&◌, ◌==◌}
 use Rattle.std.specs.List.{AllByRecursion, filter_map, cons_option}
 use Rattle.std.proofs.lemmas.List.Elements.{All-from_recursion, recursion_from_All}
-use Rattle.std.specs.FinMap.{get, find, from_entries, get-from_entries}
-use Rattle.std.specs.Ordering.{nat_cmp, eq_by_cmp}
-use Rattle.std.specs.Cmp.{nat_cmp_total}
+use Rattle.std.specs.FinMap.{get, from_entries}
+use Rattle.std.specs.Ordering.{nat_cmp}
 use Rattle.gtp_values.specs.declared.address.Ip.{Ip}
 use Rattle.gtp_values.specs.FiniteMap.{Among}
 use Rattle.gtp_reliable.specs.declared.waiting.NextTick.{NextTick}
-use Rattle.gtp_reliable.specs.declared.waiting.NextTick.TheVariants.{WaitsOn, SentAgain, GivenUp}
+use Rattle.gtp_reliable.specs.declared.waiting.NextTick.TheVariants.{GivenUp}
+use Rattle.gtp_reliable.proofs.Requests.{distinct_filter}
 use Rattle.gtp_reliable.proofs.Told.{filter_twice}
+use Rattle.gtp_reliable.specs.Pending.{AreDistinct}
 use Rattle.gtp_reliable.specs.Waiting.{Waiting, next_tick, after_tick, after_tick_by, given_up, given_up_by}
-use Rattle.gtp_tables.proofs.Found.{key_itself}
 use Rattle.gtp_machine.specs.Input.{Ticked, Move, Give_up, Out, nothing}
 use Rattle.gtp_machine.specs.Node.{PendingRequest, Node}
 use Rattle.gtp_machine.specs.Removal.{on, finished_about, finished}
@@ -28,6 +28,7 @@ use Rattle.gtp_gateway.specs.GatewayState.{GatewayState}
 use Rattle.gtp_gateway.specs.Tick.{GivesUpOne, GivesUpEach}
 use Rattle.gtp_gateway.specs.user.Receive.{RequestsWaitOn}
 use Rattle.gtp_gateway.proofs.UserRows.{all_wait}
+use Rattle.gtp_gateway.proofs.Requests.{stands_there}
 
 -- ---- the moves
 
@@ -69,9 +70,8 @@ not_first true b is h = cc
 not_first false b is h = cc
 
 not_second : (a b : Bool) → b ≡ true → not (a || b) ≡ true → ⊥
-not_second true b is h = cc
 not_second false true is h = cc
-not_second false false is h = cc
+not_second a b is h = cc
 
 gone_about : (node : Node) (number : ℕ) (session bearer : Option ℕ) (p : PendingRequest) → p.session ≡ session → p.bearer ≡ bearer → get node.pending number ≡ Some p → (q : PendingRequest) → get (finished_about node number session bearer).pending number ≡ Some q → ⊥
 gone_about node number session (Some t) p s b waits q still =
@@ -101,21 +101,6 @@ none_waits (number ∷ numbers) old told new (inr (at, (others, each, told_is)))
 
 -- ---- the requests that are left
 
-record Found (ws : List (Waiting Purpose)) (n : ℕ) : Type 0 where
-  pub request : PendingRequest
-  pub stands : find nat_cmp n (map pending_of ws) ≡ Some request
-
-found : (ws : List (Waiting Purpose)) (w : Waiting Purpose) → Among w ws → Found ws w.seq
-found [] w among = absurd among
-found (v ∷ ws) w (inl is) =
-    subst (λ (x : Waiting Purpose). Found (v ∷ ws) x.seq) (sym is)
-    (record { request = (pending_of v).1; stands = ap (λ (b : Bool). cond b (Some (pending_of v).1) (find nat_cmp v.seq (map pending_of ws))) (key_itself v.seq) })
-found (v ∷ ws) w (inr there) = by (eq_by_cmp nat_cmp w.seq v.seq) refl (found ws w there)
-  where
-    by : (b : Bool) → eq_by_cmp nat_cmp w.seq v.seq ≡ b → Found ws w.seq → Found (v ∷ ws) w.seq
-    by true same later = record { request = (pending_of v).1; stands = ap (λ (b : Bool). cond b (Some (pending_of v).1) (find nat_cmp w.seq (map pending_of ws))) same }
-    by false other later = record { request = later.request; stands = ap (λ (b : Bool). cond b (Some (pending_of v).1) (find nat_cmp w.seq (map pending_of ws))) other ∙ later.stands }
-
 filtered : (stays : Waiting Purpose → Bool) (ws : List (Waiting Purpose)) (w : Waiting Purpose) → Among w (filter stays ws) → Among w ws
 filtered stays [] w among = among
 filtered stays (v ∷ ws) w among = by (stays v) (filtered stays ws w) among
@@ -136,38 +121,34 @@ is_due t3 n3 (v ∷ ws) w (inl is) up =
 is_due t3 n3 (v ∷ ws) w (inr there) up = by (next_tick t3 n3 v) (is_due t3 n3 ws w there up)
   where
     by : (t : NextTick) → Among w.seq (give_ups_in t3 n3 ws) → Among w.seq (map (λ (g : ℕ × Purpose). g.0) (cons_option (given_up_by t v) (filter_map (given_up t3 n3) ws)))
-    by WaitsOn later = later
-    by SentAgain later = later
     by GivenUp later = inr later
+    by t later = later
 
 -- nothing more is given up of what waits on
-none_due : (t3 n3 : ℕ) (ws : List (Waiting Purpose)) (stays : Waiting Purpose → Bool) (old : Node) (told : List ℕ) (new : Node) → GivesUpEach old (give_ups_in t3 n3 ws) told new → new.pending ≡ pending_in (filter stays ws) → (w : Waiting Purpose) → Among w (filter stays ws) → next_tick t3 n3 w ≡ GivenUp → ⊥
-none_due t3 n3 ws stays old told new each pending w among up =
-    let there = found (filter stays ws) w among in
-    none_waits (give_ups_in t3 n3 ws) old told new each w.seq (is_due t3 n3 ws w (filtered stays ws w among) up) there.request
-    ((λ i. get (pending i) w.seq) ∙ (get-from_entries nat_cmp_total (map pending_of (filter stays ws)) w.seq ∙ there.stands))
+none_due : (t3 n3 : ℕ) (ws : List (Waiting Purpose)) → AreDistinct ws → (stays : Waiting Purpose → Bool) (old : Node) (told : List ℕ) (new : Node) → GivesUpEach old (give_ups_in t3 n3 ws) told new → new.pending ≡ pending_in (filter stays ws) → (w : Waiting Purpose) → Among w (filter stays ws) → next_tick t3 n3 w ≡ GivenUp → ⊥
+none_due t3 n3 ws distinct stays old told new each pending w among up =
+    none_waits (give_ups_in t3 n3 ws) old told new each w.seq (is_due t3 n3 ws w (filtered stays ws w among) up) (pending_of w).1
+    ((λ i. get (pending i) w.seq) ∙ stands_there (filter stays ws) w (distinct_filter stays ws distinct) among)
 
 same_pending : (t3 n3 : ℕ) (ws : List (Waiting Purpose)) → ((w : Waiting Purpose) → Among w ws → next_tick t3 n3 w ≡ GivenUp → ⊥) → map pending_of ws ≡ map pending_of (filter_map (after_tick t3 n3) ws)
 same_pending t3 n3 [] none = refl
 same_pending t3 n3 (w ∷ ws) none = by (next_tick t3 n3 w) refl (same_pending t3 n3 ws (λ v among. none v (inr among)))
   where
     by : (t : NextTick) → next_tick t3 n3 w ≡ t → map pending_of ws ≡ map pending_of (filter_map (after_tick t3 n3) ws) → pending_of w ∷ map pending_of ws ≡ map pending_of (cons_option (after_tick_by t w) (filter_map (after_tick t3 n3) ws))
-    by WaitsOn is later = λ i. pending_of w ∷ later i
-    by SentAgain is later = λ i. pending_of w ∷ later i
     by GivenUp is later = absurd (none w (inl refl) is)
+    by t is later = λ i. pending_of w ∷ later i
 
 -- what waits on is pending as it was, once the tick has been counted
-pub pending_stays : (t3 n3 : ℕ) (ws : List (Waiting Purpose)) (stays : Waiting Purpose → Bool) (old : Node) (told : List ℕ) (new : Node) → GivesUpEach old (give_ups_in t3 n3 ws) told new → new.pending ≡ pending_in (filter stays ws) → pending_in (filter stays ws) ≡ pending_in (filter_map (after_tick t3 n3) (filter stays ws))
-pending_stays t3 n3 ws stays old told new each pending = ap (λ es. from_entries {R = nat_cmp} es) (same_pending t3 n3 (filter stays ws) (none_due t3 n3 ws stays old told new each pending))
+pub pending_stays : (t3 n3 : ℕ) (ws : List (Waiting Purpose)) → AreDistinct ws → (stays : Waiting Purpose → Bool) (old : Node) (told : List ℕ) (new : Node) → GivesUpEach old (give_ups_in t3 n3 ws) told new → new.pending ≡ pending_in (filter stays ws) → pending_in (filter stays ws) ≡ pending_in (filter_map (after_tick t3 n3) (filter stays ws))
+pending_stays t3 n3 ws distinct stays old told new each pending = ap (λ es. from_entries {R = nat_cmp} es) (same_pending t3 n3 (filter stays ws) (none_due t3 n3 ws distinct stays old told new each pending))
 
 asked_each : (peer : Ip) (t3 n3 : ℕ) (ws : List (Waiting Purpose)) → AllByRecursion (IsAsked peer) ws → AllByRecursion (IsAsked peer) (filter_map (after_tick t3 n3) ws)
 asked_each peer t3 n3 [] each = each
 asked_each peer t3 n3 (w ∷ ws) each = by (next_tick t3 n3 w) (asked_each peer t3 n3 ws each.1)
   where
     by : (t : NextTick) → AllByRecursion (IsAsked peer) (filter_map (after_tick t3 n3) ws) → AllByRecursion (IsAsked peer) (cons_option (after_tick_by t w) (filter_map (after_tick t3 n3) ws))
-    by WaitsOn later = (record { to = each.0.to; octets = each.0.octets; purpose = each.0.purpose }, later)
-    by SentAgain later = (record { to = each.0.to; octets = each.0.octets; purpose = each.0.purpose }, later)
     by GivenUp later = later
+    by t later = (record { to = each.0.to; octets = each.0.octets; purpose = each.0.purpose }, later)
 
 -- what waits on is kept as it is spelled
 pub asked_on : (peer : Ip) (t3 n3 : ℕ) (ws : List (Waiting Purpose)) → AreAsked peer ws → AreAsked peer (filter_map (after_tick t3 n3) ws)

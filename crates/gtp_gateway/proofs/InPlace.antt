@@ -18,9 +18,8 @@ use Rattle.gtp_machine.proofs.Octets.Readings.{reads_as, create_session_request_
 -- what was read of a row that may be absent is what it says
 pub row_said : {A : Type 0} (of : A → Value) (is : Value → Option A) → ((a : A) → is (of a) ≡ Some a) → (vs : List Value) (o : Option A) → option_map of o ≡ front_value vs → first_in is vs ≡ o
 row_said of is back [] None read = refl
-row_said of is back [] (Some a) read = absurd cc
-row_said of is back (v ∷ vs) None read = absurd cc
 row_said of is back (v ∷ vs) (Some a) read = ap is (sym (same_Some (of a) v read)) ∙ back a
+row_said of is back vs o read = absurd cc
 
 -- ---- the sender's restart counter
 
@@ -30,9 +29,8 @@ needed v (Some r) is = let same : OfRecovery r.0.0 ≡ v = cc in ap (λ (x : Val
 
 if_there : (vs : List Value) (r : Option Recovery) → option_map (λ (x : Recovery). OfRecovery x.0.0) r ≡ front_value vs → option_map (λ (x : Recovery). x.0.0) r ≡ first_in number_of vs
 if_there [] None is = refl
-if_there [] (Some r) is = absurd cc
-if_there (v ∷ vs) None is = absurd cc
 if_there (v ∷ vs) (Some r) is = let same : OfRecovery r.0.0 ≡ v = cc in ap number_of same
+if_there vs r is = absurd cc
 
 -- a type has a counter if its table has a row of it
 counter_row : (p : MessageType) → has_row (type_row p).kind 3 0 ≡ (type_row p).has_counter

@@ -22,7 +22,7 @@ use Rattle.gtp_gateway.specs.receive.Queues.{Beginning, held_with, begun_with, I
 use Rattle.gtp_gateway.specs.Parts.{held_of, pending_of, pending_in}
 use Rattle.gtp_gateway.proofs.Requests.{none_pending, pending_push, found_before, of_found}
 use Rattle.gtp_reliable.specs.declared.waiting.NextTick.{NextTick}
-use Rattle.gtp_reliable.specs.declared.waiting.NextTick.TheVariants.{WaitsOn, SentAgain, GivenUp}
+use Rattle.gtp_reliable.specs.declared.waiting.NextTick.TheVariants.{WaitsOn}
 use Rattle.gtp_machine.specs.Message.{Plane, Control, User}
 use Rattle.gtp_machine.specs.Input.{Command, Mark_end, Send_user}
 use Rattle.gtp_gateway.specs.declared.sent.Begun.{Begun}
@@ -43,9 +43,8 @@ taken false o ws = ws
 
 none_taken : (n : ℕ) (b : Bool) (o : Option (Waiting Purpose)) (ws : List (Waiting Purpose)) → ((v : Waiting Purpose) → o ≡ Some v → (v.seq == n) ≡ false) → is_pending n ws ≡ false → is_pending n (taken b o ws) ≡ false
 unfolding is_pending
-none_taken n false o ws other none = none
-none_taken n true None ws other none = none
 none_taken n true (Some v) ws other none = rw (other v refl) none
+none_taken n b o ws other none = none
 
 module _ (o : Option (Waiting Purpose)) (ws vs : List (Waiting Purpose)) (absent : (w : Waiting Purpose) → o ≡ Some w → get (pending_in ws) w.seq ≡ None) (missing : (w : Waiting Purpose) → o ≡ Some w → get (pending_in vs) w.seq ≡ None) (rest : pending_in ws ≡ pending_in vs → ws ≡ vs) where
   same_taken : (a b : Bool) → pending_in (taken a o ws) ≡ pending_in (taken b o vs) → taken a o ws ≡ taken b o vs
@@ -55,13 +54,10 @@ module _ (o : Option (Waiting Purpose)) (ws vs : List (Waiting Purpose)) (absent
       never m n key x is gone = let there : get n key ≡ Some x = ap (λ (k : FiniteMap PendingRequest). get k key) (sym is) ∙ get-insert_same m key x in cc
 
       by_option : (a b : Bool) (p : Option (Waiting Purpose)) → o ≡ p → pending_in (taken a p ws) ≡ pending_in (taken b p vs) → taken a p ws ≡ taken b p vs
-      by_option false false p is e = rest e
-      by_option false true None is e = rest e
-      by_option true false None is e = rest e
-      by_option true true None is e = rest e
       by_option false true (Some w) is e = absurd (never (pending_in vs) (pending_in ws) w.seq (pending_of w).1 (sym e) (absent w is))
       by_option true false (Some w) is e = absurd (never (pending_in ws) (pending_in vs) w.seq (pending_of w).1 e (missing w is))
       by_option true true (Some w) is e = ap (λ k. w ∷ k) (rest (same_beside (pending_in ws) (pending_in vs) w.seq (pending_of w).1 (pending_of w).1 (absent w is) (missing w is) e))
+      by_option a b p is e = rest e
 
 -- of requests, those that stay, each as a tick leaves it
 module _ (later : Waiting Purpose → Option (Waiting Purpose)) (numbered : (w v : Waiting Purpose) → later w ≡ Some v → v.seq ≡ w.seq) where
@@ -112,6 +108,17 @@ same_held source octets None None ps e = refl
 same_held source octets (Some a) (Some b) ps e = map_push held_as ps (just_kept source octets a) ∙ sym (map_push held_as ps (just_kept source octets b))
 same_held source octets None (Some b) ps e = absurd (longer ps (just_kept source octets b) e)
 same_held source octets (Some a) None ps e = absurd (longer ps (just_kept source octets a) (sym e))
+
+-- the same is left, where ticks go by queues that are alike
+left_as : (new left : GatewayState) → new.role ≡ left.role → new.node ≡ left.node → (a b : Queues) → new.queues ≡ a → left.queues ≡ b → a.timers ≡ b.timers → a.next ≡ b.next → map waits_as a.waiting ≡ map waits_as b.waiting → map held_as a.held ≡ map held_as b.held → AreLeftAlike new left
+left_as new left role node a b p q timers next waiting held = record {
+  role = role;
+  node = node;
+  timers = ap (λ (t : Queues). t.timers) p ∙ (timers ∙ sym (ap (λ (t : Queues). t.timers) q));
+  next = ap (λ (t : Queues). t.next) p ∙ (next ∙ sym (ap (λ (t : Queues). t.next) q));
+  waiting = ap (λ (t : Queues). map waits_as t.waiting) p ∙ (waiting ∙ sym (ap (λ (t : Queues). map waits_as t.waiting) q));
+  held = ap (λ (t : Queues). map held_as t.held) p ∙ (held ∙ sym (ap (λ (t : Queues). map held_as t.held) q));
+}
 
 -- ---- after a datagram
 
@@ -214,14 +221,7 @@ module _ (source : Endpoint) (octets : List ℕ) (old new left : GatewayState) (
   held_alike x y p q = ap (λ (t : Queues). map held_of t.held) (sym p) ∙ (sym m.tied.held ∙ (ap (λ (k : Node). k.held) node ∙ (n.tied.held ∙ ap (λ (t : Queues). map held_of t.held) q)))
 
   alike : (x y : Option Beginning) → new.queues ≡ one x → left.queues ≡ two y → (one x).timers ≡ (two y).timers → (one x).next ≡ (two y).next → map waits_as (one x).waiting ≡ map waits_as (two y).waiting → AreLeftAlike new left
-  alike x y p q timers next waiting = record {
-    role = role;
-    node = node;
-    timers = ap (λ (t : Queues). t.timers) p ∙ (timers ∙ sym (ap (λ (t : Queues). t.timers) q));
-    next = ap (λ (t : Queues). t.next) p ∙ (next ∙ sym (ap (λ (t : Queues). t.next) q));
-    waiting = ap (λ (t : Queues). map waits_as t.waiting) p ∙ (waiting ∙ sym (ap (λ (t : Queues). map waits_as t.waiting) q));
-    held = ap (λ (t : Queues). map held_as t.held) p ∙ (same_held source octets m.answer n.answer old.queues.held (held_alike x y p q) ∙ sym (ap (λ (t : Queues). map held_as t.held) q));
-  }
+  alike x y p q timers next waiting = left_as new left role node (one x) (two y) p q timers next waiting (same_held source octets m.answer n.answer old.queues.held (held_alike x y p q))
 
   by_begun : (x y : Option Beginning) → IsNext x (waiting_on m.stays old.queues) → IsNext y (waiting_on n.stays old.queues) → IsNew x old → IsNew y old → new.queues ≡ one x → left.queues ≡ two y → AreLeftAlike new left
   by_begun None None i j v w p q = alike None None p q refl refl (ap (map waits_as) (same_filter m.stays n.stays old.queues.waiting apart (pending_alike None None p q)))
@@ -250,16 +250,7 @@ left_by User source octets step other old new left apart role node m n = left_go
 -- ---- after a command
 
 left_stays : (old new left : GatewayState) → new.role ≡ left.role → new.node ≡ left.node → new.queues ≡ old.queues → left.queues ≡ old.queues → AreLeftAlike new left
-left_stays old new left role node m n =
-    let same : new.queues ≡ left.queues = m ∙ sym n in
-    record {
-      role = role;
-      node = node;
-      timers = ap (λ (t : Queues). t.timers) same;
-      next = ap (λ (t : Queues). t.next) same;
-      waiting = ap (λ (t : Queues). map waits_as t.waiting) same;
-      held = ap (λ (t : Queues). map held_as t.held) same;
-    }
+left_stays old new left role node m n = left_as new left role node old.queues old.queues m n refl refl refl refl
 
 left_asked : (old : GatewayState) (begun other : Begun) (new left : GatewayState) → new.role ≡ left.role → new.node ≡ left.node → datagram_by begun.out ≡ datagram_by other.out → SendsRequestNext old begun new → SendsRequestNext old other left → AreLeftAlike new left
 left_asked old begun other new left role node sent m n =
@@ -267,14 +258,8 @@ left_asked old begun other new left role node sent m n =
     let first : Waiting Purpose = just_sent m.number begun.out.to begun.out.octets.items m.purpose in
     let second : Waiting Purpose = just_sent n.number other.out.to other.out.octets.items n.purpose in
     let same : waits_as first ≡ waits_as second = λ i. record { seq = number i; to = (sent i).to; octets = (sent i).octets; purpose = tt; waited = 0; resent = 0 } in
-    record {
-      role = role;
-      node = node;
-      timers = ap (λ (t : Queues). t.timers) m.queues ∙ sym (ap (λ (t : Queues). t.timers) n.queues);
-      next = ap (λ (t : Queues). t.next) m.queues ∙ (ap number_after number ∙ sym (ap (λ (t : Queues). t.next) n.queues));
-      waiting = ap (λ (t : Queues). map waits_as t.waiting) m.queues ∙ (map_push waits_as old.queues.waiting first ∙ (ap (λ k. map waits_as old.queues.waiting ++ (k ∷ [])) same ∙ (sym (map_push waits_as old.queues.waiting second) ∙ sym (ap (λ (t : Queues). map waits_as t.waiting) n.queues))));
-      held = ap (λ (t : Queues). map held_as t.held) m.queues ∙ sym (ap (λ (t : Queues). map held_as t.held) n.queues);
-    }
+    left_as new left role node _ _ m.queues n.queues refl (ap number_after number)
+    (map_push waits_as old.queues.waiting first ∙ (ap (λ k. map waits_as old.queues.waiting ++ (k ∷ [])) same ∙ sym (map_push waits_as old.queues.waiting second))) refl
 
 pub one_left : (command : Command) (old : GatewayState) (begun other : Begun) (new left : GatewayState) → new.role ≡ left.role → new.node ≡ left.node → datagram_by begun.out ≡ datagram_by other.out → WaitsNext command old begun new → WaitsNext command old other left → AreLeftAlike new left
 one_left (Mark_end bearer) old begun other new left role node sent m n = left_stays old new left role node m.1 n.1
@@ -288,19 +273,12 @@ numbered_later t3 n3 w v is = by_tick (next_tick t3 n3 w) is
   where
     by_tick : (next : NextTick) → after_tick_by next w ≡ Some v → v.seq ≡ w.seq
     by_tick WaitsOn e = cc
-    by_tick SentAgain e = cc
-    by_tick GivenUp e = cc
+    by_tick next e = cc
 
 pub left_ticked : (old new left : GatewayState) → AreDistinct old.queues.waiting → new.role ≡ left.role → new.node ≡ left.node → QueuesAfterTick old new → QueuesAfterTick old left → AreLeftAlike new left
 left_ticked old new left apart role node m n =
     let later : Waiting Purpose → Option (Waiting Purpose) = after_tick old.queues.timers.t3 old.queues.timers.n3 in
     let pending : pending_in (filter_map later (filter m.stays old.queues.waiting)) ≡ pending_in (filter_map later (filter n.stays old.queues.waiting)) =
     ap (λ (t : Queues). pending_in t.waiting) (sym m.queues) ∙ (sym m.tied.pending ∙ (ap (λ (k : Node). k.pending) node ∙ (n.tied.pending ∙ ap (λ (t : Queues). pending_in t.waiting) n.queues))) in
-    record {
-      role = role;
-      node = node;
-      timers = ap (λ (t : Queues). t.timers) m.queues ∙ sym (ap (λ (t : Queues). t.timers) n.queues);
-      next = ap (λ (t : Queues). t.next) m.queues ∙ sym (ap (λ (t : Queues). t.next) n.queues);
-      waiting = ap (λ (t : Queues). map waits_as t.waiting) m.queues ∙ (ap (map waits_as) (same_staying later (numbered_later old.queues.timers.t3 old.queues.timers.n3) m.stays n.stays old.queues.waiting apart pending) ∙ sym (ap (λ (t : Queues). map waits_as t.waiting) n.queues));
-      held = ap (λ (t : Queues). map held_as t.held) m.queues ∙ sym (ap (λ (t : Queues). map held_as t.held) n.queues);
-    }
+    left_as new left role node _ _ m.queues n.queues refl refl
+    (ap (map waits_as) (same_staying later (numbered_later old.queues.timers.t3 old.queues.timers.n3) m.stays n.stays old.queues.waiting apart pending)) refl

@@ -3,9 +3,7 @@ pub mod Own
 pub mod TwoMessages
 pub mod BeforeSecond
 pub mod SecondsTaken
-pub mod FirstTaken
 pub mod PairTaken
-pub mod PairKinds
 pub mod SentBack
 pub mod Requests
 pub mod Refusals
@@ -21,7 +19,6 @@ pub mod DeleteBearerRequests
 pub mod Answers
 pub mod Readings
 pub mod Taking
-pub mod Finished
 pub mod Removed
 pub mod TakenTypes
 pub mod InPlace
@@ -31,11 +28,8 @@ pub mod Rows
 pub mod InvalidRequests
 pub mod ByType
 pub mod Opened
-pub mod Unopened
-pub mod CreateSessionResponses
-pub mod CreateBearerResponses
+pub mod CreateResponses
 pub mod RestartCounters
-pub mod ReadsAs
 pub mod UserRows
 pub mod ErrorIndications
 pub mod Forgetting
@@ -49,7 +43,6 @@ pub mod TemplateBearers
 pub mod CreateSessionAnswered
 pub mod Receiving
 pub mod QueuesAfter
-pub mod AcceptedStays
 pub mod Allocations
 pub mod Choosings
 pub mod ChosenOnce

@@ -23,7 +23,7 @@ use Rattle.gtp_machine.proofs.Sound.Rows.{restarted_sound}
 use Rattle.gtp_machine.proofs.Basics.Facts.{one_value}
 use Rattle.gtp_machine.proofs.Basics.Counting.{tied}
 use Rattle.gtp_gateway.specs.declared.receive.restart_counter.Heard.{Heard}
-use Rattle.gtp_gateway.specs.declared.receive.restart_counter.Heard.TheVariants.{Nothing, First, Same, Later, Earlier}
+use Rattle.gtp_gateway.specs.declared.receive.restart_counter.Heard.TheVariants.{First, Later}
 use Rattle.gtp_gateway.specs.declared.command.purpose.Purpose.{Purpose}
 use Rattle.gtp_gateway.specs.declared.tables.opening.ResponseVerdict.{ResponseVerdict}
 use Rattle.gtp_gateway.specs.declared.step.ControlStep.{ControlStep}
@@ -34,6 +34,11 @@ use Rattle.gtp_gateway.specs.receive.Row.{IsRow}
 use Rattle.gtp_gateway.specs.GatewayState.{GatewayState}
 use Rattle.gtp_gateway.specs.receive.Taken.{plain_report}
 use Rattle.gtp_gateway.proofs.Rows.{ends}
+
+-- nothing stands where all that could stand is absurd
+pub none_where : {X : Type 0} (o : Option X) → ((x : X) → o ≡ Some x → ⊥) → o ≡ None
+none_where None never = refl
+none_where (Some x) never = absurd (never x refl)
 
 -- a request stays, where the peer has restarted
 abbrev request_stays : Node → ℕ → PendingRequest → Bool
@@ -46,11 +51,9 @@ bearer_stays n t b = not (is_opened (get n.sessions b.session))
 -- what stands in a table once the counter was heard stood before, where a restart leaves what passes a test
 stood : {X : Type 0} (table : Node → FiniteMap X) (stays : Node → ℕ → X → Bool) → ((n : Node) (known : Option ℕ) → table (record n { known = known }) ≡ table n) → ((n : Node) (counter : ℕ) → table (peer_restarted n counter) ≡ kept (stays n) (table n))
     → (heard : Heard) (n : Node) (key : ℕ) (x : X) → get (table (node_heard heard n)) key ≡ Some x → get (table n) key ≡ Some x
-stood table stays heeds restarts Nothing n key x is = is
 stood table stays heeds restarts (First counter) n key x is = ap (λ (m : FiniteMap _). get m key) (sym (heeds n (Some counter.0))) ∙ is
-stood table stays heeds restarts (Same counter) n key x is = is
 stood table stays heeds restarts (Later counter) n key x is = (found-kept (stays n) (table n) key x (ap (λ (m : FiniteMap _). get m key) (sym (restarts n counter.0)) ∙ is)).1
-stood table stays heeds restarts (Earlier counter) n key x is = is
+stood table stays heeds restarts heard n key x is = is
 
 pub waited : (heard : Heard) (n : Node) (number : ℕ) (p : PendingRequest) → get (node_heard heard n).pending number ≡ Some p → get n.pending number ≡ Some p
 waited = stood (λ n. n.pending) request_stays (λ n known. refl) (λ n counter. refl)
@@ -62,22 +65,16 @@ pub session_stood : (heard : Heard) (n : Node) (t : ℕ) (s : Session) → get (
 session_stood = stood (λ n. n.sessions) (λ n t s. not (is_opened (get n.sessions t))) (λ n known. refl) (λ n counter. refl)
 
 pub waits_on : (heard : Heard) (n : Node) (number : ℕ) (purpose : Purpose) (m : Message) → get n.pending number ≡ Some (about purpose m) → goes_after heard n.sessions purpose ≡ false → get (node_heard heard n).pending number ≡ Some (about purpose m)
-waits_on Nothing n number purpose m is goes = is
-waits_on (First counter) n number purpose m is goes = is
-waits_on (Same counter) n number purpose m is goes = is
 waits_on (Later counter) n number purpose m is goes = get-kept (request_stays n) n.pending number (about purpose m) is (ap not goes)
-waits_on (Earlier counter) n number purpose m is goes = is
+waits_on heard n number purpose m is goes = is
 
 pub waits_no_more : (heard : Heard) (n : Node) (number : ℕ) (purpose : Purpose) (m : Message) → get n.pending number ≡ Some (about purpose m) → goes_after heard n.sessions purpose ≡ true → HasPending (node_heard heard n) number → ⊥
-waits_no_more Nothing n number purpose m is goes at = absurd cc
-waits_no_more (First counter) n number purpose m is goes at = absurd cc
-waits_no_more (Same counter) n number purpose m is goes at = absurd cc
 waits_no_more (Later counter) n number purpose m is goes at =
     let found = found-kept (request_stays n) n.pending number at.pending at.waits in
     let one : at.pending ≡ about purpose m = one_value (get n.pending number) at.pending (about purpose m) found.1 is in
     let stays : true ≡ false = sym found.0 ∙ (ap (request_stays n number) one ∙ ap not goes) in
     cc
-waits_no_more (Earlier counter) n number purpose m is goes at = absurd cc
+waits_no_more heard n number purpose m is goes at = absurd cc
 
 -- an entry that passes may be put in before or after
 pub kept_insert : {X : Type 0} (test : ℕ → X → Bool) (m : FiniteMap X) (k : ℕ) (x : X) → test k x ≡ true → kept test (insert m k x) ≡ insert (kept test m) k x
@@ -94,22 +91,17 @@ kept_insert {X} test m k x passes = same_map nat_cmp_total nat_cmp-IsAntisymmetr
 
 -- a bearer that stands once the counter was heard may be opened before or after
 pub heard_opened : (heard : Heard) (n : Node) (teid : Teid) (b : Bearer) → IsOpenedAt (node_heard heard n).bearers teid b → node_heard heard (with_bearer teid b n) ≡ with_bearer teid b (node_heard heard n)
-heard_opened Nothing n teid b at = refl
-heard_opened (First counter) n teid b at = refl
-heard_opened (Same counter) n teid b at = refl
 heard_opened (Later counter) n teid b at =
     let stays : bearer_stays n teid b ≡ true = ap (λ (s : ℕ). not (is_opened (get n.sessions s))) at.of ∙ (found-kept (bearer_stays n) n.bearers teid at.bearer at.stands).0 in
     let same : kept (bearer_stays n) (insert n.bearers teid b) ≡ insert (kept (bearer_stays n) n.bearers) teid b = kept_insert (bearer_stays n) n.bearers teid b stays in
     λ i. record (node_heard (Later counter) n) { bearers = same i }
-heard_opened (Earlier counter) n teid b at = refl
+heard_opened heard n teid b at = refl
 
 -- a sound gateway is sound once the counter was heard
 pub heard_sound : (role : Role) (heard : Heard) (n : Node) → IsSound role n → IsSound role (node_heard heard n)
-heard_sound role Nothing n sound = sound
 heard_sound role (First counter) n sound = known_sound role n sound (Some counter.0)
-heard_sound role (Same counter) n sound = sound
 heard_sound role (Later counter) n sound = restarted_sound n role sound counter.0
-heard_sound role (Earlier counter) n sound = sound
+heard_sound role heard n sound = sound
 
 -- a verdict that was carried out, as a row of the machine
 pub settled : (Takes : Node → Effect → Type 0) (request : Arrival) (heard : Heard) (old new : GatewayState) (v : ResponseVerdict) (number : ℕ) (step : ControlStep) → step ≡ record { out = None; report = plain_report (outcome_by v) } → new.node ≡ node_by v number (node_heard heard old.node) → new.role ≡ old.role → Takes (node_heard heard old.node) (effect_by v number (node_heard heard old.node))

@@ -1,6 +1,8 @@
 -- Messages of a gateway's own are sent as they are spelled, and read as they are.
-use Rattle.std.proofs.Common.{◌≡◌, ℕ, ◌+◌, ◌*◌, ◌≤◌, inl, List, [], ◌∷◌, Some, None, length, refl, sym, ◌∙◌, ap, subst, arith}
+use Rattle.std.proofs.Common.{◌≡◌, ℕ, ◌+◌, ◌*◌, ◌≤◌, inl, List, [], ◌∷◌, Some, None, length, refl, sym, ◌∙◌, ap, subst, arith, rules}
+use Rattle.std.specs.Borrow.{Bor}
 use Rattle.gtp_values.specs.declared.address.Ip.{Ip}
+use Rattle.gtp_values.specs.declared.identifiers.Teid.{Teid}
 use Rattle.gtp_v2.specs.declared.message.Message as decoded
 use Rattle.gtp_v2.specs.Body.{message_value}
 use Rattle.gtp_v2.specs.Datagram.{IsMessage}
@@ -9,12 +11,15 @@ use Rattle.gtp_v2.proofs.Joined.{announces, read_again}
 use Rattle.gtp_v2.specs.Encoding.{canonical_encoding}
 use Rattle.gtp_user.specs.Datagram.{IsUserMessage}
 use Rattle.gtp_user.specs.declared.message.UserMessage.{UserMessage}
+use Rattle.gtp_user.specs.declared.message.UserBody.TheVariants as bodies
+use Rattle.gtp_user.specs.Chain.{Extension}
 use Rattle.gtp_user.specs.Message as user_messages
+use Rattle.gtp_user.specs.Message.{of_parts}
 use Rattle.gtp_user.specs.Encoding.{octets_of, encoding, options_encoding, content_encoding}
 use Rattle.gtp_machine.specs.Input.{Control_message, User_message}
 use Rattle.gtp_machine.specs.Message.{Message, Plane}
 use Rattle.gtp_machine.specs.Reading.{control_message, user_message, Alone, Both, DatagramReads, UserReads, reading_of}
-use Rattle.gtp_machine.specs.Spelling.{spelled_on, spelled, spelled_all, plain_user}
+use Rattle.gtp_machine.specs.Spelling.{spelled_on, spelled, spelled_all}
 use Rattle.gtp_machine.proofs.Octets.ByGrammar.{decoded_reads, user_decoded_reads}
 use Rattle.gtp_machine.proofs.Octets.Datagrams.{message_reads_alone, datagram_by_grammar}
 use Rattle.gtp_gateway.specs.messages.Own.{IsOwn, IsUserOwn}
@@ -84,22 +89,23 @@ user_own_back octets m own written is =
     subst (λ (p : Plane). ReadsBackOn p (user_message m ∷ [])) (sym own.user)
     (subst (λ (o : List ℕ). UserReads o (User_message (user_message m))) (written ∙ user_own_spelled m own) (user_decoded_reads octets m is))
 
-pub packet_short : (teid : ℕ) (payload : List ℕ) → length payload ≤ 65000 → length (encoding (plain_user None (user_messages.Packet teid payload))) ≤ 65535 + 8
+-- the messages of the user plane that a gateway sends, with no extension header
+pub packet_own : (teid : Teid) (payload : Bor (List ℕ)) (extensions : List Extension) → extensions ≡ [] → length payload.now ≤ 65000 → IsUserOwn (of_parts None None extensions (bodies.Packet teid payload))
 unfolding options_encoding content_encoding
-packet_short teid payload few = omega (arith, few)
+packet_own teid payload extensions none few = rw none (record { encodable = tt; short = omega (arith, few); user = refl; says = refl })
 
-pub marker_short : (teid : ℕ) → length (encoding (plain_user None (user_messages.EndMarker teid))) ≤ 65535 + 8
+pub marker_own : (teid : Teid) (extensions : List Extension) → extensions ≡ [] → IsUserOwn (of_parts None None extensions (bodies.EndMarker teid))
 unfolding options_encoding content_encoding
-marker_short teid = omega arith
+marker_own teid extensions none = rw none (record { encodable = tt; short = omega arith; user = refl; says = refl })
 
-pub indication_short : (teid : ℕ) (address : Ip) → length (octets_of address) ≤ 16 → length (encoding (plain_user (Some 0) (user_messages.ErrorIndication teid address))) ≤ 65535 + 8
+pub indication_own : (teid : Teid) (peer : Ip) (extensions : List Extension) → extensions ≡ [] → length (octets_of peer) ≤ 16 → IsUserOwn (of_parts (Some 0) None extensions (bodies.ErrorIndication peer teid))
 unfolding options_encoding content_encoding
-indication_short teid address few = omega (arith, few)
+indication_own teid peer extensions none few = rw none (record { encodable = search rules; short = omega (arith, few); user = refl; says = refl })
 
-pub notification_short : (types : List ℕ) → length types ≤ 255 → length (encoding (plain_user (Some 0) (user_messages.Notification types))) ≤ 65535 + 8
+pub notification_own : (types : Bor (List ℕ)) (extensions : List Extension) → types.now ≡ 64 ∷ [] → extensions ≡ [] → IsUserOwn (of_parts (Some 0) None extensions (bodies.Notification types))
 unfolding options_encoding content_encoding
-notification_short types few = omega (arith, few)
+notification_own types extensions of none = rw (none, of) (record { encodable = (search rules, omega arith); short = omega arith; user = refl; says = refl })
 
-pub echo_short : (number : ℕ) → length (encoding (plain_user (Some number) user_messages.EchoResponse)) ≤ 65535 + 8
+pub echo_own : (number : ℕ) (extensions : List Extension) → extensions ≡ [] → IsUserOwn (of_parts (Some number) None extensions bodies.EchoResponse)
 unfolding options_encoding content_encoding
-echo_short number = omega arith
+echo_own number extensions none = rw none (record { encodable = search rules; short = omega arith; user = refl; says = refl })

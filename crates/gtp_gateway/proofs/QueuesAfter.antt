@@ -13,6 +13,7 @@ use Rattle.gtp_gateway.specs.GatewayState.{Queues, GatewayState, NodeMatchesQueu
 use Rattle.gtp_gateway.specs.user.Receive.{RequestsWaitOn}
 use Rattle.gtp_gateway.specs.declared.parts.Parts.{Parts}
 use Rattle.gtp_gateway.proofs.Teids.{length_drawn}
+use Rattle.gtp_gateway.proofs.GivenUp.{wait_on}
 use Rattle.gtp_gateway.proofs.UserRows.{all_wait}
 
 -- a gateway's node keeps what its ticks and draws go by
@@ -29,22 +30,12 @@ module _ (source : Endpoint) (octets : List ℕ) where
   pub on_goes : (a b : GatewayState) → RequestsWaitOn a b → NodeMatchesQueues b → QueuesAfterMessage source octets a b
   on_goes a b on tied = record { stays = on.stays; begun = None; next = tt {0}; new_one = tt {0}; answer = None; queues = on.queues; tied = tied }
 
+  -- some requests no longer wait, and then some others
+  pub then_goes : (a b : GatewayState) (g : Parts) → RequestsWaitOn a b → RequestsWaitOn b (state_of g) → QueuesAfterMessage source octets a (state_of g)
+  then_goes a b g first second = on_goes a (state_of g) (wait_on a b (state_of g) first second) (tied_of g)
+
   pub same_goes : (a b : GatewayState) → b ≡ a → NodeMatchesQueues a → QueuesAfterMessage source octets a b
   same_goes a b same tied = on_goes a b (all_wait a b (ap (λ (s : GatewayState). s.queues) same) (subst (λ (s : GatewayState). s.node.pending ≡ pending_in s.queues.waiting) (sym same) tied.pending)) (subst NodeMatchesQueues (sym same) tied)
-
-  -- an answer was given
-  pub given_goes : (a b : GatewayState) (answer : List ℕ) → b.queues ≡ record a.queues { held = after_held source octets answer a.queues.held } → NodeMatchesQueues b → QueuesAfterMessage source octets a b
-  given_goes a b answer queues tied =
-      let on = all_wait a (record a { node = record a.node { pending = pending_in a.queues.waiting } }) refl refl in
-      record {
-        stays = on.stays;
-        begun = None;
-        next = tt {0};
-        new_one = tt {0};
-        answer = Some answer;
-        queues = queues ∙ (λ i. record (on.queues i) { held = after_held source octets answer a.queues.held });
-        tied = tied;
-      }
 
   -- some requests no longer wait, and then an answer was given
   pub answered_goes : (a b c : GatewayState) (answer : List ℕ) → RequestsWaitOn a b → c.queues ≡ record b.queues { held = after_held source octets answer b.queues.held } → NodeMatchesQueues c → QueuesAfterMessage source octets a c
@@ -57,6 +48,17 @@ module _ (source : Endpoint) (octets : List ℕ) where
     queues = queues ∙ (λ i. record (first.queues i) { held = after_held source octets answer (first.queues i).held });
     tied = tied;
   }
+
+  -- an answer was made ready, which changed nothing, and was given after that
+  pub readied_goes : (old readied mid : GatewayState) (g : Parts) (request answer : List ℕ) → readied ≡ old → request ≡ octets → RequestsWaitOn readied mid → (state_of g).queues ≡ record mid.queues { held = after_held source request answer mid.queues.held } → QueuesAfterMessage source octets old (state_of g)
+  readied_goes old readied mid g request answer same is waits gives =
+      answered_goes old mid (state_of g) answer (subst (λ (s : GatewayState). RequestsWaitOn s mid) same waits) (gives ∙ (λ i. record mid.queues { held = after_held source (is i) answer mid.queues.held })) (tied_of g)
+
+  -- an answer was given
+  pub given_goes : (a b : GatewayState) (answer : List ℕ) → b.queues ≡ record a.queues { held = after_held source octets answer a.queues.held } → NodeMatchesQueues b → QueuesAfterMessage source octets a b
+  given_goes a b answer queues tied =
+      let same = record a { node = record a.node { pending = pending_in a.queues.waiting } } in
+      answered_goes a same b answer (all_wait a same refl refl) queues tied
 
   -- a request was begun, and then an answer given
   pub begun_goes : (a b c d : GatewayState) (number : ℕ) (purpose : Purpose) (to : Endpoint) (kept answer : List ℕ) → RequestsWaitOn a b → IsNextFree b.queues.next b.queues.waiting number → IsNewFor (record { number = number; purpose = purpose; to = to; octets = kept }) a → c.queues ≡ after_begun number purpose to kept b.queues

@@ -1,25 +1,65 @@
 -- Datagrams of either plane that were taken, as datagrams that were received.
-use Rattle.std.proofs.Common.{◌≡◌, inl, inr, ℕ, List, Result, Ok, Err, refl, sym, ◌∙◌, ap, subst}
-use Rattle.std.specs.Prelude.{IfOk, OnErr, IsSome, option_map}
+use Rattle.std.proofs.Common.{◌≡◌, inl, inr, ℕ, List, refl, sym, ◌∙◌, ap, subst, Result, Ok, Err}
+use Rattle.std.specs.Prelude.{IsSome, IfOk, OnErr, option_map}
+use Rattle.gtp_values.specs.declared.address.Endpoint.{Endpoint}
+use Rattle.gtp_machine.specs.declared.role.Role.{Role}
+use Rattle.gtp_machine.specs.Message.{Message, Packet_data, End_marker, Error_indication, Plane, Control, User, Create_session_response, Create_bearer_request}
+use Rattle.gtp_machine.specs.Input.{Came_to, UserReading, Effect, EventOutcome, Input, Out, nothing}
+use Rattle.gtp_machine.specs.Node.{Node}
+use Rattle.gtp_machine.specs.Reading.{user_reading, datagram_reading}
+use Rattle.gtp_machine.specs.User.{UserTaken, UserStep}
+use Rattle.gtp_machine.specs.declared.outcome.Outcome.TheVariants.{Accepted, Broken, Ended}
+use Rattle.gtp_gateway.specs.GatewayState.{GatewayState, NodeMatchesQueues, IsSoundState}
+use Rattle.gtp_gateway.specs.declared.step.Step.{Step}
+use Rattle.gtp_gateway.specs.user.Receive.{IsUserTaken}
 use Rattle.std.proofs.lemmas.Grind.{merely}
 use mathlib.Core.Logic.{∥∥₁_elim, ∥∥₁_prop}
-use Rattle.gtp_values.specs.declared.address.Endpoint.{Endpoint}
-use Rattle.gtp_machine.specs.Message.{Plane, Control, User, Create_session_response, Create_bearer_request}
-use Rattle.gtp_machine.specs.Input.{Input, Out, Effect, nothing}
 use Rattle.gtp_machine.specs.Step.{Step as MachineStep, TakesPair}
 use Rattle.gtp_machine.specs.Sound.{IsSound, IsWellFormed}
-use Rattle.gtp_machine.specs.Reading.{datagram_reading}
+use Rattle.gtp_machine.proofs.Basics.Finishing.{quietly, on_packet_came, on_end_came, on_error_came, on_user_step}
 use Rattle.gtp_machine.proofs.Sound.Rows.{stays_sound}
 use Rattle.gtp_machine.proofs.Sound.Reads.{taken_whole, pair_reads_whole}
 use Rattle.gtp_gateway.specs.declared.step.Report.{Report}
-use Rattle.gtp_gateway.specs.declared.step.Step.{Step}
 use Rattle.gtp_gateway.specs.declared.step.ControlStep.{ControlStep}
 use Rattle.gtp_gateway.specs.Parts.{arrival_of}
 use Rattle.gtp_gateway.specs.receive.Received.{coming, of_control, first_comes, second_comes, IsReceivedOnce, AreReceived, IsReceived, IsControlTaken, QueuesAfterReceive}
-use Rattle.gtp_gateway.specs.GatewayState.{GatewayState, NodeMatchesQueues, IsSoundState}
 use Rattle.gtp_gateway.specs.receive.Taken.{made_for, IsTaken}
-use Rattle.gtp_gateway.specs.user.Receive.{IsUserTaken}
-use Rattle.gtp_gateway.proofs.AcceptedStays.{accepted_stays}
+
+-- ---- a packet that was accepted changes nothing of its gateway
+
+ended_not : Came_to Ended ≡ Came_to Accepted → ⊥
+ended_not is = cc
+
+broken_not : Came_to Broken ≡ Came_to Accepted → ⊥
+broken_not is = cc
+
+module _ (old : Node) where
+  -- where a packet was accepted, the node is as before
+  abbrev Leaves : Effect → Type 0
+  Leaves e = e.outcome ≡ Came_to Accepted → e.node ≡ old
+
+  by : (e k : Effect) → e ≡ k → Leaves k → Leaves e
+  by e k is leaves = subst Leaves (sym is) leaves
+
+  quiet : (e : Effect) (outcome : EventOutcome) → e ≡ quietly old outcome → Leaves e
+  quiet e outcome is = by e _ is (λ _. refl)
+
+  message : (role : Role) (source : Endpoint) (m : Message) (e : Effect) → UserTaken role source m old e → Leaves e
+  message role source (Packet_data target payload) e r = on_packet_came old e (quiet e) role target payload (λ is. by e _ is (λ _. refl)) (λ at active a. by e _ a.gives (λ _. refl)) r
+  message role source (End_marker target) e r = on_end_came old e (quiet e) role target (λ at active is. by e _ is (λ same. absurd (ended_not same))) r
+  message role source (Error_indication remote address) e r = on_error_came old e (quiet e) remote (λ is. by e _ is (λ same. absurd (broken_not same))) r
+  message role source _ e is = by e _ is (λ _. refl)
+
+  step_leaves : (role : Role) (source : Endpoint) (reading : UserReading) (e : Effect) → UserStep role source reading old e → Leaves e
+  step_leaves role source reading e = on_user_step old e (quiet e) role source reading (λ m is. message role source m e) (λ is. by e _ is (λ _. refl))
+
+-- where a packet was accepted, the gateway is as before
+pub accepted_stays : (source : Endpoint) (octets : List ℕ) (old : GatewayState) (step : Step) (new : GatewayState) → IsUserTaken source octets old step new → IsSome step.accepted → new ≡ old
+accepted_stays source octets old step new taken some =
+    let accepted = taken.tells.packet.1 some in
+    let node = taken.becomes ∙ step_leaves old.node old.role source (user_reading octets) taken.effect taken.takes (sym taken.tells.outcome ∙ ap (λ o. Came_to o) accepted) in
+    let queues = taken.same (λ broken. broken_not (ap (λ o. Came_to o) (sym broken ∙ accepted))) in
+    λ i. record { role = taken.role i; node = node i; queues = queues i }
 
 once_received : (source : Endpoint) (octets : List ℕ) (old : GatewayState) (step : ControlStep) (new : GatewayState) → IsTaken source octets old step new → IsReceivedOnce Control source octets old (of_control step) new
 once_received source octets old step new taken =

@@ -1,5 +1,5 @@
 -- Requests that wait, as the machine's finite map.
-use Rattle.std.proofs.Common.{◌≡◌, ℕ, ◌≤◌, Bool, true, false, cond, filter, List, [], ◌∷◌, ◌++◌, length, map, Option, Some, None, refl, sym, ◌∙◌, ap, subst, arith}
+use Rattle.std.proofs.Common.{◌≡◌, inl, inr, ℕ, ◌≤◌, Bool, true, false, cond, filter, List, [], ◌∷◌, ◌++◌, length, map, Option, Some, None, refl, sym, ◌∙◌, ap, subst, arith}
 use Rattle.std.specs.Prelude.{◌==◌, All}
 use Rattle.std.specs.List.{list_any, AllByRecursion}
 use Rattle.std.proofs.lemmas.List.Elements.{All-from_recursion, recursion_from_All}
@@ -9,6 +9,7 @@ use Rattle.std.specs.FinMap.{find, get, insert, len, from_entries, from_entries_
 use Rattle.std.specs.Ordering.{nat_cmp}
 use Rattle.std.specs.Cmp.{nat_cmp_total}
 use Rattle.std.proofs.lemmas.Bool.{or_parts}
+use Rattle.gtp_values.specs.FiniteMap.{Among}
 use Rattle.gtp_values.proofs.Outcomes.{none_some}
 use Rattle.gtp_values.proofs.Tests.{itself, same_number}
 use Rattle.gtp_tables.proofs.Rows.{turned}
@@ -66,6 +67,15 @@ each_by_recursion (w ∷ ws) distinct holds = (
 
 pub each_found : {P : Waiting Purpose → Type 0} (ws : List (Waiting Purpose)) → AreDistinct ws → ((w : Waiting Purpose) → get (pending_in ws) w.seq ≡ Some (pending_of w).1 → P w) → All P ws
 each_found {P} ws distinct holds = All-from_recursion P ws (each_by_recursion ws distinct holds)
+
+-- what holds of each holds of one among them
+pub of_among : (P : Waiting Purpose → Type 0) (ws : List (Waiting Purpose)) (w : Waiting Purpose) → AllByRecursion P ws → Among w ws → P w
+of_among P [] w each among = absurd among
+of_among P (v ∷ ws) w each (inl is) = subst P (sym is) each.0
+of_among P (v ∷ ws) w each (inr there) = of_among P ws w each.1 there
+
+pub stands_there : (ws : List (Waiting Purpose)) (w : Waiting Purpose) → AreDistinct ws → Among w ws → get (pending_in ws) w.seq ≡ Some (pending_of w).1
+stands_there ws w distinct among = of_among (λ v. get (pending_in ws) v.seq ≡ Some (pending_of v).1) ws w (each_by_recursion ws distinct (λ v found. found)) among
 
 of_first : (P : PendingRequest → Type 0) (x p : PendingRequest) (here : Bool) (rest : Option PendingRequest) → cond here (Some x) rest ≡ Some p → P x → (rest ≡ Some p → P p) → P p
 of_first P x p true rest is first later = let same : x ≡ p = cc in subst P same first

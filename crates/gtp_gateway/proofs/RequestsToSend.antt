@@ -1,6 +1,5 @@
 -- Requests that commands send, and the last rule of a command.
-use Rattle.std.proofs.Common.{◌≡◌, ◌↔◌, inl, inr, Bool, true, false, Result, Ok, Err, refl, sym, ◌∙◌, ap}
-use Rattle.std.specs.Bool.{beq}
+use Rattle.std.proofs.Common.{◌≡◌, ◌↔◌, inl, inr, Result, Ok, Err, sym, ◌∙◌, ap}
 use Rattle.std.specs.Prelude.{IsErrAnd}
 use Rattle.gtp_machine.specs.Ordered.{Unless}
 use Rattle.gtp_machine.specs.Choice.{HasPendingRoom}
@@ -13,11 +12,6 @@ use Rattle.gtp_gateway.specs.declared.sent.Begun.{Begun}
 use Rattle.gtp_gateway.specs.command.Command.{IsLastRefused}
 use Rattle.gtp_gateway.specs.GatewayState.{GatewayState}
 use Rattle.gtp_gateway.proofs.Refusals.{same_reason}
-
--- a purpose tells of the header what the request has
-pub test_itself : (b : Bool) → beq b b ≡ true
-test_itself true = refl
-test_itself false = refl
 
 -- where fewer than 256 are pending, nothing is refused by the last rule
 module _ {A : Type 0} (s : GatewayState) (room : HasPendingRoom s.node) where

@@ -1,26 +1,22 @@
 -- Requests that a tick sends again, as the machine's moves.
-use Rattle.std.proofs.Common.{◌≡◌, inl, inr, ℕ, Bool, true, false, cond, List, [], ◌∷◌, ◌++◌, map, Option, Some, None, refl, sym, ◌∙◌, ap, subst}
+use Rattle.std.proofs.Common.{◌≡◌, inl, inr, ℕ, true, List, [], ◌∷◌, ◌++◌, map, Some, refl, sym, ◌∙◌, ap, subst}
 use Rattle.std.specs.Prelude.{All}
-use Rattle.std.specs.List.{AllByRecursion, filter_map, cons_option}
+use Rattle.std.specs.List.{filter_map, cons_option}
 use Rattle.std.proofs.lemmas.List.Elements.{recursion_from_All, All-nil, All-cons}
-use Rattle.std.specs.FinMap.{get, find, get-from_entries}
-use Rattle.std.specs.Ordering.{nat_cmp, eq_by_cmp}
-use Rattle.std.specs.Cmp.{nat_cmp_total}
+use Rattle.std.specs.FinMap.{get}
 use Rattle.gtp_values.specs.declared.address.Ip.{Ip}
 use Rattle.gtp_values.specs.FiniteMap.{Among}
 use Rattle.gtp_reliable.specs.declared.waiting.NextTick.{NextTick}
-use Rattle.gtp_reliable.specs.declared.waiting.NextTick.TheVariants.{WaitsOn, SentAgain, GivenUp}
+use Rattle.gtp_reliable.specs.declared.waiting.NextTick.TheVariants.{SentAgain}
 use Rattle.gtp_reliable.specs.Waiting.{Waiting, next_tick, sent_again, sent_again_by}
 use Rattle.gtp_reliable.specs.Waiting as reliable
-use Rattle.gtp_reliable.specs.Pending.{is_pending, AreDistinct}
-use Rattle.gtp_tables.proofs.Found.{key_itself}
+use Rattle.gtp_reliable.specs.Pending.{AreDistinct}
 use Rattle.gtp_machine.specs.Config.{Config, control_end, own_end}
 use Rattle.gtp_machine.specs.Input.{Ticked, Move, Resend, Out, Sending, says}
 use Rattle.gtp_machine.specs.Message.{Message, Plane, Control, plane_of, Echo_request, Create_session_request, Delete_session_request, Create_bearer_request, Delete_bearer_request}
 use Rattle.gtp_machine.specs.Node.{PendingRequest, Node}
 use Rattle.gtp_machine.specs.Spelling.{datagram_of, spelled}
 use Rattle.gtp_machine.specs.Tick.{TickStep, joined}
-use Rattle.gtp_machine.proofs.Basics.Counting.{tied}
 use Rattle.gtp_gateway.specs.declared.command.purpose.Purpose.{Purpose}
 use Rattle.gtp_gateway.specs.declared.command.purpose.Asked.{Asked}
 use Rattle.gtp_gateway.specs.declared.command.purpose.Asked.TheVariants.{Echo, CreateSession, DeleteSession, CreateBearer, DeleteBearer}
@@ -28,7 +24,7 @@ use Rattle.gtp_gateway.specs.Parts.{pending_of, pending_in}
 use Rattle.gtp_gateway.specs.messages.Sent.{ReadsBack, SendingReads}
 use Rattle.gtp_gateway.specs.messages.Spelled.{message_in, is_asked, is_for, IsAsked, AreAsked}
 use Rattle.gtp_gateway.specs.Tick.{datagram_again}
-use Rattle.gtp_gateway.proofs.Requests.{not_found}
+use Rattle.gtp_gateway.proofs.Requests.{of_among, stands_there}
 use Rattle.gtp_gateway.proofs.Taking.{kept_back}
 
 -- the requests that are sent again
@@ -53,27 +49,9 @@ of_waiting t3 n3 [] m among = absurd among
 of_waiting t3 n3 (w ∷ ws) m among = by (next_tick t3 n3 w) (of_waiting t3 n3 ws m) among
   where
     by : (t : NextTick) → (Among m (again_in t3 n3 ws) → IsOf ws m) → Among m (cons_option (sent_again_by t w) (again_in t3 n3 ws)) → IsOf (w ∷ ws) m
-    by WaitsOn later among = of_more w ws m (later among)
     by SentAgain later (inl is) = record { waiting = w; among = inl refl; is = is }
     by SentAgain later (inr there) = of_more w ws m (later there)
-    by GivenUp later among = of_more w ws m (later among)
-
--- what waits stands under its number
-found_there : (ws : List (Waiting Purpose)) (w : Waiting Purpose) → AreDistinct ws → Among w ws → find nat_cmp w.seq (map pending_of ws) ≡ Some (pending_of w).1
-found_there [] w distinct among = absurd among
-found_there (v ∷ ws) w distinct (inl is) =
-    subst (λ (x : Waiting Purpose). find nat_cmp x.seq (map pending_of (v ∷ ws)) ≡ Some (pending_of x).1) (sym is)
-    (ap (λ (b : Bool). cond b (Some (pending_of v).1) (find nat_cmp v.seq (map pending_of ws))) (key_itself v.seq))
-found_there (v ∷ ws) w distinct (inr there) = by (eq_by_cmp nat_cmp w.seq v.seq) refl (found_there ws w distinct.1 there)
-  where
-    by : (b : Bool) → eq_by_cmp nat_cmp w.seq v.seq ≡ b → find nat_cmp w.seq (map pending_of ws) ≡ Some (pending_of w).1 → cond b (Some (pending_of v).1) (find nat_cmp w.seq (map pending_of ws)) ≡ Some (pending_of w).1
-    by true same later =
-        let none = not_found ws w.seq (subst (λ (n : ℕ). is_pending n ws ≡ false) (sym (tied w.seq v.seq same)) distinct.0) in
-        absurd (let no : ◌≡◌ {A = Option PendingRequest} None (Some (pending_of w).1) = sym none ∙ later in cc)
-    by false other later = later
-
-pub stands_there : (ws : List (Waiting Purpose)) (w : Waiting Purpose) → AreDistinct ws → Among w ws → get (pending_in ws) w.seq ≡ Some (pending_of w).1
-stands_there ws w distinct among = get-from_entries nat_cmp_total (map pending_of ws) w.seq ∙ found_there ws w distinct among
+    by t later among = of_more w ws m (later among)
 
 -- a request waits under the number, with these octets
 record Stands (node : Node) (m : reliable.Message) : Type 0 where
@@ -118,16 +96,11 @@ on_control purpose m is = by purpose.asked m is
     by DeleteBearer (Delete_bearer_request d) is = refl
     by a m is = absurd cc
 
-asked_there : (peer : Ip) (ws : List (Waiting Purpose)) (w : Waiting Purpose) → AllByRecursion (IsAsked peer) ws → Among w ws → IsAsked peer w
-asked_there peer [] w each among = absurd among
-asked_there peer (v ∷ ws) w each (inl is) = subst (IsAsked peer) (sym is) each.0
-asked_there peer (v ∷ ws) w each (inr there) = asked_there peer ws w each.1 there
-
 -- the octets that are kept are the machine's datagram
 same_datagram : (config : Config) (ws : List (Waiting Purpose)) (m : reliable.Message) → AreAsked config.peer.control ws → IsOf ws m → datagram_again config m ≡ datagram_of config (sending_again config m)
 same_datagram config ws m each of =
     let w = of.waiting in
-    let asked = asked_there config.peer.control ws w (recursion_from_All (IsAsked config.peer.control) ws each) of.among in
+    let asked = of_among (IsAsked config.peer.control) ws w (recursion_from_All (IsAsked config.peer.control) ws each) of.among in
     let plane = on_control w.purpose (message_in w.octets) asked.purpose in
     let kept : datagram_again config (record { seq = w.seq; to = w.to; octets = w.octets }) ≡ record { plane = Control; from = control_end config.own.control; to = control_end config.peer.control; octets = spelled (message_in w.octets) } = λ i. record { plane = Control; from = control_end config.own.control; to = asked.to i; octets = asked.octets.is i } in
     let made : datagram_of config (sending_again config (record { seq = w.seq; to = w.to; octets = w.octets })) ≡ record { plane = Control; from = control_end config.own.control; to = control_end config.peer.control; octets = spelled (message_in w.octets) } =
@@ -150,7 +123,7 @@ resent config t3 n3 ws each = same_each (datagram_again config) (λ m. datagram_
 asked_back : (peer : Ip) (ws : List (Waiting Purpose)) (m : reliable.Message) → AreAsked peer ws → IsOf ws m → ReadsBack (message_in m.octets ∷ [])
 asked_back peer ws m each of =
     let w = of.waiting in
-    let asked = asked_there peer ws w (recursion_from_All (IsAsked peer) ws each) of.among in
+    let asked = of_among (IsAsked peer) ws w (recursion_from_All (IsAsked peer) ws each) of.among in
     subst (λ (x : reliable.Message). ReadsBack (message_in x.octets ∷ [])) (sym of.is) (kept_back w.octets (on_control w.purpose (message_in w.octets) asked.purpose) asked.octets)
 
 all_back : (config : Config) (ms : List reliable.Message) → ((m : reliable.Message) → Among m ms → ReadsBack (message_in m.octets ∷ [])) → All SendingReads (map (sending_again config) ms)

@@ -18,10 +18,7 @@ number counter = counter.0
 -- hearing changes the counter that is known, the sessions, the bearers and the requests, and nothing else
 rest_stays : (heard : Heard) (n : Node) → let left = node_heard heard n in left ≡ record n { known = left.known; sessions = left.sessions; bearers = left.bearers; pending = left.pending }
 rest_stays heards.Nothing n = refl
-rest_stays (heards.First counter) n = refl
-rest_stays (heards.Same counter) n = refl
-rest_stays (heards.Later counter) n = refl
-rest_stays (heards.Earlier counter) n = refl
+rest_stays heard n = refl
 
 pub counter_stays : (heard : Heard) (n : Node) → (node_heard heard n).counter ≡ n.counter
 counter_stays heard n = ap (λ (x : Node). x.counter) (rest_stays heard n)
@@ -42,8 +39,7 @@ told_is (Some known) counter = by (age_of known counter.0)
   where
     by : (age : Age) → option_map (λ (c : Counter). c.0) (told_in (aged age counter)) ≡ Some counter.0
     by ages.Same = refl
-    by ages.Later = refl
-    by ages.Earlier = refl
+    by age = refl
 
 pub later_is : (known : Option ℕ) (counter : Counter) → option_map (λ (c : Counter). c.0) (later_in (weighed known counter)) ≡ learned_by known counter.0
 later_is None counter = refl
@@ -51,14 +47,12 @@ later_is (Some known) counter = by (age_of known counter.0)
   where
     by : (age : Age) → option_map (λ (c : Counter). c.0) (later_in (aged age counter)) ≡ later_only age counter.0
     by ages.Same = refl
-    by ages.Later = refl
-    by ages.Earlier = refl
+    by age = refl
 
 module _ (Takes : Node → Effect → Type 0) (old : Node) (counter : Counter) where
   judged : (age : Age) (taken : Effect) → (IsEarlier (aged age counter) → ⊥) → Takes (node_heard (aged age counter) old) taken → Judges Takes old counter.0 age taken
-  judged ages.Same taken on takes = takes
-  judged ages.Later taken on takes = takes
   judged ages.Earlier taken on takes = absurd (on tt)
+  judged age taken on takes = takes
 
   -- a counter that is not of an earlier start: the message is taken by the node that is left
   weighs : (known : Option ℕ) (taken : Effect) → (IsEarlier (weighed known counter) → ⊥) → Takes (node_heard (weighed known counter) old) taken → Weighs Takes old counter.0 known taken
@@ -69,9 +63,8 @@ module _ (Takes : Node → Effect → Type 0) (old : Node) (counter : Counter) w
   hears_on taken on takes = (taken, weighs old.known taken on takes, refl)
 
   judged_old : (age : Age) → IsEarlier (aged age counter) → Judges Takes old counter.0 age (dropped old OldCounter)
-  judged_old ages.Same is = absurd is
-  judged_old ages.Later is = absurd is
   judged_old ages.Earlier is = refl
+  judged_old age is = absurd is
 
   weighs_old : (known : Option ℕ) → IsEarlier (weighed known counter) → Weighs Takes old counter.0 known (dropped old OldCounter)
   weighs_old None is = absurd is

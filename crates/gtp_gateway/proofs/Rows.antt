@@ -16,6 +16,7 @@ use Rattle.gtp_machine.specs.declared.outcome.DropReason.{DropReason}
 use Rattle.gtp_machine.specs.declared.outcome.DropReason.TheVariants.{OldCounter, Unexpected}
 use Rattle.gtp_machine.specs.declared.outcome.Outcome.{Outcome}
 use Rattle.gtp_machine.specs.declared.outcome.Outcome.TheVariants.{Dropped, Answered}
+use Rattle.gtp_gateway.specs.declared.receive.restart_counter.Heard.{Heard}
 use Rattle.gtp_gateway.specs.declared.sent.Sent.{Sent}
 use Rattle.gtp_gateway.specs.declared.step.ControlStep.{ControlStep}
 use Rattle.gtp_gateway.specs.receive.Answer.{answering}
@@ -30,17 +31,6 @@ use Rattle.gtp_gateway.specs.Parts.{arrival_of}
 use Rattle.gtp_gateway.proofs.SentBack.{none_sent, one_sent}
 use Rattle.gtp_gateway.proofs.RestartCounters.{told_is, later_is, hears_on, hears_old, config_stays}
 
-pub drops : (Takes : Node → Effect → Type 0) (request : Arrival) (s : GatewayState) (step : ControlStep) (why : DropReason) → step ≡ record { out = None; report = plain_report (Dropped why) } → Takes s.node (dropped s.node why) → IsRow Takes request s.role s.node step s
-drops Takes request s step why is takes =
-    subst (λ (t : ControlStep). IsRow Takes request s.role s.node t s) (sym is)
-    (record {
-      effect = dropped s.node why;
-      takes = takes;
-      tells = record { sent = none_sent s.node.config; outcome = refl; alone = refl; made = refl; heard = refl; learned = refl; untold = refl; unlearned = refl; all = refl };
-      becomes = refl;
-      role_stays = refl;
-    })
-
 pub ends : (Takes : Node → Effect → Type 0) (request : Arrival) (old new : GatewayState) (step : ControlStep) (outcome : Outcome) (node : Node) → step ≡ record { out = None; report = plain_report outcome } → new.node ≡ node → new.role ≡ old.role → Takes old.node (record { out = nothing; outcome = Came_to outcome; node = node }) → IsRow Takes request old.role old.node step new
 ends Takes request old new step outcome node is becomes role takes =
     subst (λ (t : ControlStep). IsRow Takes request old.role old.node t new) (sym is)
@@ -51,6 +41,9 @@ ends Takes request old new step outcome node is becomes role takes =
       becomes = becomes;
       role_stays = role;
     })
+
+pub drops : (Takes : Node → Effect → Type 0) (request : Arrival) (s : GatewayState) (step : ControlStep) (why : DropReason) → step ≡ record { out = None; report = plain_report (Dropped why) } → Takes s.node (dropped s.node why) → IsRow Takes request s.role s.node step s
+drops Takes request s step why is takes = ends Takes request s s step (Dropped why) s.node is refl refl takes
 
 -- an answer that is held, for a request for which a context may have been made
 pub answers_made : (Takes : Node → Effect → Type 0) (request : Arrival) (old new : GatewayState) (step : ControlStep) (sent : Sent) (answer : List Message) (cause : ℕ) (made : Bool) (node : Node) → step ≡ record { out = Some sent; report = record (plain_report (Answered cause)) { made = made } } → datagram_by sent ≡ datagram_of old.node.config (record { destination = request.source; messages = answer }) → ReadsBack answer → new.node ≡ holding request answer node → new.role ≡ old.role
@@ -100,6 +93,18 @@ message_taken role old request m e peer new takes hears = inr (peer, inr (new, i
 pub message_left : (role : Role) (old : Node) (request : Arrival) (m : Message) → request.source.ip ≡ old.config.peer.control → IsNew old request → (takes_message role m ≡ true → ⊥) → MachineStep role old (Control_came request (Control_message m)) (dropped old Unexpected)
 message_left role old request m peer new not = inr (peer, inr (new, inl (not, refl)))
 
+-- a datagram that is dropped, and changes nothing
+pub dropped_taken : (source : Endpoint) (octets : List ℕ) (s : GatewayState) (step : ControlStep) (why : DropReason) → step ≡ record { out = None; report = plain_report (Dropped why) } → MachineStep s.role s.node (Control_came (arrival_of source octets) (taken_as (datagram_reading octets))) (dropped s.node why) → IsTaken source octets s step s
+dropped_taken source octets s step why is takes =
+    subst (λ (t : ControlStep). IsTaken source octets s t s) (sym is)
+    (record {
+      effect = dropped s.node why;
+      takes = takes;
+      tells = record { sent = none_sent s.node.config; outcome = refl; alone = refl; heard = refl; restart = refl; made = refl; all = refl };
+      becomes = refl;
+      role = refl;
+    })
+
 tells_heard : (config : Config) (request : Arrival) (old : GatewayState) (step : ControlStep) (recovery : Option Counter) (e : Effect) → config ≡ old.node.config → TellsRow config request step e → Tells old request (record step { report = report_heard (weighed_by recovery old.node.known) step.report }) (told recovery old.node.known e)
 tells_heard config request old step None e same tells =
     record {
@@ -126,34 +131,41 @@ pub told_node : (recovery : Option Counter) (known : Option ℕ) (e : Effect) �
 told_node None known e = refl
 told_node (Some counter) known e = refl
 
--- a row, once the counter was heard, is a step on what the octets read as
-pub row_taken : (source : Endpoint) (octets : List ℕ) (old : GatewayState) (m : Message) (recovery : Option Counter) (step : ControlStep) (new : GatewayState) → source.ip ≡ old.node.config.peer.control → IsNew old.node (arrival_of source octets) → taken_as (datagram_reading octets) ≡ Control_message m → takes_message old.role m ≡ true
-    → option_map (λ (c : Counter). c.0) recovery ≡ recovery_of m → (IsEarlier (weighed_by recovery old.node.known) → ⊥) → IsHeardRow (arrival_of source octets) m (weighed_by recovery old.node.known) old step new
-    → IsTaken source octets old (record step { report = report_heard (weighed_by recovery old.node.known) step.report }) new
-row_taken source octets old m recovery step new peer fresh reads takes counter on row =
-    let request : Arrival = arrival_of source octets in
-    let effect : Effect = told recovery old.node.known row.effect in
-    let heard = subst (λ (r : Option ℕ). Hears (TakesBy old.role request m) old.node r effect) counter (hears (TakesBy old.role request m) old.node recovery row.effect on row.takes) in
-    record {
-      effect = effect;
-      takes = subst (λ (r : ControlReading). MachineStep old.role old.node (Control_came request r) effect) (sym reads) (message_taken old.role old.node request m effect peer fresh takes heard);
-      tells = tells_heard _ request old step recovery row.effect (config_stays (weighed_by recovery old.node.known) old.node) row.tells;
-      becomes = row.becomes ∙ sym (told_node recovery old.node.known row.effect);
-      role = row.role_stays;
-    }
+-- a message from the peer, which the gateway takes, is weighed by its counter
+module _ (source : Endpoint) (octets : List ℕ) (old : GatewayState) (m : Message) (recovery : Option Counter) (peer : source.ip ≡ old.node.config.peer.control) (fresh : IsNew old.node (arrival_of source octets)) (reads : Control_message m ≡ taken_as (datagram_reading octets)) (takes : takes_message old.role m ≡ true) (counter : option_map (λ (c : Counter). c.0) recovery ≡ recovery_of m) where
+  -- a row, once the counter was heard, is a step on what the octets read as
+  row_weighed : (step : ControlStep) (new : GatewayState) → (IsEarlier (weighed_by recovery old.node.known) → ⊥) → IsHeardRow (arrival_of source octets) m (weighed_by recovery old.node.known) old step new
+      → IsTaken source octets old (record step { report = report_heard (weighed_by recovery old.node.known) step.report }) new
+  row_weighed step new on row =
+      let request : Arrival = arrival_of source octets in
+      let effect : Effect = told recovery old.node.known row.effect in
+      let heard = subst (λ (r : Option ℕ). Hears (TakesBy old.role request m) old.node r effect) counter (hears (TakesBy old.role request m) old.node recovery row.effect on row.takes) in
+      record {
+        effect = effect;
+        takes = subst (λ (r : ControlReading). MachineStep old.role old.node (Control_came request r) effect) reads (message_taken old.role old.node request m effect peer fresh takes heard);
+        tells = tells_heard _ request old step recovery row.effect (config_stays (weighed_by recovery old.node.known) old.node) row.tells;
+        becomes = row.becomes ∙ sym (told_node recovery old.node.known row.effect);
+        role = row.role_stays;
+      }
 
--- a message with a counter of an earlier start is dropped
-pub early_taken : (source : Endpoint) (octets : List ℕ) (old : GatewayState) (m : Message) (recovery : Option Counter) → source.ip ≡ old.node.config.peer.control → IsNew old.node (arrival_of source octets) → taken_as (datagram_reading octets) ≡ Control_message m → takes_message old.role m ≡ true
-    → option_map (λ (c : Counter). c.0) recovery ≡ recovery_of m → IsEarlier (weighed_by recovery old.node.known)
-    → IsTaken source octets old (record { out = None; report = report_heard (weighed_by recovery old.node.known) (plain_report (Dropped OldCounter)) }) old
-early_taken source octets old m recovery peer fresh reads takes counter early =
-    let request : Arrival = arrival_of source octets in
-    let effect : Effect = told recovery old.node.known (dropped old.node OldCounter) in
-    let heard = subst (λ (r : Option ℕ). Hears (TakesBy old.role request m) old.node r effect) counter (hears_early (TakesBy old.role request m) old.node recovery early) in
-    record {
-      effect = effect;
-      takes = subst (λ (r : ControlReading). MachineStep old.role old.node (Control_came request r) effect) (sym reads) (message_taken old.role old.node request m effect peer fresh takes heard);
-      tells = tells_heard old.node.config request old (record { out = None; report = plain_report (Dropped OldCounter) }) recovery (dropped old.node OldCounter) refl (record { sent = none_sent old.node.config; outcome = refl; alone = refl; made = refl; heard = refl; learned = refl; untold = refl; unlearned = refl; all = refl });
-      becomes = sym (told_node recovery old.node.known (dropped old.node OldCounter));
-      role = refl;
-    }
+  -- a message with a counter of an earlier start is dropped
+  early_weighed : IsEarlier (weighed_by recovery old.node.known) → IsTaken source octets old (record { out = None; report = report_heard (weighed_by recovery old.node.known) (plain_report (Dropped OldCounter)) }) old
+  early_weighed early =
+      let request : Arrival = arrival_of source octets in
+      let effect : Effect = told recovery old.node.known (dropped old.node OldCounter) in
+      let heard = subst (λ (r : Option ℕ). Hears (TakesBy old.role request m) old.node r effect) counter (hears_early (TakesBy old.role request m) old.node recovery early) in
+      record {
+        effect = effect;
+        takes = subst (λ (r : ControlReading). MachineStep old.role old.node (Control_came request r) effect) reads (message_taken old.role old.node request m effect peer fresh takes heard);
+        tells = tells_heard old.node.config request old (record { out = None; report = plain_report (Dropped OldCounter) }) recovery (dropped old.node OldCounter) refl (record { sent = none_sent old.node.config; outcome = refl; alone = refl; made = refl; heard = refl; learned = refl; untold = refl; unlearned = refl; all = refl });
+        becomes = sym (told_node recovery old.node.known (dropped old.node OldCounter));
+        role = refl;
+      }
+
+  -- the same by what was heard
+  module _ (heard : Heard) (is : heard ≡ weighed_by recovery old.node.known) where
+    pub row_taken : (step : ControlStep) (new : GatewayState) → (IsEarlier heard → ⊥) → IsHeardRow (arrival_of source octets) m heard old step new → IsTaken source octets old (record step { report = report_heard heard step.report }) new
+    row_taken step new = subst (λ (h : Heard). (IsEarlier h → ⊥) → IsHeardRow (arrival_of source octets) m h old step new → IsTaken source octets old (record step { report = report_heard h step.report }) new) (sym is) (row_weighed step new)
+
+    pub early_taken : IsEarlier heard → IsTaken source octets old (record { out = None; report = report_heard heard (plain_report (Dropped OldCounter)) }) old
+    early_taken = subst (λ (h : Heard). IsEarlier h → IsTaken source octets old (record { out = None; report = report_heard h (plain_report (Dropped OldCounter)) }) old) (sym is) early_weighed

@@ -9,3 +9,8 @@ meets holds next = inr (holds, next)
 -- a rule is not met
 pub breaks : {P Fails : Type 0} {Next : P → Type 0} → (P → ⊥) → Fails → Unless P Fails Next
 breaks broken fails = inl (broken, fails)
+
+-- what follows from a refusal, and from all that comes next, follows from a rule
+pub follows : {G P Fails : Type 0} {Next : P → Type 0} → ((P → ⊥) → Fails → G) → ((holds : P) → Next holds → G) → Unless P Fails Next → G
+follows fails next (inl f) = fails f.0 f.1
+follows fails next (inr p) = next p.0 p.1

@@ -25,6 +25,7 @@ use Rattle.gtp_gateway.specs.declared.sent.Sent.{Sent}
 use Rattle.gtp_gateway.specs.receive.Answer.{answering}
 use Rattle.gtp_gateway.specs.receive.Choosing.{MakesLowestBearer}
 use Rattle.gtp_gateway.specs.receive.CreateBearerRequest.{IsChosen, bearer_answer, change_for, granted_to, is_granted, CanGive}
+use Rattle.gtp_gateway.specs.receive.RestartCounter.{weighed_by}
 use Rattle.gtp_gateway.specs.tables.Change.{changed_by}
 use Rattle.gtp_gateway.specs.receive.Allocations.{StepSendsOrOpens}
 use Rattle.gtp_gateway.specs.Parts.{arrival_of, held_of}
@@ -111,7 +112,7 @@ module _ (source : Endpoint) (octets : List ℕ) (q : CreateBearerRequest) (old 
   -- where it is answered, something is sent
   pub answer_needs : (made : Bool) (m : Message) (cause : ℕ) (left : Node) → HasHeldRoom old.node → BearerJudged request q old.node (answering made request (m ∷ []) cause left) → StepSendsOrOpens request (Control_message message) old
   answer_needs made m cause left room judged =
-      message_needs request old message None peer takes_it refl (λ early. early) (needs_by old.role request message old.node types.CreateBearerRequest types.CreateBearerRequest message has_it refl refl (create_bearer_asked request q old.node made m cause left room judged))
+      message_needs request old message None peer takes_it refl (weighed_by None old.node.known) refl (λ early. early) (needs_by old.role request message old.node types.CreateBearerRequest types.CreateBearerRequest message has_it refl refl (create_bearer_asked request q old.node made m cause left room judged))
 
   pub again_needs : (ps : List HeldPair) → old.node.held ≡ map held_of ps → IsHeld source octets ps → StepSendsOrOpens request (Control_message message) old
   again_needs ps is held =
@@ -129,13 +130,10 @@ same_answer (Granted g) header q old node counter config = λ i. bearer_answer (
 -- what is granted changes no settings
 pub change_config : (r : BearerRequest) (a : CreateBearerAnswer) (n : Node) → (changed_by (change_for r a) n).config ≡ n.config
 change_config r (Refused cause) n = refl
-change_config r NoResources n = refl
-change_config r (Granted g) n = refl
+change_config r a n = refl
 
 -- the bearer that is granted has the lowest identity
 pub lowest_second : (r : BearerRequest) (a : CreateBearerAnswer) (found : Option Session) (old settled new : Node) → CanGive found a old → IsChosen r.header a settled → new.bearers ≡ (changed_by (change_for r a) settled).bearers → is_granted a ≡ true → MakesLowestBearer old new
-lowest_second r (Refused cause) found old settled new can chosen is granted = absurd cc
-lowest_second r NoResources found old settled new can chosen is granted = absurd cc
 lowest_second r (Granted g) found old settled new can chosen is granted = record {
   teid = g.drawn.teid;
   bearer = granted_to r g.identity;
@@ -147,3 +145,4 @@ lowest_second r (Granted g) found old settled new can chosen is granted = record
   has = refl;
   lowest = chosen.identity;
 }
+lowest_second r a found old settled new can chosen is granted = absurd cc

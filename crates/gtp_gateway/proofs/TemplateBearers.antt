@@ -1,5 +1,5 @@
 -- The bearer of a template, which is begun with a session, as the machine's row.
-use Rattle.std.proofs.Common.{◌≡◌, ◌≢◌, inl, inr, ◌<◌, ◌≤◌, ℕ, Bool, false, List, ◌∷◌, length, Option, Some, None, refl, sym, ◌∙◌, ap, subst, arith}
+use Rattle.std.proofs.Common.{◌≡◌, ◌≢◌, inl, inr, ◌<◌, ◌≤◌, ℕ, Bool, false, List, ◌∷◌, length, Option, Some, refl, sym, ◌∙◌, ap, subst, arith}
 use Rattle.std.specs.FinMap.{get, len}
 use Rattle.gtp_values.specs.FiniteMap.{FiniteMap, Among, kept}
 use Rattle.gtp_reliable.specs.Pending.{AreDistinct, IsNextFree}
@@ -28,11 +28,11 @@ use Rattle.gtp_gateway.specs.tables.Teids.{AreTwoDrawn}
 use Rattle.gtp_gateway.specs.receive.CreateSessionRequest.{CanAdd, JudgesAdded, create_session_effect}
 use Rattle.gtp_gateway.specs.receive.RestartCounter.{node_heard}
 use Rattle.gtp_gateway.specs.Parts.{pending_of, pending_in}
-use Rattle.gtp_gateway.specs.Settings.{template_by, template_of}
+use Rattle.gtp_gateway.specs.Settings.{template_of}
 use Rattle.gtp_gateway.specs.tables.Opening.{goes_after, waiting_heard}
 use Rattle.gtp_gateway.specs.messages.Spelled.{message_in}
 use Rattle.gtp_gateway.specs.GatewayState.{GatewayState, IsSoundState}
-use Rattle.gtp_gateway.proofs.Finished.{pending_kept}
+use Rattle.gtp_gateway.proofs.Removed.{pending_kept}
 use Rattle.gtp_machine.proofs.Determined.Steps.{drawn_before}
 use Rattle.gtp_gateway.proofs.Requests.{none_pending, len_pending, small_number, each_found}
 use Rattle.gtp_gateway.proofs.UserRows.{all_stay}
@@ -42,13 +42,10 @@ use Rattle.gtp_gateway.proofs.RestartCounters.{config_stays, counter_stays, draw
 
 -- they are what the node keeps then
 pub pending_heard : (heard : Heard) (n : Node) (waiting : List (Waiting Purpose)) → AreDistinct waiting → n.pending ≡ pending_in waiting → (node_heard heard n).pending ≡ pending_in (waiting_heard heard n.sessions waiting)
-pending_heard heards.Nothing n waiting distinct is = is ∙ ap pending_in (all_stay waiting)
-pending_heard (heards.First counter) n waiting distinct is = is ∙ ap pending_in (all_stay waiting)
-pending_heard (heards.Same counter) n waiting distinct is = is ∙ ap pending_in (all_stay waiting)
 pending_heard (heards.Later counter) n waiting distinct is =
     let stays : PendingRequest → Bool = λ p. not (on (λ t. is_opened (get n.sessions t)) p.session || on (λ t. false) p.bearer) in
     ap (λ (m : FiniteMap PendingRequest). kept (λ _ p. stays p) m) is ∙ sym (pending_kept stays waiting distinct)
-pending_heard (heards.Earlier counter) n waiting distinct is = is ∙ ap pending_in (all_stay waiting)
+pending_heard heard n waiting distinct is = is ∙ ap pending_in (all_stay waiting)
 
 distinct_heard : (heard : Heard) (sessions : _) (waiting : List (Waiting Purpose)) → AreDistinct waiting → AreDistinct (waiting_heard heard sessions waiting)
 distinct_heard heard sessions waiting distinct = distinct_filter (λ (w : Waiting Purpose). not (goes_after heard sessions w.purpose)) waiting distinct
@@ -75,24 +72,7 @@ module _ (name : List ℕ) (g : SessionGrant) (heard : Heard) (s : GatewayState)
   few_left : HasDraws s.node 3 → (q : CreateSessionRequest) → HasDraws (made q) 1
   few_left has q = record { left = let few = has.left in let same = ap length (drawn_stays heard s.node) in omega (arith, few, same) }
 
-  few_were : (q : CreateSessionRequest) → HasDraws (made q) 1 → HasDraws s.node 3
-  few_were q has = record { left = let few = has.left in let same = ap length (drawn_stays heard s.node) in omega (arith, few, same) }
-
-  -- the access point has no template
-  pub added_none : (template : Option Template) → template ≡ None → template_by name template ≡ template_for name s.node.config.templates → JudgesAdded name g heard s (Granted g)
-  added_none template none is = record {
-    judged = λ request q of. by_name request q (create_session_effect request q (Granted g) (node_heard heard s.node)) None (ap (template_by name) (sym none) ∙ is) of refl;
-    is = λ identity pdn chooses. chooses;
-  }
-
   module _ (template : Template) (is : Some (template_of name template) ≡ template_for name s.node.config.templates) where
-    -- no TEID is left
-    pub added_undrawn : (HasDraws s.node 3 → ⊥) → JudgesAdded name g heard s (Granted g)
-    added_undrawn none = record {
-      judged = λ request q of. by_name request q (create_session_effect request q (Granted g) (node_heard heard s.node)) (Some (template_of name template)) is of (inl (λ can. none (few_were q can.0), refl));
-      is = λ identity pdn chooses. chooses;
-    }
-
     module _ (waiting : List (Waiting Purpose)) (distinct : AreDistinct waiting) (pending : s.node.pending ≡ pending_in waiting) where
       few_wait : (q : CreateSessionRequest) → len (made q).pending ≡ length (waiting_heard heard s.node.sessions waiting)
       few_wait q = ap (λ (m : FiniteMap PendingRequest). len m) (pending_heard heard s.node waiting distinct pending) ∙ len_pending (waiting_heard heard s.node.sessions waiting) (distinct_heard heard s.node.sessions waiting distinct)

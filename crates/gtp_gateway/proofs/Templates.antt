@@ -65,31 +65,30 @@ place_among name (n ∷ names) (suc place) is = inr (place_among name names plac
 
 -- where no place has one, there are none
 pub no_templates : (points : List (List ℕ)) (n : ℕ) → templates_in points (replicate n None) ≡ []
-no_templates [] n = refl
-no_templates (name ∷ names) zero = refl
 no_templates (name ∷ names) (suc n) = no_templates names n
+no_templates points n = refl
 
 -- the template of a name is the one that stands first of the same name
-pub named_itself : (name : List ℕ) (t : Template) (others : List machine.Template) → template_for name (template_of name t ∷ others) ≡ Some (template_of name t)
-named_itself name t others = ap (λ (b : Bool). cond b (Some (template_of name t)) (template_for name others)) (same_octets name)
+first_named : (name : List ℕ) (t : machine.Template) (templates : List machine.Template) → t.access_point ≡ name → template_for name (t ∷ templates) ≡ Some t
+first_named name t templates is = ap (λ (b : Bool). cond b (Some t) (template_for name templates)) (subst (λ (n : List ℕ). pointwise nat_eq n name ≡ true) (sym is) (same_octets name))
 
-pub named_otherwise : (name other : List ℕ) (t : Template) (others : List machine.Template) → other ≢ name → template_for name (template_of other t ∷ others) ≡ template_for name others
-named_otherwise name other t others not = by (pointwise nat_eq other name) refl
+first_other : (name : List ℕ) (t : machine.Template) (templates : List machine.Template) → t.access_point ≢ name → template_for name (t ∷ templates) ≡ template_for name templates
+first_other name t templates not = by (pointwise nat_eq t.access_point name) refl
   where
-    by : (b : Bool) → pointwise nat_eq other name ≡ b → template_for name (template_of other t ∷ others) ≡ template_for name others
-    by true same = absurd (not (same_text other name (sym same)))
-    by false apart = ap (λ (b : Bool). cond b (Some (template_of other t)) (template_for name others)) apart
+    by : (b : Bool) → pointwise nat_eq t.access_point name ≡ b → template_for name (t ∷ templates) ≡ template_for name templates
+    by true same = absurd (not (same_text t.access_point name (sym same)))
+    by false apart = ap (λ (b : Bool). cond b (Some t) (template_for name templates)) apart
 
 -- a place of another name, or with nothing
 pub place_otherwise : (name other : List ℕ) (names : List (List ℕ)) (s : Option Template) (places : List (Option Template)) → other ≢ name → template_for name (templates_in (other ∷ names) (s ∷ places)) ≡ template_for name (templates_in names places)
 place_otherwise name other names None places not = refl
-place_otherwise name other names (Some t) places not = named_otherwise name other t (templates_in names places) not
+place_otherwise name other names (Some t) places not = first_other name (template_of other t) (templates_in names places) not
 
 -- what is put at the place of an access point is its template
 pub put_this : (name : List ℕ) (names : List (List ℕ)) (places : List (Option Template)) (place : ℕ) (t : Template) → IsPlaceOf name names place → place < length places → template_for name (templates_in names (slice_set places place (Some t))) ≡ Some (template_of name t)
 put_this name [] places place t is few = absurd is
 put_this name (n ∷ names) [] place t is few = absurd (omega (arith, few))
-put_this name (n ∷ names) (s ∷ places) zero t is few = subst (λ (m : List ℕ). template_for name (template_of m t ∷ templates_in names places) ≡ Some (template_of name t)) (sym is) (named_itself name t (templates_in names places))
+put_this name (n ∷ names) (s ∷ places) zero t is few = subst (λ (m : List ℕ). template_for name (template_of m t ∷ templates_in names places) ≡ Some (template_of name t)) (sym is) (first_named name (template_of name t) (templates_in names places) refl)
 put_this name (n ∷ names) (s ∷ places) (suc place) t is few = place_otherwise name n names s (slice_set places place (Some t)) is.0 ∙ put_this name names places place t is.1 (omega (arith, few))
 
 -- and no other's
@@ -98,7 +97,7 @@ put_others name other [] places place t is not = absurd is
 put_others name other (n ∷ names) [] place t is not = refl
 put_others name other (n ∷ names) (s ∷ places) zero t is not =
     let apart : n ≢ other = λ same. not (sym same ∙ is) in
-    named_otherwise other n t (templates_in names places) apart ∙ sym (place_otherwise other n names s places apart)
+    first_other other (template_of n t) (templates_in names places) apart ∙ sym (place_otherwise other n names s places apart)
 put_others name other (n ∷ names) (None ∷ places) (suc place) t is not = put_others name other names places place t is.1 not
 put_others name other (n ∷ names) (Some u ∷ places) (suc place) t is not = ap (λ (o : Option machine.Template). cond (pointwise nat_eq n other) (Some (template_of n u)) o) (put_others name other names places place t is.1 not)
 
@@ -124,11 +123,7 @@ module _ (name : List ℕ) (points : List (List ℕ)) (places : List (Option Tem
   template_found t is has =
       both
       ∙ ((λ i. template_for name (templates_in (is i ∷ drop (place + 1) points) (has i ∷ drop (place + 1) places)))
-      ∙ named_itself name t (templates_in (drop (place + 1) points) (drop (place + 1) places)))
-
--- after the last access point there is none
-pub template_ended : (name : List ℕ) (points : List (List ℕ)) (places : List (Option Template)) (place : ℕ) → length points ≤ place → template_for name (templates_in points places) ≡ template_for name (templates_in (drop place points) (drop place places)) → None ≡ template_for name (templates_in points places)
-template_ended name points places place ended is = sym (is ∙ ap (λ (ps : List (List ℕ)). template_for name (templates_in ps (drop place places))) (drop_of_length-le points ended))
+      ∙ first_named name (template_of name t) (templates_in (drop (place + 1) points) (drop (place + 1) places)) refl)
 
 -- ---- templates in the order of the access points
 
@@ -140,17 +135,6 @@ found_named name (u ∷ templates) t found = by (pointwise nat_eq u.access_point
     by : (b : Bool) → pointwise nat_eq u.access_point name ≡ b → cond b (Some u) (template_for name templates) ≡ Some t → (template_for name templates ≡ Some t → t.access_point ≡ name) → t.access_point ≡ name
     by true same is later = let first : u ≡ t = cc in sym (ap (λ (k : machine.Template). k.access_point) first) ∙ same_text u.access_point name (sym same)
     by false apart is later = later is
-
--- after a first one: it is found where it has the name
-first_named : (name : List ℕ) (t : machine.Template) (templates : List machine.Template) → t.access_point ≡ name → template_for name (t ∷ templates) ≡ Some t
-first_named name t templates is = ap (λ (b : Bool). cond b (Some t) (template_for name templates)) (subst (λ (n : List ℕ). pointwise nat_eq n name ≡ true) (sym is) (same_octets name))
-
-first_other : (name : List ℕ) (t : machine.Template) (templates : List machine.Template) → t.access_point ≢ name → template_for name (t ∷ templates) ≡ template_for name templates
-first_other name t templates not = by (pointwise nat_eq t.access_point name) refl
-  where
-    by : (b : Bool) → pointwise nat_eq t.access_point name ≡ b → template_for name (t ∷ templates) ≡ template_for name templates
-    by true same = absurd (not (same_text t.access_point name (sym same)))
-    by false apart = ap (λ (b : Bool). cond b (Some t) (template_for name templates)) apart
 
 -- a name that has none has none
 none_in_order : (name : List ℕ) (names : List (List ℕ)) (templates : List machine.Template) → template_for name templates ≡ None → template_for name (in_order names templates) ≡ None
@@ -185,14 +169,13 @@ kept_in_order name (n ∷ names) templates t among is = by (pointwise nat_eq n n
 
 -- a template stands at the place of an access point
 named_among : (name : List ℕ) (names : List (List ℕ)) (places : List (Option Template)) (t : machine.Template) → template_for name (templates_in names places) ≡ Some t → Among name names
-named_among name [] places t found = cc
-named_among name (n ∷ names) [] t found = cc
 named_among name (n ∷ names) (None ∷ places) t found = inr (named_among name names places t found)
 named_among name (n ∷ names) (Some u ∷ places) t found = by (pointwise nat_eq n name) refl found (named_among name names places t)
   where
     by : (b : Bool) → pointwise nat_eq n name ≡ b → cond b (Some (template_of n u)) (template_for name (templates_in names places)) ≡ Some t → (template_for name (templates_in names places) ≡ Some t → Among name names) → (name ≡ n) ⊎ Among name names
     by true same is later = inl (sym (same_text n name (sym same)))
     by false apart is later = inr (later is)
+named_among name names places t found = cc
 
 -- the order changes no access point's template
 pub same_in_order : (name : List ℕ) (names : List (List ℕ)) (places : List (Option Template)) → template_for name (in_order names (templates_in names places)) ≡ template_for name (templates_in names places)
@@ -214,12 +197,12 @@ put_in_order name names places place t is few = one_order names _ _ (λ other. b
     by other true same =
         let here : name ≡ other = same_text name other (sym same) in
         subst (λ (k : List ℕ). template_for k (templates_in names (slice_set places place (Some t))) ≡ template_for k (template_of name t ∷ in_order names (templates_in names places))) here
-        (put_this name names places place t is few ∙ sym (named_itself name t (in_order names (templates_in names places))))
+        (put_this name names places place t is few ∙ sym (first_named name (template_of name t) (in_order names (templates_in names places)) refl))
     by other false apart =
         let not : name ≢ other = are_apart name other apart in
         put_others name other names places place t is (λ same. not (sym same))
         ∙ (sym (same_in_order other names places)
-        ∙ sym (named_otherwise other name t (in_order names (templates_in names places)) not))
+        ∙ sym (first_other other (template_of name t) (in_order names (templates_in names places)) not))
 
 -- where no place has a template, there are none
 pub no_order : (names : List (List ℕ)) (n : ℕ) → in_order names (templates_in names (replicate n None)) ≡ []

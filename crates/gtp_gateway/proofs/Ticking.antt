@@ -46,7 +46,7 @@ module _ (old mid : GatewayState) (told : List ℕ) (pending : old.node.pending 
       let t3 = old.queues.timers.t3 in
       let n3 = old.queues.timers.n3 in
       let mid_pending : mid.node.pending ≡ pending_in (filter waits.stays old.queues.waiting) = waits.pending ∙ ap (λ t. pending_in t.waiting) waits.queues in
-      let now : pending_in (tick_later mid.queues).waiting ≡ mid.node.pending = ap (λ t. pending_in (tick_later t).waiting) waits.queues ∙ (sym (pending_stays t3 n3 old.queues.waiting waits.stays old.node told mid.node each mid_pending) ∙ sym mid_pending) in
+      let now : pending_in (tick_later mid.queues).waiting ≡ mid.node.pending = ap (λ t. pending_in (tick_later t).waiting) waits.queues ∙ (sym (pending_stays t3 n3 old.queues.waiting distinct waits.stays old.node told mid.node each mid_pending) ∙ sym mid_pending) in
       let left : map held_of (tick_later mid.queues).held ≡ left_in old.queues.timers.hold old.queues.held = ap (λ t. map held_of (tick_later t).held) waits.queues in
       λ i. record mid.node { pending = now i; held = left i }
 

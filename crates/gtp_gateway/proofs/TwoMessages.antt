@@ -19,7 +19,7 @@ use Rattle.gtp_machine.specs.Decoded.{message_of}
 use Rattle.gtp_machine.specs.Input.{ControlReading, Control_message}
 use Rattle.gtp_machine.specs.Message.{Message, Create_session_response, Create_bearer_request}
 use Rattle.gtp_machine.specs.Node.{Held, Node}
-use Rattle.gtp_machine.specs.Reading.{Alone, Both, announces, datagram_fault, datagram_reading}
+use Rattle.gtp_machine.specs.Reading.{Alone, Both, announces, datagram_fault, datagram_reading, taken_as}
 use Rattle.gtp_machine.specs.Step.{TakesPair}
 use Rattle.gtp_machine.proofs.Octets.Datagrams.{cut_announces_none, datagram_by_grammar, reads_alone}
 use Rattle.gtp_gateway.specs.receive.TwoMessages.{first_length, first_part, second_part, IsSecondAt}
@@ -102,6 +102,13 @@ pub two_read : (octets : List ℕ) (first second : Viewed) (back : List ℕ) →
 two_read octets first second back (front, announced, in_front, in_back) =
     sym ((datagram_by_grammar octets (Both (message_of first.message) (message_of second.message))).1 (inl (both first.message second.message, inr (front, back, announced, (first.message, in_front.spelled, (second.message, in_back.spelled, refl))), refl)))
 
+-- octets that spell one message are taken for it, and those at fault for the fault
+pub reads_message : (octets : List ℕ) (m : MessageValue) → IsMessage octets m → Control_message (message_of m) ≡ taken_as (datagram_reading octets)
+reads_message octets m is = ap taken_as (sym (one_reads octets m is))
+
+pub reads_fault : (octets : List ℕ) (f : V2Fault) → IsDatagramFault octets f → datagram_fault (announces octets) f ≡ taken_as (datagram_reading octets)
+reads_fault octets f fails = ap taken_as (sym (fault_reads octets f fails))
+
 -- octets that read as one message, or as a fault, are no pair
 pub alone_no_pair : (source : Endpoint) (octets : List ℕ) (old : GatewayState) (reading : ControlReading) → datagram_reading octets ≡ Alone reading → IsNoPair source octets old
 alone_no_pair source octets old reading is pair = let both : Alone reading ≡ Both (Create_session_response pair.answer) (Create_bearer_request pair.asked) = sym is ∙ pair.is in cc
@@ -172,12 +179,7 @@ second_there octets first (Some second) back place (front, announced, in_front, 
 pub no_second : (octets : List ℕ) (place : ℕ) → announces octets ≡ false → IsSecondAt octets place → ⊥
 no_second octets place none at = let told : true ≡ false = sym (parts_of octets at.front at.back at.announced).told ∙ none in cc
 
--- nor have those that spell one message alone
-pub no_second_viewed : (octets : List ℕ) (first : Viewed) (second : Option Viewed) (back : List ℕ) (place : ℕ) → LieIn octets first second back → is_some second ≡ false → IsSecondAt octets place → ⊥
-no_second_viewed octets first None back place lie none at = no_second octets place (none_announced octets first.message lie.0.spelled) at
-no_second_viewed octets first (Some second) back place lie none at = absurd cc
-
--- nor those at fault
+-- nor have those at fault
 pub no_second_fault : (octets : List ℕ) (f : V2Fault) (place : ℕ) → IsDatagramFault octets f → IsSecondAt octets place → ⊥
 no_second_fault octets f place fails at =
     let read = sym ((datagram_by_grammar octets (Both (message_of at.first) (message_of at.second))).1 (inl (both at.first at.second, inr (at.front, at.back, at.announced, (at.first, at.spells_first, (at.second, at.spells_second, refl))), refl))) in

@@ -18,7 +18,7 @@ use Rattle.gtp_gateway.specs.user.Accepted as packets
 use Rattle.gtp_gateway.specs.declared.step.Report.{Report}
 use Rattle.gtp_gateway.specs.declared.step.Step.{Step}
 use Rattle.gtp_gateway.specs.declared.user.reply.Reply.{Reply}
-use Rattle.gtp_gateway.specs.declared.user.reply.Reply.TheVariants.{ErrorIndication, Notification, EchoResponse}
+use Rattle.gtp_gateway.specs.declared.user.reply.Reply.TheVariants.{ErrorIndication}
 use Rattle.gtp_gateway.specs.declared.user.receive.Judged.{Judged}
 use Rattle.gtp_gateway.specs.declared.user.receive.Judged.TheVariants as judged
 use Rattle.gtp_gateway.specs.Parts.{pending_in}
@@ -33,7 +33,8 @@ use Rattle.gtp_gateway.proofs.SentBack.{none_sent}
 pub none_there : (node : Node) (t : ℕ) → get node.bearers t ≡ None → HasBearer node t → ⊥
 none_there node t none at = let same : None ≡ Some at.bearer = sym none ∙ at.stands in cc
 
-filter_all : {X : Type 0} (xs : List X) → filter (λ _. true) xs ≡ xs
+-- where none goes, all stay
+pub filter_all : {X : Type 0} (xs : List X) → filter (λ _. true) xs ≡ xs
 filter_all [] = refl
 filter_all (x ∷ xs) = λ i. x ∷ filter_all xs i
 
@@ -97,8 +98,7 @@ module _ (Takes : Node → Effect → Type 0) (old : GatewayState) where
     where
       not_taken : (r : Reply) → outcome_of r ≡ Accepted → ⊥
       not_taken (ErrorIndication teid) is = cc
-      not_taken Notification is = cc
-      not_taken (EchoResponse to number) is = cc
+      not_taken r is = cc
 
       none_some : (o : Option packets.Accepted) → o ≡ None → IsSome o → ⊥
       none_some None is some = cc

@@ -170,6 +170,7 @@ impl Parts {
     }
 
     /// Takes a datagram of a plane.
+    #[tactic(auto, using(crate::proofs::Receiving::as_received, crate::proofs::Receiving::as_timed, crate::proofs::Receiving::as_stays, crate::proofs::QueuesAfter::tied_of))]
     pub fn receive<'a>(
         &mut self,
         alloc: Global,

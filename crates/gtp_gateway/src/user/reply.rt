@@ -63,6 +63,7 @@ fn address_octets(address: &Ip) -> &[u8]
 }
 
 /// An Error Indication (TS 29.281 7.3.1): the gateway at this address has no bearer under this TEID.
+#[tactic(auto, using(crate::proofs::Own::indication_own))]
 fn error_indication(teid: Teid, peer: Ip) -> UserMessage<'static>
     ensures own { IsUserOwn result }
     ensures says { user_message result ≡ Error_indication teid peer }
@@ -91,6 +92,7 @@ fn notification() -> UserMessage<'static>
 }
 
 /// An Echo Response (TS 29.281 7.2.2).
+#[tactic(auto, using(crate::proofs::Own::echo_own))]
 fn echo_response(number: u16) -> UserMessage<'static>
     ensures own { IsUserOwn result }
     ensures says { user_message result ≡ User_echo_response number }

@@ -53,6 +53,7 @@ pub fn encode_user_own(alloc: Global, message: &UserMessage) -> Result<Vec<u8>, 
 }
 
 /// A G-PDU with a packet (TS 29.281 5.1).
+#[tactic(auto, using(crate::proofs::Own::packet_own))]
 fn packet(teid: Teid, payload: &[u8]) -> UserMessage<'_>
     requires { length payload.now ≤ 65000 }
     ensures own { IsUserOwn result }
@@ -67,6 +68,7 @@ fn packet(teid: Teid, payload: &[u8]) -> UserMessage<'_>
 }
 
 /// An End Marker (TS 29.281 7.3.2).
+#[tactic(auto, using(crate::proofs::Own::marker_own))]
 fn end_marker(teid: Teid) -> UserMessage<'static>
     ensures own { IsUserOwn result }
     ensures says { user_message result ≡ End_marker teid }

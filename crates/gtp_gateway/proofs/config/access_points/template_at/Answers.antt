@@ -1,6 +1,6 @@
 use Rattle.std.proofs.Common.{◌≡◌, ◌<◌, ◌≤◌, ℕ, List, None, sym, ◌∙◌, subst, length, arith}
 use Rattle.std.specs.Cmp.Lexicographic.{same_text}
-use Rattle.gtp_gateway.proofs.Templates.{template_otherwise, template_absent, template_found, template_ended, are_apart}
+use Rattle.gtp_gateway.proofs.Templates.{template_otherwise, template_absent, template_found, are_apart}
 use Rattle.gtp_gateway.proofs.config.access_points.template_at.Goals.{then-eq+in_default, else-eq}
 use Rattle.gtp_gateway.proofs.config.access_points.template_at.Goals as goal
 
@@ -27,6 +27,3 @@ returns-in-Some c =
     let place = c.loop-place.place in
     let room = has_place place (length points) (length places) c.loop-place-test.true c.requires in
     sym (c.loop-place.invariant ∙ template_found name points places place _ _ c.loop-place-test.true room c.in-Some.template (sym c.index-access_points-place.is ∙ same_text _ name (sym c.if-eq.true ∙ c.eq.ensures)) c.in-Some.is)
-
-pub returns : goal.returns
-returns c = template_ended c.args.name.now c.args.access_points.now c.args.templates.now c.loop-place.place c.loop-place-test.false c.loop-place.invariant

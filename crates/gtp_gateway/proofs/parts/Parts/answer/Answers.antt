@@ -1,7 +1,5 @@
-use Rattle.std.proofs.Common.{◌∙◌, ap, subst, [], ◌∷◌}
-use Rattle.gtp_gateway.specs.receive.Answer.{after_held}
-use Rattle.gtp_gateway.specs.user.Receive.{RequestsWaitOn}
-use Rattle.gtp_gateway.proofs.QueuesAfter.{tied_of, answered_goes}
+use Rattle.std.proofs.Common.{◌∙◌, ap, [], ◌∷◌}
+use Rattle.gtp_gateway.proofs.QueuesAfter.{readied_goes}
 use Rattle.gtp_machine.specs.Node.{holding}
 use Rattle.gtp_machine.specs.Reading.{control_message}
 use Rattle.gtp_gateway.specs.tables.Change.{changed_by}
@@ -17,8 +15,4 @@ returns-clause-node c =
     ∙ ap (holding (arrival_of c.args.source c.args.request.now) (control_message c.args.message.now ∷ [])) (c.in_ok-apply.ensures.node ∙ ap (λ (s : GatewayState). changed_by c.args.change s.node) c.ready_answer.ensures.same)
 
 pub returns-clause-goes : goal.returns-clause-goes
-returns-clause-goes c =
-    let mid = state_of c.apply.new.self in
-    let ready = c.in_ok-ready.ready in
-    answered_goes c.args.source c.args.request.now (state_of c.args.self.now) mid (state_of c.send_answer.new.self) ready.answer.items (subst (λ (s : GatewayState). RequestsWaitOn s mid) c.ready_answer.ensures.same c.apply.ensures.waits)
-    (c.send_answer.ensures.queues ∙ (λ i. record mid.queues { held = after_held c.args.source (c.in_ok-ready.ensures.request i) ready.answer.items mid.queues.held })) (tied_of c.send_answer.new.self)
+returns-clause-goes c = readied_goes c.args.source c.args.request.now (state_of c.args.self.now) _ (state_of c.apply.new.self) c.send_answer.new.self _ c.in_ok-ready.ready.answer.items c.ready_answer.ensures.same c.in_ok-ready.ensures.request c.apply.ensures.waits c.send_answer.ensures.queues

@@ -7,9 +7,8 @@ use Rattle.gtp_machine.specs.Reading.{control_message}
 use Rattle.gtp_machine.specs.Serving.{BearerJudged, CreateBearerAsked}
 use Rattle.gtp_machine.specs.Spelling.{Datagram, spelled, datagram_of}
 use Rattle.gtp_gateway.specs.declared.step.ControlStep.{ControlStep}
-use Rattle.gtp_gateway.specs.receive.Answer.{after_held, answering}
-use Rattle.gtp_gateway.specs.user.Receive.{RequestsWaitOn}
-use Rattle.gtp_gateway.proofs.QueuesAfter.{tied_of, answered_goes}
+use Rattle.gtp_gateway.specs.receive.Answer.{answering}
+use Rattle.gtp_gateway.proofs.QueuesAfter.{readied_goes}
 use Rattle.gtp_gateway.specs.tables.Change.{changed_by}
 use Rattle.gtp_gateway.specs.receive.CreateBearerRequest.{bearer_answer, change_for, is_granted}
 use Rattle.gtp_gateway.specs.receive.Piggybacked.{node_after_first, state_after_first}
@@ -69,8 +68,4 @@ returns-clause-choices c = λ made.
     lowest_second r j.answer _ old (node_after_first c.args.heard c.args.verdict c.args.seq old) (node_of c.send_answer-out.new.self) c.requires.given c.requires.judged.chosen (ap (λ (n : Node). n.bearers) (left c)) granted
 
 pub returns-clause-goes : goal.returns-clause-goes
-returns-clause-goes c =
-    let mid = state_of c.apply_both.new.self in
-    let ready = c.in_ok-ready.ready in
-    answered_goes c.args.source c.args.octets.now (state_of c.args.self.now) mid (state_of c.send_answer-out.new.self) ready.answer.items (subst (λ (s : GatewayState). RequestsWaitOn s mid) c.ready_answer.ensures.same c.apply_both.ensures.waits)
-    (c.send_answer-out.ensures.queues ∙ (λ i. record mid.queues { held = after_held c.args.source (c.in_ok-ready.ensures.request i) ready.answer.items mid.queues.held })) (tied_of c.send_answer-out.new.self)
+returns-clause-goes c = readied_goes c.args.source c.args.octets.now (state_of c.args.self.now) _ (state_of c.apply_both.new.self) c.send_answer-out.new.self _ c.in_ok-ready.ready.answer.items c.ready_answer.ensures.same c.in_ok-ready.ensures.request c.apply_both.ensures.waits c.send_answer-out.ensures.queues

@@ -1,20 +1,19 @@
-use Rattle.std.proofs.Common.{Option, inl, refl, sym, subst}
+use Rattle.std.proofs.Common.{Option, inl, refl, subst}
 use Rattle.std.specs.Prelude.{IfSome, IfNone}
 use Rattle.gtp_reliable.specs.Held.{IsHeld}
 use Rattle.gtp_machine.specs.Input.{dropped}
 use Rattle.gtp_machine.specs.Reading.{datagram_reading, taken_as}
 use Rattle.gtp_machine.specs.declared.outcome.DropReason.TheVariants.{NotPeer}
 use Rattle.gtp_gateway.specs.declared.sent.Sent.{Sent}
-use Rattle.gtp_gateway.specs.declared.step.ControlStep.{ControlStep}
 use Rattle.gtp_gateway.specs.Parts.{arrival_of}
 use Rattle.gtp_gateway.specs.GatewayState.{state_of}
-use Rattle.gtp_gateway.specs.receive.Taken.{IsTaken, IsSentAgain}
+use Rattle.gtp_gateway.specs.receive.Taken.{IsSentAgain}
 use Rattle.gtp_gateway.proofs.Answers.{none_held}
 use Rattle.gtp_gateway.proofs.Columns.{yes, no}
 use Rattle.gtp_gateway.proofs.Allocations.{on_err, repeated_needs}
 use Rattle.gtp_gateway.proofs.TwoMessages.{kept_no_pair}
 use Rattle.gtp_gateway.proofs.SecondsTaken.{held_there, repeated_taken}
-use Rattle.gtp_gateway.proofs.SentBack.{none_sent}
+use Rattle.gtp_gateway.proofs.Rows.{dropped_taken}
 use Rattle.gtp_gateway.proofs.Taking.{by_role}
 use Rattle.gtp_gateway.proofs.parts.Parts.before_reading.Goals as goal
 
@@ -25,14 +24,8 @@ returns-then-not-is_from_peer-clause-entered c =
     let octets = c.args.octets.now in
     let other = no c.is_from_peer.ensures c.if-not-is_from_peer.true in (
       λ pair. other pair.peer,
-      subst (λ (s : ControlStep). IsTaken source octets old s old) (sym c.dropped.ensures)
-          (record {
-            effect = dropped old.node NotPeer;
-            takes = by_role old.role old.node (arrival_of source octets) (taken_as (datagram_reading octets)) (dropped old.node NotPeer) (λ Reads. inl (other, refl));
-            tells = record { sent = none_sent old.node.config; outcome = refl; alone = refl; heard = refl; restart = refl; made = refl; all = refl };
-            becomes = refl;
-            role = refl;
-          }),
+      dropped_taken source octets old c.dropped.result NotPeer c.dropped.ensures
+          (by_role old.role old.node (arrival_of source octets) (taken_as (datagram_reading octets)) (dropped old.node NotPeer) (λ Reads. inl (other, refl))),
     )
 
 pub returns-in-Some-clause-entered : goal.returns-in-Some-clause-entered

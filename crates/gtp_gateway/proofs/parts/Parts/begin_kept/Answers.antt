@@ -13,9 +13,8 @@ use Rattle.gtp_gateway.proofs.parts.Parts.begin_kept.Goals as goal
 pub returns-clause-node : goal.returns-clause-node
 returns-clause-node c =
     let old = c.args.self.now in
-    let ws = old.pending.waiting in
     let w : Waiting Purpose = just_sent c.args.seq c.control_end_of-to.result c.args.octets.items c.args.purpose in
-    let pushed = ap pending_in c.begin.ensures.waiting ∙ pending_push ws w (about c.args.purpose (message_in c.args.octets.items)) c.requires.prepared.number.free refl in
+    let pushed = ap pending_in c.begin.ensures.waiting ∙ pending_push old.pending.waiting w (about c.args.purpose (message_in c.args.octets.items)) c.requires.prepared.number.free refl in
     λ i. record (node_of old) { pending = pushed i }
 
 -- and is for its purpose

@@ -18,10 +18,9 @@ use Rattle.gtp_gateway.proofs.parts.Parts.begin_request.Goals as goal
 -- the request is kept by its octets, which read as it
 pub returns-clause-node : goal.returns-clause-node
 returns-clause-node c =
-    let old = c.args.self.now in
     let seq = c.args.seq in
     let purpose = c.args.purpose in
-    let ws = old.pending.waiting in
+    let ws = c.args.self.now.pending.waiting in
     let request : Message = control_message c.args.message.now in
     let said : message_in c.in_ok-kept.kept.items ≡ request = ap message_in (c.in_ok-kept.ensures.items ∙ c.as_slice.ensures.value) ∙ c.in_ok-octets.ensures.read in
     let w : Waiting Purpose = just_sent seq c.control_end_of-to.result c.in_ok-kept.kept.items purpose in

@@ -9,14 +9,15 @@ use Rattle.gtp_machine.specs.Node.{Session}
 use Rattle.gtp_machine.specs.Ordered.{Unless}
 use Rattle.gtp_gateway.specs.declared.fault.CommandFault.{CommandFault}
 use Rattle.gtp_gateway.specs.declared.sent.Begun.{Begun}
-use Rattle.gtp_gateway.specs.command.Command.{IsActiveSession, IsLastRefused, IsRefusedWhere}
+use Rattle.gtp_gateway.specs.command.Command.{IsLastRefused, IsRefusedWhere}
 use Rattle.gtp_gateway.specs.command.CreateBearer.{request_to_create_bearer}
 use Rattle.gtp_gateway.specs.GatewayState.{GatewayState, state_of}
 use Rattle.gtp_gateway.proofs.ActiveSessions.{reaches, goes_active, refused_first}
 use Rattle.gtp_gateway.proofs.Columns.{stops, goes}
 use Rattle.gtp_gateway.proofs.Commands.{done_by}
-use Rattle.gtp_gateway.proofs.Refusals.{bearer_goes_on}
-use Rattle.gtp_gateway.proofs.RequestsToSend.{no_memory, as_err, last}
+use Rattle.gtp_gateway.proofs.Refusals.{asks_on}
+use Rattle.gtp_gateway.proofs.RequestsToSend.{as_err, last}
+use Rattle.gtp_gateway.proofs.parts.Parts.create_bearer.Goals.{After-next_number}
 use Rattle.gtp_gateway.proofs.parts.Parts.create_bearer.Goals as goal
 
 -- what is left of the command for an active session
@@ -37,27 +38,24 @@ returns-in_default-clause-refused c = λ why.
     (stops s.node _ TeidsUsed refl c.in_default.ensures.none why)
 
 -- where a TEID is left, the last rule decides
-by_last : (s : GatewayState) (session : ℕ) (at : Session) (tft : List ℕ) (qos : Qos) (r : Result Begun CommandFault) → IsActiveSession Packet s session at → HasDraws s.node 1 → IsLastRefused s r → IsRefusedWhere (Create_bearer session tft qos) s r
-by_last s session at tft qos r active left rule = λ why.
-    goes_active Packet s session (rest s session tft qos) at r active why
-    (goes s.node r TeidsUsed why left (λ _.
-    last s r (BeginsBearer s.node session at tft qos) why rule (bearer_goes_on s.node session at tft qos why)))
+by_last : (c : After-next_number) (r : Result Begun CommandFault) → IsLastRefused (state_of c.args.self.now) r → IsRefusedWhere (Create_bearer c.args.session c.args.tft.now c.args.qos.now) (state_of c.args.self.now) r
+by_last c r rule = λ why.
+    let s = state_of c.args.self.now in
+    let session = c.args.session in
+    let at = c.in_ok-at.at in
+    let tft = c.args.tft.now in
+    let qos = c.args.qos.now in
+    goes_active Packet s session (rest s session tft qos) at r c.in_ok-at.ensures.active why
+    (goes s.node r TeidsUsed why c.in-Some.ensures.some.left (λ _.
+    last s r (BeginsBearer s.node session at tft qos) why rule (λ begins. asks_on why begins.gives refl)))
 
 pub returns-in_err-seq-clause-refused : goal.returns-in_err-seq-clause-refused
 returns-in_err-seq-clause-refused c =
-    let s = state_of c.args.self.now in
-    by_last s c.args.session c.in_ok-at.at c.args.tft.now c.args.qos.now c.from_residual-in_err-seq.result c.in_ok-at.ensures.active c.in-Some.ensures.some.left
-    (as_err s c.in_err-seq.field-0.0 c.from_residual-in_err-seq.result c.from_residual-in_err-seq.ensures.1 c.in_err-seq.ensures.refused)
-
-pub returns-in_err-request-clause-refused : goal.returns-in_err-request-clause-refused
-returns-in_err-request-clause-refused c =
-    let s = state_of c.args.self.now in
-    by_last s c.args.session c.in_ok-at.at c.args.tft.now c.args.qos.now c.from_residual-in_err-request.result c.in_ok-at.ensures.active c.in-Some.ensures.some.left
-    (no_memory s c.in_ok-seq.ensures.room c.from_residual-in_err-request.result c.from_residual-in_err-request.ensures.1)
+    let r = c.from_residual-in_err-seq in
+    by_last (goal.at.returns-in_err-seq-clause-refused c).After-next_number r.result (as_err (state_of c.args.self.now) c.in_err-seq.field-0.0 r.result r.ensures.1 c.in_err-seq.ensures.refused)
 
 pub returns-clause-refused : goal.returns-clause-refused
-returns-clause-refused c =
-    by_last (state_of c.args.self.now) c.args.session c.in_ok-at.at c.args.tft.now c.args.qos.now c.send_request.result c.in_ok-at.ensures.active c.in-Some.ensures.some.left c.send_request.ensures.refused
+returns-clause-refused c = by_last (goal.at.returns-clause-refused c).After-next_number c.send_request.result c.send_request.ensures.refused
 
 pub returns-clause-done : goal.returns-clause-done
 returns-clause-done c =

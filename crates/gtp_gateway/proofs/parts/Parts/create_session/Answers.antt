@@ -1,7 +1,6 @@
 use Rattle.std.proofs.Common.{rules, ◌≡◌, ◌↔◌, inr, Result, refl, sym, subst}
 use Rattle.gtp_machine.specs.declared.role.Role.{Role}
 use Rattle.gtp_machine.specs.declared.role.Role.TheVariants.{Serving}
-use Rattle.gtp_machine.specs.Choice.{HasDraws, HasSessionRoom}
 use Rattle.gtp_machine.specs.Command.{SessionBegun, BeginsSession}
 use Rattle.gtp_machine.specs.Input.{Specification, Create_session, refused}
 use Rattle.gtp_machine.specs.declared.outcome.Refusal.TheVariants.{SessionsFull, TeidsUsed}
@@ -12,11 +11,12 @@ use Rattle.gtp_gateway.specs.command.Request.{Request}
 use Rattle.gtp_gateway.specs.tables.Change.{CanChange}
 use Rattle.gtp_gateway.specs.Parts.{node_of}
 use Rattle.gtp_gateway.specs.command.CreateSession.{specification, request_to_create_session}
-use Rattle.gtp_gateway.specs.GatewayState.{GatewayState, state_of}
+use Rattle.gtp_gateway.specs.GatewayState.{state_of}
 use Rattle.gtp_gateway.proofs.Columns.{yes, no, Told, stops, goes}
 use Rattle.gtp_gateway.proofs.Commands.{done_by}
-use Rattle.gtp_gateway.proofs.Refusals.{session_goes_on}
-use Rattle.gtp_gateway.proofs.RequestsToSend.{no_memory, as_err, last}
+use Rattle.gtp_gateway.proofs.Refusals.{asks_on}
+use Rattle.gtp_gateway.proofs.RequestsToSend.{as_err, last}
+use Rattle.gtp_gateway.proofs.parts.Parts.create_session.Goals.{After-next_number}
 use Rattle.gtp_gateway.proofs.parts.Parts.create_session.Goals as goal
 
 pub returns-then-not-has_session_room-clause-refused : goal.returns-then-not-has_session_room-clause-refused
@@ -37,30 +37,22 @@ returns-in_default-clause-refused c = λ why.
     stops node _ TeidsUsed refl c.in_default.ensures.none why))
 
 -- where there is room for a session and two TEIDs are left, the last rule decides
-by_last : (s : GatewayState) (spec : Specification) (r : Result Begun CommandFault) → s.role ≡ Serving → HasSessionRoom s.node → HasDraws s.node 2 → IsLastRefused s r → IsRefusedWhere (Create_session spec) s r
-by_last s spec r role room left rule = λ why.
+by_last : (c : After-next_number) (r : Result Begun CommandFault) → IsLastRefused (state_of c.args.self.now) r → IsRefusedWhere (Create_session (specification c.args.spec.now)) (state_of c.args.self.now) r
+by_last c r rule = λ why.
+    let s = state_of c.args.self.now in
+    let spec : Specification = specification c.args.spec.now in
+    let role : s.role ≡ Serving = search rules in
     subst (λ (x : Role). Told r why ↔ SessionBegun x spec s.node (refused s.node why)) (sym role)
-    (goes s.node r SessionsFull why room (λ _.
-    goes s.node r TeidsUsed why left (λ _.
-    last s r (BeginsSession s.node spec) why rule (session_goes_on s.node spec why))))
+    (goes s.node r SessionsFull why (yes c.has_session_room.ensures c.if-not-has_session_room.false) (λ _.
+    goes s.node r TeidsUsed why c.in-Some.ensures.some.left (λ _.
+    last s r (BeginsSession s.node spec) why rule (λ begins. asks_on why begins.gives refl))))
 
 pub returns-in_err-seq-clause-refused : goal.returns-in_err-seq-clause-refused
 returns-in_err-seq-clause-refused c =
-    let role : (state_of c.args.self.now).role ≡ Serving = search rules in
-    by_last (state_of c.args.self.now) (specification c.args.spec.now) _ role (yes c.has_session_room.ensures c.if-not-has_session_room.false) c.in-Some.ensures.some.left (as_err (state_of c.args.self.now) c.in_err-seq.field-0.0 c.from_residual.result c.from_residual.ensures.1 c.in_err-seq.ensures.refused)
-
-pub returns-in_err-request-clause-refused : goal.returns-in_err-request-clause-refused
-returns-in_err-request-clause-refused c =
-    let role : (state_of c.args.self.now).role ≡ Serving = search rules in
-    by_last (state_of c.args.self.now) (specification c.args.spec.now) _ role (yes c.has_session_room.ensures c.if-not-has_session_room.false) c.in-Some.ensures.some.left
-    (no_memory (state_of c.args.self.now) c.in_ok-seq.ensures.room c.from_residual-in_err-request.result c.from_residual-in_err-request.ensures.1)
+    by_last (goal.at.returns-in_err-seq-clause-refused c).After-next_number c.from_residual.result (as_err (state_of c.args.self.now) c.in_err-seq.field-0.0 c.from_residual.result c.from_residual.ensures.1 c.in_err-seq.ensures.refused)
 
 pub returns-clause-refused : goal.returns-clause-refused
-returns-clause-refused c =
-    let role : (state_of c.args.self.now).role ≡ Serving = search rules in
-    let r = c.send_request.result in
-    by_last (state_of c.args.self.now) (specification c.args.spec.now) r role (yes c.has_session_room.ensures c.if-not-has_session_room.false) c.in-Some.ensures.some.left
-    c.send_request.ensures.refused
+returns-clause-refused c = by_last (goal.at.returns-clause-refused c).After-next_number c.send_request.result c.send_request.ensures.refused
 
 pub returns-clause-done : goal.returns-clause-done
 returns-clause-done c =

@@ -1,22 +1,20 @@
-use Rattle.std.proofs.Common.{rules, ◌≡◌, ◌↔◌, inr, ℕ, Some, Result, refl, sym, ◌∙◌, subst}
-use Rattle.std.specs.FinMap.{get}
+use Rattle.std.proofs.Common.{rules, ◌≡◌, ◌↔◌, inr, Result, refl, sym, ◌∙◌, subst}
 use Rattle.gtp_machine.specs.declared.role.Role.{Role}
 use Rattle.gtp_machine.specs.declared.role.Role.TheVariants.{Packet}
-use Rattle.gtp_machine.specs.Node.{Active, Session}
 use Rattle.gtp_machine.specs.Command.{BearerDeleted, ClosesBearer}
 use Rattle.gtp_machine.specs.Input.{Delete_bearer, refused}
 use Rattle.gtp_machine.specs.declared.outcome.Refusal.TheVariants.{NoSuchContext, NotActive}
-use Rattle.gtp_gateway.specs.declared.command.delete_bearer.Dedicated.{Dedicated}
 use Rattle.gtp_gateway.specs.declared.fault.CommandFault.{CommandFault}
 use Rattle.gtp_gateway.specs.declared.sent.Begun.{Begun}
 use Rattle.gtp_gateway.specs.command.Command.{IsLastRefused, IsRefusedWhere}
-use Rattle.gtp_gateway.specs.command.DeleteBearer.{IsDedicated, request_to_delete_bearer}
-use Rattle.gtp_gateway.specs.GatewayState.{GatewayState, IsSoundState, state_of}
+use Rattle.gtp_gateway.specs.command.DeleteBearer.{request_to_delete_bearer}
+use Rattle.gtp_gateway.specs.GatewayState.{state_of}
 use Rattle.gtp_gateway.proofs.Columns.{yes, no, Told, ends_named, ends_session, stops, goes, goes_session}
 use Rattle.gtp_gateway.proofs.Commands.{done_by}
 use Rattle.gtp_gateway.proofs.DedicatedBearers.{goes_named}
-use Rattle.gtp_gateway.proofs.Refusals.{closing_goes_on}
+use Rattle.gtp_gateway.proofs.Refusals.{asks_on}
 use Rattle.gtp_gateway.proofs.RequestsToSend.{no_memory, as_err, last}
+use Rattle.gtp_gateway.proofs.parts.Parts.delete_bearer.Goals.{After-next_number}
 use Rattle.gtp_gateway.proofs.parts.Parts.delete_bearer.Goals as goal
 
 pub returns-then-not-are_active-clause-refused : goal.returns-then-not-are_active-clause-refused
@@ -33,34 +31,31 @@ returns-then-not-are_active-clause-refused c = λ why.
     (stops node _ NotActive refl (no c.are_active.ensures c.if-not-are_active.true) why)))
 
 -- of an active bearer of an active session the last rule decides
-by_last : (s : GatewayState) (whole : IsSoundState s) (session identity : ℕ) (at : Session) (d : Dedicated) (r : Result Begun CommandFault) → s.role ≡ Packet → get s.node.sessions session ≡ Some at → IsDedicated s.node session identity d → (at.state ≡ Active) × (d.bearer.state ≡ Active) → IsLastRefused s r → IsRefusedWhere (Delete_bearer session identity) s r
-by_last s whole session identity at d r role stands named active rule = λ why.
+by_last : (c : After-next_number) (r : Result Begun CommandFault) → IsLastRefused (state_of c.args.self.now) r → IsRefusedWhere (Delete_bearer c.args.session c.args.identity) (state_of c.args.self.now) r
+by_last c r rule = λ why.
+    let s = state_of c.args.self.now in
+    let session = c.args.session in
+    let identity = c.args.identity in
+    let at = c.in-Some.at in
+    let d = c.in-Some-dedicated.named in
+    let role : s.role ≡ Packet = search rules in
     subst (λ (x : Role). Told r why ↔ BearerDeleted x session identity s.node (refused s.node why)) (sym role)
-    (goes_session s.node r (ends_session session identity s.node (refused s.node why)) session at NoSuchContext why stands
-    (goes_named s whole session identity r (ends_named session identity s.node (refused s.node why) at) d NoSuchContext why named
-    (goes s.node r NotActive why active (λ _.
-    last s r (ClosesBearer s.node session at identity d.teid d.bearer) why rule (closing_goes_on s.node session at identity d.teid d.bearer why)))))
+    (goes_session s.node r (ends_session session identity s.node (refused s.node why)) session at NoSuchContext why (sym c.get.ensures ∙ c.in-Some.is)
+    (goes_named s c.requires.whole session identity r (ends_named session identity s.node (refused s.node why) at) d NoSuchContext why c.in-Some-dedicated.ensures.some
+    (goes s.node r NotActive why (yes c.are_active.ensures c.if-not-are_active.false) (λ _.
+    last s r (ClosesBearer s.node session at identity d.teid d.bearer) why rule (λ closes. asks_on why closes.gives refl)))))
 
 pub returns-in_err-seq-clause-refused : goal.returns-in_err-seq-clause-refused
 returns-in_err-seq-clause-refused c =
-    let role : (state_of c.args.self.now).role ≡ Packet = search rules in
-    let d = c.in-Some-dedicated in
-    by_last (state_of c.args.self.now) c.requires.whole c.args.session c.args.identity c.in-Some.at d.named _ role (sym c.get.ensures ∙ c.in-Some.is) d.ensures.some (yes c.are_active.ensures c.if-not-are_active.false) (as_err (state_of c.args.self.now) c.in_err-seq.field-0.0 c.from_residual.result c.from_residual.ensures.1 c.in_err-seq.ensures.refused)
+    by_last (goal.at.returns-in_err-seq-clause-refused c).After-next_number c.from_residual.result (as_err (state_of c.args.self.now) c.in_err-seq.field-0.0 c.from_residual.result c.from_residual.ensures.1 c.in_err-seq.ensures.refused)
 
 pub returns-in_err-request-clause-refused : goal.returns-in_err-request-clause-refused
 returns-in_err-request-clause-refused c =
-    let role : (state_of c.args.self.now).role ≡ Packet = search rules in
-    let d = c.in-Some-dedicated in
-    by_last (state_of c.args.self.now) c.requires.whole c.args.session c.args.identity c.in-Some.at d.named _ role (sym c.get.ensures ∙ c.in-Some.is) d.ensures.some (yes c.are_active.ensures c.if-not-are_active.false)
-    (no_memory (state_of c.args.self.now) c.in_ok-seq.ensures.room c.from_residual-in_err-request.result c.from_residual-in_err-request.ensures.1)
+    let r = c.from_residual-in_err-request in
+    by_last (goal.at.returns-in_err-request-clause-refused c).After-next_number r.result (no_memory (state_of c.args.self.now) c.in_ok-seq.ensures.room r.result r.ensures.1)
 
 pub returns-clause-refused : goal.returns-clause-refused
-returns-clause-refused c =
-    let role : (state_of c.args.self.now).role ≡ Packet = search rules in
-    let d = c.in-Some-dedicated in
-    let r = c.send_request.result in
-    by_last (state_of c.args.self.now) c.requires.whole c.args.session c.args.identity c.in-Some.at d.named r role (sym c.get.ensures ∙ c.in-Some.is) d.ensures.some (yes c.are_active.ensures c.if-not-are_active.false)
-    c.send_request.ensures.refused
+returns-clause-refused c = by_last (goal.at.returns-clause-refused c).After-next_number c.send_request.result c.send_request.ensures.refused
 
 pub returns-clause-done : goal.returns-clause-done
 returns-clause-done c =

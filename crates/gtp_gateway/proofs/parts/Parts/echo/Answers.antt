@@ -16,8 +16,7 @@ returns-in_err-seq-clause-refused c = λ why.
 pub returns-clause-refused : goal.returns-clause-refused
 returns-clause-refused c = λ why.
     let old = state_of c.args.self.now in
-    let r = c.send_request.result in
-    last old r (SendsEcho old.node) why c.send_request.ensures.refused (echo_goes_on old.node why)
+    last old c.send_request.result (SendsEcho old.node) why c.send_request.ensures.refused (echo_goes_on old.node why)
 
 pub returns-clause-done : goal.returns-clause-done
 returns-clause-done c =

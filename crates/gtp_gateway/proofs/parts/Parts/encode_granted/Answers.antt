@@ -7,11 +7,5 @@ use Rattle.gtp_gateway.proofs.parts.Parts.encode_granted.Goals as goal
 pub returns-clause-spelled : goal.returns-clause-spelled
 returns-clause-spelled c = IfOk-weaker c.encode_both.result _ _ (λ p is. is ∙ (λ i. spelled_all (c.in_ok-message.ensures.says i ∷ c.in_ok-asked.ensures.says i ∷ []))) c.encode_both.ensures.spelled
 
-pub returns-clause-read : goal.returns-clause-read
-returns-clause-read c = IfOk-weaker c.encode_both.result _ _ (λ p is. is ∙ (λ i. c.in_ok-message.ensures.says i ∷ c.in_ok-asked.ensures.says i ∷ [])) c.encode_both.ensures.read
-
 pub returns-clause-back : goal.returns-clause-back
 returns-clause-back c = IfOk-weaker c.encode_both.result _ _ (λ p reads. subst ReadsBack (λ i. c.in_ok-message.ensures.says i ∷ c.in_ok-asked.ensures.says i ∷ []) reads) c.encode_both.ensures.back
-
-pub returns-clause-alone : goal.returns-clause-alone
-returns-clause-alone c = IfOk-weaker c.encode_both.result _ _ (λ p is. is ∙ c.in_ok-asked.ensures.says) c.encode_both.ensures.alone

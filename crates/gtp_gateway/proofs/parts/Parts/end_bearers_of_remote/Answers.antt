@@ -1,5 +1,4 @@
-use Rattle.std.proofs.Common.{◌≡◌, ℕ, Bool, sym, ◌∙◌, ap, subst, rules}
-use Rattle.std.proofs.lemmas.List.Elements.{All-filter}
+use Rattle.std.proofs.Common.{◌≡◌, ℕ, Bool, ◌∙◌, ap, rules}
 use Rattle.std.specs.Prelude.{not, ◌||◌}
 use Rattle.std.specs.FinMap.{get}
 use Rattle.gtp_tables.specs.Index.{names}
@@ -9,10 +8,9 @@ use Rattle.gtp_machine.specs.Removal.{on}
 use Rattle.gtp_machine.specs.User.{default_among, broken}
 use Rattle.gtp_gateway.specs.user.ErrorIndication.{is_broken}
 use Rattle.gtp_gateway.specs.Parts.{pending_in, node_of}
-use Rattle.gtp_gateway.specs.messages.Spelled.{IsAsked, AreAsked}
 use Rattle.gtp_gateway.specs.GatewayState.{state_of}
 use Rattle.gtp_gateway.proofs.ErrorIndications.{broken_bearers}
-use Rattle.gtp_gateway.proofs.Finished.{pending_kept}
+use Rattle.gtp_gateway.proofs.Removed.{pending_kept, asked_stay}
 use Rattle.gtp_gateway.proofs.parts.Parts.end_bearers_of_remote.Goals as goal
 
 pub remove_keys_where-requires-clause-decides : goal.remove_keys_where-requires-clause-decides
@@ -22,10 +20,7 @@ pub remove_where-requires-clause-decides : goal.remove_where-requires-clause-dec
 remove_where-requires-clause-decides c = (λ b. is_broken c.remove_keys_where.new.self.table c.args.remote b, λ x b h. search rules)
 
 pub invariant_of-self-clause-asked : goal.invariant_of-self-clause-asked
-invariant_of-self-clause-asked c =
-    let old = c.args.self.now in
-    let peer = old.config.config.peer.control in
-    subst (AreAsked peer) (sym c.finish_where.ensures.waiting) (All-filter _ (IsAsked peer) old.pending.waiting old.asked)
+invariant_of-self-clause-asked c = asked_stay _ _ _ _ c.finish_where.ensures.waiting c.args.self.now.asked
 
 pub returns-clause-node : goal.returns-clause-node
 returns-clause-node c =

@@ -9,13 +9,11 @@ use Rattle.gtp_machine.specs.Serving.{DeleteBearerJudged, delete_bearer_cause}
 use Rattle.gtp_machine.specs.Spelling.{spelled}
 use Rattle.gtp_gateway.specs.declared.receive.delete_bearer_request.identities.NamedBearer.{NamedBearer}
 use Rattle.gtp_gateway.specs.receive.DeleteBearerRequest.{delete_bearer_by, NamesEach, identity_named, number_in, removed_by, without_each}
-use Rattle.gtp_gateway.specs.receive.Answer.{after_held}
 use Rattle.gtp_gateway.specs.Parts.{arrival_of}
 use Rattle.gtp_gateway.specs.messages.Sent.{ReadsBack}
 use Rattle.gtp_gateway.specs.GatewayState.{GatewayState, state_of}
-use Rattle.gtp_gateway.specs.user.Receive.{RequestsWaitOn}
 use Rattle.gtp_gateway.proofs.DeleteBearerRequests.{ends_judged}
-use Rattle.gtp_gateway.proofs.QueuesAfter.{tied_of, answered_goes}
+use Rattle.gtp_gateway.proofs.QueuesAfter.{readied_goes}
 use Rattle.gtp_gateway.proofs.Rows.{answers}
 use Rattle.gtp_gateway.proofs.parts.Parts.end_named.Goals as goal
 
@@ -44,10 +42,4 @@ returns-clause-taken c =
     (ends_judged request r old.node header ids ns c.requires.asked c.requires.short same names))
 
 pub returns-clause-goes : goal.returns-clause-goes
-returns-clause-goes c =
-    let old = state_of c.args.self.now in
-    let left = state_of c.end_each.new.self in
-    let new = state_of c.send_answer.new.self in
-    let waits = subst (λ (s : GatewayState). RequestsWaitOn s left) c.ready_answer.ensures.same c.end_each.ensures.waits in
-    let answer = c.in_ok-ready.ready.answer.items in
-    answered_goes c.args.source c.args.octets.now old left new answer waits (c.send_answer.ensures.queues ∙ (λ i. record left.queues { held = after_held c.args.source (c.in_ok-ready.ensures.request i) answer left.queues.held })) (tied_of c.send_answer.new.self)
+returns-clause-goes c = readied_goes c.args.source c.args.octets.now (state_of c.args.self.now) _ (state_of c.end_each.new.self) c.send_answer.new.self _ c.in_ok-ready.ready.answer.items c.ready_answer.ensures.same c.in_ok-ready.ensures.request c.end_each.ensures.waits c.send_answer.ensures.queues

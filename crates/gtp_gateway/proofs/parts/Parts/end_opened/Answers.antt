@@ -1,13 +1,11 @@
-use Rattle.std.proofs.Common.{Bool, false, sym, ◌∙◌, ap, subst}
-use Rattle.std.proofs.lemmas.List.Elements.{All-filter}
+use Rattle.std.proofs.Common.{Bool, false, ◌∙◌, ap}
 use Rattle.std.specs.Prelude.{not, ◌||◌}
 use Rattle.std.specs.FinMap.{get}
 use Rattle.gtp_tables.specs.Contexts.{is_opened}
 use Rattle.gtp_machine.specs.Node.{PendingRequest}
 use Rattle.gtp_machine.specs.Removal.{on}
 use Rattle.gtp_gateway.specs.Parts.{pending_in, node_of}
-use Rattle.gtp_gateway.specs.messages.Spelled.{IsAsked, AreAsked}
-use Rattle.gtp_gateway.proofs.Finished.{pending_kept}
+use Rattle.gtp_gateway.proofs.Removed.{pending_kept, asked_stay}
 use Rattle.gtp_gateway.proofs.parts.Parts.end_opened.Goals as goal
 
 pub returns-clause-node : goal.returns-clause-node
@@ -18,7 +16,4 @@ returns-clause-node c =
     λ i. record (node_of old) { sessions = (c.end_opened.ensures.sessions i).table; bearers = c.end_opened.ensures.bearers i; pending = pending i }
 
 pub invariant_of-self-clause-asked : goal.invariant_of-self-clause-asked
-invariant_of-self-clause-asked c =
-    let old = c.args.self.now in
-    let peer = old.config.config.peer.control in
-    subst (AreAsked peer) (sym c.finish_where.ensures.waiting) (All-filter _ (IsAsked peer) old.pending.waiting old.asked)
+invariant_of-self-clause-asked c = asked_stay _ _ _ _ c.finish_where.ensures.waiting c.args.self.now.asked

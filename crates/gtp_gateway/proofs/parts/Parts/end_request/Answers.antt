@@ -1,9 +1,6 @@
-use Rattle.std.proofs.Common.{◌≡◌, inl, inr, Some, None, refl, sym, ◌∙◌}
+use Rattle.std.proofs.Common.{inl, inr, refl, sym, ◌∙◌}
 use Rattle.gtp_gateway.proofs.Columns.{yes, no}
 use Rattle.gtp_gateway.proofs.parts.Parts.end_request.Goals as goal
-
-pub returns-in_default-clause-ended : goal.returns-in_default-clause-ended
-returns-in_default-clause-ended c = inl (λ at. let none : None ≡ Some at.purpose = sym (sym c.waiting.ensures ∙ c.in_default.is) ∙ at.is in cc, (c.dropped.ensures, refl))
 
 pub returns-then-not-fits_asked-clause-ended : goal.returns-then-not-fits_asked-clause-ended
 returns-then-not-fits_asked-clause-ended c = inr (record { purpose = c.in-Some.purpose; is = sym c.waiting.ensures ∙ c.in-Some.is }, inl (no c.fits_asked.ensures c.if-not-fits_asked.true, (c.dropped-then-not-fits_asked.ensures, refl)))

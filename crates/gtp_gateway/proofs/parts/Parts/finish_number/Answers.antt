@@ -1,8 +1,6 @@
-use Rattle.std.proofs.Common.{sym, ◌∙◌, ap, subst}
-use Rattle.std.proofs.lemmas.List.Elements.{All-filter}
+use Rattle.std.proofs.Common.{◌∙◌, ap}
 use Rattle.gtp_gateway.specs.Parts.{pending_in, node_of}
-use Rattle.gtp_gateway.specs.messages.Spelled.{IsAsked, AreAsked}
-use Rattle.gtp_gateway.proofs.Removed.{pending_removed}
+use Rattle.gtp_gateway.proofs.Removed.{asked_stay, pending_removed}
 use Rattle.gtp_gateway.proofs.parts.Parts.finish_number.Goals as goal
 
 pub returns-clause-node : goal.returns-clause-node
@@ -12,7 +10,4 @@ returns-clause-node c =
     λ i. record (node_of old) { pending = pending i }
 
 pub invariant_of-self-clause-asked : goal.invariant_of-self-clause-asked
-invariant_of-self-clause-asked c =
-    let old = c.args.self.now in
-    let peer = old.config.config.peer.control in
-    subst (AreAsked peer) (sym c.finish.ensures.waiting) (All-filter _ (IsAsked peer) old.pending.waiting old.asked)
+invariant_of-self-clause-asked c = asked_stay _ _ _ _ c.finish.ensures.waiting c.args.self.now.asked

@@ -1,7 +1,5 @@
 use Rattle.std.proofs.Common.{◌≡◌, Some, true, ◌∙◌, ap, subst, [], ◌∷◌}
-use Rattle.gtp_gateway.specs.receive.Answer.{after_held}
-use Rattle.gtp_gateway.specs.user.Receive.{RequestsWaitOn}
-use Rattle.gtp_gateway.proofs.QueuesAfter.{tied_of, answered_goes}
+use Rattle.gtp_gateway.proofs.QueuesAfter.{readied_goes}
 use Rattle.gtp_machine.specs.Config.{control_end}
 use Rattle.gtp_machine.specs.Message.{Control}
 use Rattle.gtp_machine.specs.Node.{holding}
@@ -37,8 +35,4 @@ returns-clause-granted c =
     }
 
 pub returns-clause-goes : goal.returns-clause-goes
-returns-clause-goes c =
-    let mid = state_of c.make_granted.new.self in
-    let ready = c.in_ok-ready.ready in
-    answered_goes c.args.source c.args.octets.now (state_of c.args.self.now) mid (state_of c.send_answer-out.new.self) ready.answer.items (subst (λ (s : GatewayState). RequestsWaitOn s mid) c.ready_answer.ensures.same c.make_granted.ensures.waits)
-    (c.send_answer-out.ensures.queues ∙ (λ i. record mid.queues { held = after_held c.args.source (c.in_ok-ready.ensures.request i) ready.answer.items mid.queues.held })) (tied_of c.send_answer-out.new.self)
+returns-clause-goes c = readied_goes c.args.source c.args.octets.now (state_of c.args.self.now) _ (state_of c.make_granted.new.self) c.send_answer-out.new.self _ c.in_ok-ready.ready.answer.items c.ready_answer.ensures.same c.in_ok-ready.ensures.request c.make_granted.ensures.waits c.send_answer-out.ensures.queues

@@ -17,45 +17,30 @@ use Rattle.gtp_gateway.specs.Parts.{arrival_of, node_of, pending_in}
 use Rattle.gtp_gateway.specs.Settings.{Settings}
 use Rattle.gtp_gateway.specs.tables.Opening.{waiting_heard}
 use Rattle.gtp_gateway.specs.messages.Spelled.{messages_in}
-use Rattle.gtp_gateway.specs.GatewayState.{GatewayState, state_of, queues_of}
+use Rattle.gtp_gateway.specs.GatewayState.{GatewayState, state_of}
 use Rattle.gtp_gateway.specs.receive.Taken.{plain_report}
 use Rattle.gtp_gateway.specs.user.Receive.{RequestsWaitOn}
 use Rattle.gtp_gateway.proofs.QueuesAfter.{tied_of, begun_goes}
-use Rattle.gtp_gateway.proofs.Allocations.{on_err}
-use Rattle.gtp_gateway.proofs.Opened.{succeeded, failed}
+use Rattle.gtp_gateway.proofs.Opened.{succeeded}
 use Rattle.gtp_gateway.proofs.TemplateBearers.{new_request}
+use Rattle.gtp_gateway.proofs.parts.Parts.grant_with.Goals.{After-make_granted_with}
 use Rattle.gtp_gateway.proofs.parts.Parts.grant_with.Goals as goal
 
-pub returns-in_err-map_err-clause-err : goal.returns-in_err-map_err-clause-err
-returns-in_err-map_err-clause-err c =
-    let ready = c.ready_octets.new.self in
-    let left = failed c.reserve.result (sym c.in_err-map_err.ensures.variant) c.reserve.ensures.err in
-    on_err c.from_residual-in_err-map_err.result ((λ i. record (state_of ready) {
-      node = record (node_of ready) { pending = pending_in (left i).waiting };
-      queues = record (queues_of ready) { timers = record (queues_of ready).timers { t3 = (left i).t3; n3 = (left i).n3 }; next = (left i).next; waiting = (left i).waiting };
-    }) ∙ c.ready_octets.ensures.same)
+-- the state, with these requests
+abbrev with_requests : GatewayState → Requests Purpose → GatewayState
+with_requests s r = record s { node = record s.node { pending = pending_in r.waiting }; queues = record s.queues { timers = record s.queues.timers { t3 = r.t3; n3 = r.n3 }; next = r.next; waiting = r.waiting } }
 
-pub returns-in_err-make_granted_with-clause-err : goal.returns-in_err-make_granted_with-clause-err
-returns-in_err-make_granted_with-clause-err c =
-    let ready = c.ready_octets.new.self in
-    let more = succeeded c.reserve.result c.in_ok-map_err.ensures.variant c.reserve.ensures.room in
-    on_err c.from_residual-in_err-make_granted_with.result (c.in_err-make_granted_with.ensures.err ∙ ((λ i. record (state_of ready) {
-      node = record (node_of ready) { pending = pending_in (more i).waiting };
-      queues = record (queues_of ready) { timers = record (queues_of ready).timers { t3 = (more i).t3; n3 = (more i).n3 }; next = (more i).next; waiting = (more i).waiting };
-    }) ∙ c.ready_octets.ensures.same))
+-- the answer and the request were prepared, which changed nothing
+prepared : (c : After-make_granted_with) → with_requests (state_of c.ready_octets.new.self) c.reserve.new.self ≡ state_of c.args.self.now
+prepared c = ap (with_requests (state_of c.ready_octets.new.self)) (succeeded c.reserve.result c.in_ok-map_err.ensures.variant c.reserve.ensures.room) ∙ c.ready_octets.ensures.same
 
 pub begin_kept-requires-clause-prepared : goal.begin_kept-requires-clause-prepared
 begin_kept-requires-clause-prepared c =
     let old = state_of c.args.self.now in
-    let readied = c.ready_octets.new.self in
     let made = c.in_ok-make_granted_with.ensures in
     let granted = state_of c.make_granted_with.new.self in
     let more = succeeded c.reserve.result c.in_ok-map_err.ensures.variant c.reserve.ensures.room in
-    let same =
-    (λ i. record (state_of readied) {
-      node = record (node_of readied) { pending = pending_in (more i).waiting };
-      queues = record (queues_of readied) { timers = record (queues_of readied).timers { t3 = (more i).t3; n3 = (more i).n3 }; next = (more i).next; waiting = (more i).waiting };
-    }) ∙ c.ready_octets.ensures.same in
+    let same = prepared (goal.at.begin_kept-requires-clause-prepared c).After-make_granted_with in
     let next = c.make_granted_with.ensures.next ∙ ap (λ (s : GatewayState). s.queues.next) same in
     let waiting = made.waiting ∙ ap (λ (s : GatewayState). waiting_heard c.args.heard s.node.sessions s.queues.waiting) same in
     record {
@@ -70,16 +55,10 @@ returns-clause-granted c =
     let r = c.args.request.now in
     let g = c.args.grant.now in
     let a = c.args.added.now in
-    let readied = c.ready_octets.new.self in
     let ready = c.in_ok-ready.ensures in
     let encoded = c.in_ok-encoded.ensures in
     let made = c.in_ok-make_granted_with.ensures in
-    let more = succeeded c.reserve.result c.in_ok-map_err.ensures.variant c.reserve.ensures.room in
-    let same =
-    (λ i. record (state_of readied) {
-      node = record (node_of readied) { pending = pending_in (more i).waiting };
-      queues = record (queues_of readied) { timers = record (queues_of readied).timers { t3 = (more i).t3; n3 = (more i).n3 }; next = (more i).next; waiting = (more i).waiting };
-    }) ∙ c.ready_octets.ensures.same in
+    let same = prepared (goal.at.returns-clause-granted c).After-make_granted_with in
     let config : c.begin_kept.new.self.config.config ≡ old.node.config = ap (λ (s : Settings). s.config) (c.begin_kept.ensures.only.config ∙ c.make_granted_with.ensures.only.config) ∙ ap (λ (s : GatewayState). s.node.config) same in
     let makes : node_of c.make_granted_with.new.self ≡ made_with r g a (node_heard c.args.heard old.node) = made.node ∙ ap (λ (s : GatewayState). made_with r g a (node_heard c.args.heard s.node)) same in
     let left = c.begin_kept.ensures.node ∙ (λ i. record (makes i) { pending = insert (makes i).pending a.seq (about (record { asked = CreateBearer; session = Some g.drawn.control; bearer = Some a.drawn.teid; is_named = c.is_there.result }) (encoded.alone i)) }) in
@@ -96,19 +75,12 @@ pub returns-clause-goes : goal.returns-clause-goes
 returns-clause-goes c =
     let old = state_of c.args.self.now in
     let a = c.args.added.now in
-    let readied = c.ready_octets.new.self in
     let ready = c.in_ok-ready.ensures in
-    let made = c.in_ok-make_granted_with.ensures in
     let granted = state_of c.make_granted_with.new.self in
     let begun = state_of c.begin_kept.new.self in
-    let more = succeeded c.reserve.result c.in_ok-map_err.ensures.variant c.reserve.ensures.room in
-    let same =
-    (λ i. record (state_of readied) {
-      node = record (node_of readied) { pending = pending_in (more i).waiting };
-      queues = record (queues_of readied) { timers = record (queues_of readied).timers { t3 = (more i).t3; n3 = (more i).n3 }; next = (more i).next; waiting = (more i).waiting };
-    }) ∙ c.ready_octets.ensures.same in
+    let same = prepared (goal.at.returns-clause-goes c).After-make_granted_with in
     let next = c.make_granted_with.ensures.next ∙ ap (λ (s : GatewayState). s.queues.next) same in
-    let waiting = made.waiting ∙ ap (λ (s : GatewayState). waiting_heard c.args.heard s.node.sessions s.queues.waiting) same in
+    let waiting = c.in_ok-make_granted_with.ensures.waiting ∙ ap (λ (s : GatewayState). waiting_heard c.args.heard s.node.sessions s.queues.waiting) same in
     let free = subst (λ (n : ℕ). IsNextFree n granted.queues.waiting a.seq) (sym next) (subst (λ (ws : List (Waiting Purpose)). IsNextFree old.queues.next ws a.seq) (sym waiting) c.requires.add.number) in
     let config : c.make_granted_with.new.self.config.config ≡ old.node.config = ap (λ (s : Settings). s.config) c.make_granted_with.ensures.only.config ∙ ap (λ (s : GatewayState). s.node.config) same in
     let encoded = c.in_ok-encoded.ensures in

@@ -19,8 +19,7 @@ use Rattle.gtp_gateway.proofs.parts.Parts.judge_create_bearer.Goals as goal
 pub returns-then-not-is_active-clause-judged : goal.returns-then-not-is_active-clause-judged
 returns-then-not-is_active-clause-judged c = λ node stands. record {
   judged = λ request q says.
-      let old = node in
-      meets (record { session = c.in-Some.session; stands = ap (get old.sessions) says.header ∙ (stands.session ∙ c.in-Some.is) })
+      meets (record { session = c.in-Some.session; stands = ap (get node.sessions) says.header ∙ (stands.session ∙ c.in-Some.is) })
       (breaks (no c.is_active.ensures c.if-not-is_active.true) refl);
   chosen = tt;
 }

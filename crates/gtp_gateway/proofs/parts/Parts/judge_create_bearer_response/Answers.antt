@@ -5,21 +5,21 @@ use Rattle.gtp_machine.specs.Node.{Session, Bearer}
 use Rattle.gtp_gateway.specs.receive.CreateBearerResponse.{JudgesCreateBearerResponse}
 use Rattle.gtp_gateway.specs.receive.RestartCounter.{node_heard}
 use Rattle.gtp_gateway.specs.Parts.{node_of}
-use Rattle.gtp_gateway.proofs.CreateBearerResponses.{does_not_fit, is_refused, not_one, bearer_refused, not_returned, clashes, opens, bearer_stands, bearer_blank}
+use Rattle.gtp_gateway.proofs.CreateResponses.{bearer_does_not_fit, bearer_is_refused, not_one, bearer_refused, not_returned, clashes, bearer_opens, bearer_stands, bearer_blank}
 use Rattle.gtp_gateway.proofs.Columns.{yes, no}
 use Rattle.gtp_gateway.proofs.parts.Parts.judge_create_bearer_response.Goals as goal
 
 pub returns-in_default-fits_create_bearer : goal.returns-in_default-fits_create_bearer
 returns-in_default-fits_create_bearer c =
     let n = node_heard c.args.heard (node_of c.args.self.now) in
-    record { judged = λ x says. does_not_fit n c.args.answer.now x says c.in-Some.purpose c.in-Some.ensures.some c.in_default-fits_create_bearer.ensures.none; can = tt }
+    record { judged = λ x says. bearer_does_not_fit n c.args.answer.now x says c.in-Some.purpose c.in-Some.ensures.some c.in_default-fits_create_bearer.ensures.none; can = tt }
 
 pub returns-then-not-accepts : goal.returns-then-not-accepts
 returns-then-not-accepts c =
     let n = node_heard c.args.heard (node_of c.args.self.now) in
     let k = c.in-Some-fits_create_bearer in
     subst (JudgesCreateBearerResponse c.args.answer.now n) (sym c.rejects.ensures)
-    (record { judged = λ x says. is_refused n c.args.answer.now x says c.in-Some.purpose c.in-Some.ensures.some k.asked k.ensures.some (no c.accepts.ensures c.if-not-accepts.true); can = tt })
+    (record { judged = λ x says. bearer_is_refused n c.args.answer.now x says c.in-Some.purpose c.in-Some.ensures.some k.asked k.ensures.some (no c.accepts.ensures c.if-not-accepts.true); can = tt })
 
 pub returns-in_default-context : goal.returns-in_default-context
 returns-in_default-context c =
@@ -78,7 +78,7 @@ returns c =
     let there : get n.bearers k.asked.bearer ≡ Some b = ap (λ (bs : FiniteMap Bearer). get bs k.asked.bearer) (sym view.ensures.bearers) ∙ (sym c.bearer.ensures ∙ c.in-Some-bearer.is) in
     let of : get n.sessions k.asked.session ≡ Some can.at = ap (λ (ss : FiniteMap Session). get ss k.asked.session) (sym view.ensures.sessions) ∙ can.stands in
     record {
-      judged = λ x says. opens n r x says c.in-Some.purpose c.in-Some.ensures.some k.asked k.ensures.some (yes c.accepts.ensures c.if-not-accepts.false) c.in-Some-context.context c.in-Some-context.is (yes c.accepts-2.ensures c.if-not-accepts-2.false) (yes c.returns_bearer.ensures c.if-not-returns_bearer.false) view.result.sessions view.result.bearers view.ensures.sessions view.ensures.bearers can b there e.identity e.ensures.some.0 c.opened_dedicated.result c.opened_dedicated.ensures;
+      judged = λ x says. bearer_opens n r x says c.in-Some.purpose c.in-Some.ensures.some k.asked k.ensures.some (yes c.accepts.ensures c.if-not-accepts.false) c.in-Some-context.context c.in-Some-context.is (yes c.accepts-2.ensures c.if-not-accepts-2.false) (yes c.returns_bearer.ensures c.if-not-returns_bearer.false) view.result.sessions view.result.bearers view.ensures.sessions view.ensures.bearers can b there e.identity e.ensures.some.0 c.opened_dedicated.result c.opened_dedicated.ensures;
       can = record {
         bearer = b;
         stands = there;

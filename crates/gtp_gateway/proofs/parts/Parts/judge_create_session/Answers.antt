@@ -46,12 +46,11 @@ module _ (r : SessionRequest) (q : CreateSessionRequest) (says : SaysCreateSessi
 pub returns-then-not-serves : goal.returns-then-not-serves
 returns-then-not-serves c =
     let r = c.args.request.now in
-    let node = node_of c.args.self.now in
     subst (λ (v : CreateSessionVerdict). JudgesCreateSession r c.args.heard (state_of c.args.self.now) v) (sym c.refused-then-not-serves.ensures)
     (record {
       judged = λ request q says. meets (says.alone.0 c.if-not-request.false)
           (meets (identity r q says _ c.number.ensures.value (c.in-Ok.ensures.ok.0 refl))
-          (breaks (λ among. no c.serves.ensures c.if-not-serves.true (served r q says c.args.heard node among)) refl));
+          (breaks (λ among. no c.serves.ensures c.if-not-serves.true (served r q says c.args.heard (node_of c.args.self.now) among)) refl));
       is = refl;
     })
 

@@ -8,7 +8,7 @@ use Rattle.gtp_machine.proofs.Basics.Facts.{one_value}
 use Rattle.gtp_gateway.specs.Parts.{node_of}
 use Rattle.gtp_gateway.specs.receive.CreateSessionResponse.{JudgesCreateSessionResponse}
 use Rattle.gtp_gateway.proofs.Columns.{yes, no}
-use Rattle.gtp_gateway.proofs.CreateSessionResponses.{of_session, does_not_fit, is_refused, not_described, bearer_refused, opens, default_stands, default_blank}
+use Rattle.gtp_gateway.proofs.CreateResponses.{of_session, does_not_fit, is_refused, not_described, default_refused, opens, default_stands, default_blank}
 use Rattle.gtp_gateway.proofs.parts.Parts.judge_create_session_response.Goals as goal
 
 pub returns-in_default-fits_create_session : goal.returns-in_default-fits_create_session
@@ -42,7 +42,7 @@ returns-then-not-accepts-2 c =
     let d = c.in-Some-described in
     subst (JudgesCreateSessionResponse c.args.answer.now n) (sym c.rejects-then-not-accepts-2.ensures)
     (record {
-      judged = λ a says. bearer_refused n c.args.answer.now a says c.in-Some.purpose c.in-Some.ensures.some k.asked k.ensures.some (yes c.accepts.ensures c.if-not-accepts.false) view.result.sessions view.ensures.sessions d.described d.ensures.some (no c.accepts-2.ensures c.if-not-accepts-2.true);
+      judged = λ a says. default_refused n c.args.answer.now a says c.in-Some.purpose c.in-Some.ensures.some k.asked k.ensures.some (yes c.accepts.ensures c.if-not-accepts.false) view.result.sessions view.ensures.sessions d.described d.ensures.some (no c.accepts-2.ensures c.if-not-accepts-2.true);
       can = tt;
       of = of_session n c.args.answer.now.response.seq c.in-Some.purpose c.in-Some.ensures.some c.args.answer.now.response k.asked k.ensures.some;
     })

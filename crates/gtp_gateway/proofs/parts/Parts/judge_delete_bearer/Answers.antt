@@ -13,7 +13,6 @@ use Rattle.gtp_gateway.proofs.parts.Parts.judge_delete_bearer.Goals as goal
 
 pub returns-then-is_pending : goal.returns-then-is_pending
 returns-then-is_pending c = λ request ids.
-    let old = node_of c.args.self.now in
     meets (record { session = c.in-Some.session; stands = sym c.get.ensures ∙ c.in-Some.is })
     (breaks (λ opened. opened (yes c.is_pending.ensures c.if-is_pending.true)) refl)
 

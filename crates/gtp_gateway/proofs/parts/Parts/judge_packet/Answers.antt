@@ -33,12 +33,11 @@ pub returns : goal.returns
 returns c =
     let old = state_of c.args.self.now in
     let target = c.args.target in
-    let payload = c.args.payload.now in
     let b = c.in-Some.at in
     let stands : get old.node.bearers target ≡ Some b = sym c.get.ensures ∙ c.in-Some.is in
     let at : HasBearer old.node target = record { bearer = b; stands = stands } in
     let of : HasSession old.node b.session = session_stands old target b c.requires.whole stands in
-    let entry : Entry = entry_for target payload of.session.subscriber b.identity in
+    let entry : Entry = entry_for target c.args.payload.now of.session.subscriber b.identity in
     record {
       effect = record { out = record nothing { accepted = entry ∷ [] }; outcome = Came_to Accepted; node = old.node };
       takes = inr (at, inr (yes c.is_active.ensures c.if-not-is_active.false, inr (yes c.may_come.ensures c.if-not-may_come.false, record { of = of; gives = refl })));

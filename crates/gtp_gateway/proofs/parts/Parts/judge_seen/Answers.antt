@@ -10,12 +10,7 @@ use Rattle.gtp_gateway.proofs.parts.Parts.judge_seen.Goals as goal
 
 is_packet : (content : users.Content) (teid : ℕ) (payload : List ℕ) → users.packet_in content ≡ Some (teid, payload) → users.Packet teid payload ≡ content
 is_packet (users.Packet t p) teid payload is = ap (λ (x : ℕ × List ℕ). users.Packet x.0 x.1) (sym (same_Some (t, p) (teid, payload) is))
-is_packet users.EchoRequest teid payload is = absurd cc
-is_packet users.EchoResponse teid payload is = absurd cc
-is_packet (users.ErrorIndication t p) teid payload is = absurd cc
-is_packet (users.Notification types) teid payload is = absurd cc
-is_packet (users.EndMarker t) teid payload is = absurd cc
-is_packet (users.Other kind t octets) teid payload is = absurd cc
+is_packet content teid payload is = absurd cc
 
 pub returns-in-Some : goal.returns-in-Some
 returns-in-Some c =

@@ -7,13 +7,12 @@ use Rattle.gtp_gateway.specs.declared.parts.Parts.{Parts}
 use Rattle.gtp_gateway.specs.declared.step.Step.{Step}
 use Rattle.gtp_gateway.specs.declared.user.reply.Reply.{Reply}
 use Rattle.gtp_gateway.specs.Parts.{node_of}
-use Rattle.gtp_gateway.specs.receive.Received.{IsReceived, QueuesAfterReceive, MayRunOut}
+use Rattle.gtp_gateway.specs.receive.Received.{IsReceived, MayRunOut}
 use Rattle.gtp_gateway.specs.user.Reply.{replied, IsReplyBy}
 use Rattle.gtp_gateway.specs.GatewayState.{state_of}
 use Rattle.gtp_gateway.specs.user.Receive.{UserComes, IsUserTaken}
 use Rattle.gtp_gateway.proofs.QueuesAfter.{tied_of}
-use Rattle.gtp_gateway.proofs.Allocations.{on_err}
-use Rattle.gtp_gateway.proofs.Receiving.{control_received, as_received, as_timed, as_stays}
+use Rattle.gtp_gateway.proofs.Receiving.{control_received, as_received, as_timed}
 use Rattle.gtp_gateway.proofs.UserRows.{replies}
 use Rattle.gtp_gateway.proofs.parts.Parts.receive.Goals as goal
 
@@ -30,37 +29,11 @@ returns-in-Control-clause-received c =
     (subst (λ (r : Step). IsReceived Control c.args.source octets old r new) (sym c.from.ensures)
     (control_received c.args.source octets old c.in_ok-step-in-Control.step new c.in_ok-step-in-Control.ensures.taken))
 
-pub returns-in-Control-clause-queues : goal.returns-in-Control-clause-queues
-returns-in-Control-clause-queues c =
-    subst (λ (p : Plane). QueuesAfterReceive p c.args.source c.args.octets.now c.from.result (state_of c.args.self.now) (state_of c.receive_control.new.self)) (sym c.in-Control.is) c.in_ok-step-in-Control.ensures.goes
-
 pub returns-in-Control-clause-packet : goal.returns-in-Control-clause-packet
 returns-in-Control-clause-packet c =
     let old = state_of c.args.self.now in
     let new = state_of c.receive_control.new.self in
     subst (λ (r : Step). IsSome r.accepted → new ≡ old) (sym c.from.ensures) (λ some. absurd cc)
-
-pub returns-in_err-step-in-Control-clause-memory : goal.returns-in_err-step-in-Control-clause-memory
-returns-in_err-step-in-Control-clause-memory c =
-    on_err c.from_residual.result (subst (λ (p : Plane). MayRunOut p c.args.source c.args.octets.now (state_of c.args.self.now)) (sym c.in-Control.is) c.in_err-step-in-Control.ensures.memory)
-
-pub returns-in-Accepted-clause-received : goal.returns-in-Accepted-clause-received
-returns-in-Accepted-clause-received c = as_received c.args.plane c.args.source c.args.octets.now (state_of c.args.self.now) (state_of c.judge_user.new.self) c.of_packet.result _ c.in-User.is c.of_packet.ensures c.in-Accepted.ensures
-
-pub returns-in-Accepted-clause-queues : goal.returns-in-Accepted-clause-queues
-returns-in-Accepted-clause-queues c = as_timed c.args.plane c.args.source c.args.octets.now (state_of c.args.self.now) (state_of c.judge_user.new.self) c.of_packet.result _ c.in-User.is c.of_packet.ensures c.in-Accepted.ensures (tied_of c.judge_user.new.self)
-
-pub returns-in-Accepted-clause-packet : goal.returns-in-Accepted-clause-packet
-returns-in-Accepted-clause-packet c = as_stays c.args.plane c.args.source c.args.octets.now (state_of c.args.self.now) (state_of c.judge_user.new.self) c.of_packet.result _ c.in-User.is c.of_packet.ensures c.in-Accepted.ensures
-
-pub returns-in-Came-clause-received : goal.returns-in-Came-clause-received
-returns-in-Came-clause-received c = as_received c.args.plane c.args.source c.args.octets.now (state_of c.args.self.now) (state_of c.judge_user.new.self) c.of.result _ c.in-User.is c.of.ensures c.in-Came.ensures
-
-pub returns-in-Came-clause-queues : goal.returns-in-Came-clause-queues
-returns-in-Came-clause-queues c = as_timed c.args.plane c.args.source c.args.octets.now (state_of c.args.self.now) (state_of c.judge_user.new.self) c.of.result _ c.in-User.is c.of.ensures c.in-Came.ensures (tied_of c.judge_user.new.self)
-
-pub returns-in-Came-clause-packet : goal.returns-in-Came-clause-packet
-returns-in-Came-clause-packet c = as_stays c.args.plane c.args.source c.args.octets.now (state_of c.args.self.now) (state_of c.judge_user.new.self) c.of.result _ c.in-User.is c.of.ensures c.in-Came.ensures
 
 -- the reply is what the datagram comes to
 taken : (source : Endpoint) (octets : List ℕ) (old new : Parts) (reply : Reply) (step : Step) → UserComes source octets (state_of old) (node_of old) (replied reply (node_of old)) → state_of new ≡ state_of old → IsReplyBy reply new.config.config step → IsUserTaken source octets (state_of old) step (state_of new)
@@ -71,9 +44,6 @@ returns-clause-received c = IfOk-weaker c.reply_user.result _ _ (λ step sends. 
 
 pub returns-clause-queues : goal.returns-clause-queues
 returns-clause-queues c = IfOk-weaker c.reply_user.result _ _ (λ step sends. as_timed c.args.plane c.args.source c.args.octets.now (state_of c.args.self.now) (state_of c.judge_user.new.self) step step c.in-User.is refl (taken c.args.source c.args.octets.now c.args.self.now c.judge_user.new.self c.in-Replies.reply step c.in-Replies.ensures.0 c.in-Replies.ensures.1 sends) (tied_of c.judge_user.new.self)) c.reply_user.ensures
-
-pub returns-clause-packet : goal.returns-clause-packet
-returns-clause-packet c = IfOk-weaker c.reply_user.result _ _ (λ step sends. as_stays c.args.plane c.args.source c.args.octets.now (state_of c.args.self.now) (state_of c.judge_user.new.self) step step c.in-User.is refl (taken c.args.source c.args.octets.now c.args.self.now c.judge_user.new.self c.in-Replies.reply step c.in-Replies.ensures.0 c.in-Replies.ensures.1 sends)) c.reply_user.ensures
 
 pub returns-clause-memory : goal.returns-clause-memory
 returns-clause-memory c =

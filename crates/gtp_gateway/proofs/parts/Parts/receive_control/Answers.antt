@@ -26,9 +26,9 @@ use Rattle.gtp_gateway.specs.GatewayState.{GatewayState, state_of}
 use Rattle.gtp_gateway.specs.receive.Taken.{IsEntered, IsTaken, IsNoPair}
 use Rattle.gtp_gateway.proofs.Columns.{yes, no}
 use Rattle.gtp_gateway.proofs.QueuesAfter.{on_ok, tied_of, same_goes}
-use Rattle.gtp_gateway.proofs.ReadsAs.{reads_message, reads_fault, fault_received}
-use Rattle.gtp_gateway.proofs.PairKinds.{answer_kind, request_kind, answer_of, request_of}
-use Rattle.gtp_gateway.proofs.TwoMessages.{alone_no_pair, one_reads, fault_reads, two_read, pair_viewed, parts_of}
+use Rattle.gtp_gateway.proofs.InvalidRequests.{fault_received}
+use Rattle.gtp_gateway.proofs.ByType.{answer_kind, request_kind, answer_of, request_of}
+use Rattle.gtp_gateway.proofs.TwoMessages.{reads_message, reads_fault, alone_no_pair, one_reads, fault_reads, two_read, pair_viewed, parts_of}
 use Rattle.gtp_gateway.proofs.TakenTypes.{not_taken}
 use Rattle.gtp_gateway.proofs.Rows.{message_left}
 use Rattle.gtp_gateway.proofs.SentBack.{none_sent}

@@ -6,9 +6,7 @@ use Rattle.gtp_machine.specs.Message.{Message, Control}
 use Rattle.gtp_machine.specs.Node.{holding}
 use Rattle.gtp_machine.specs.Reading.{control_message}
 use Rattle.gtp_machine.specs.Spelling.{spelled}
-use Rattle.gtp_gateway.specs.receive.Answer.{after_held}
-use Rattle.gtp_gateway.specs.user.Receive.{RequestsWaitOn}
-use Rattle.gtp_gateway.proofs.QueuesAfter.{tied_of, answered_goes}
+use Rattle.gtp_gateway.proofs.QueuesAfter.{readied_goes}
 use Rattle.gtp_gateway.specs.receive.RestartCounter.{node_heard}
 use Rattle.gtp_gateway.specs.Parts.{arrival_of}
 use Rattle.gtp_gateway.specs.messages.Sent.{ReadsBack}
@@ -35,10 +33,4 @@ returns-clause-refused c =
     }
 
 pub returns-clause-goes : goal.returns-clause-goes
-returns-clause-goes c =
-    let old = state_of c.args.self.now in
-    let new = state_of c.send_answer-out.new.self in
-    let waits = subst (λ (s : GatewayState). RequestsWaitOn s (state_of c.hear.new.self)) c.ready_answer.ensures.same c.hear.ensures.waits in
-    let heard = state_of c.hear.new.self in
-    let answer = c.in_ok-ready.ready.answer.items in
-    answered_goes c.args.source c.args.octets.now old heard new answer waits (c.send_answer-out.ensures.queues ∙ (λ i. record heard.queues { held = after_held c.args.source (c.in_ok-ready.ensures.request i) answer heard.queues.held })) (tied_of c.send_answer-out.new.self)
+returns-clause-goes c = readied_goes c.args.source c.args.octets.now (state_of c.args.self.now) _ (state_of c.hear.new.self) c.send_answer-out.new.self _ c.in_ok-ready.ready.answer.items c.ready_answer.ensures.same c.in_ok-ready.ensures.request c.hear.ensures.waits c.send_answer-out.ensures.queues

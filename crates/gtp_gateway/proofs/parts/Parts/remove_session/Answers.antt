@@ -1,13 +1,10 @@
-use Rattle.std.proofs.Common.{rules, ℕ, Bool, false, sym, ◌∙◌, ap, subst}
-use Rattle.std.proofs.lemmas.List.Elements.{All-filter}
+use Rattle.std.proofs.Common.{rules, ℕ, Bool, false, ◌∙◌, ap}
 use Rattle.std.specs.Prelude.{not, ◌||◌, ◌==◌}
 use Rattle.gtp_tables.specs.declared.context.Bearer.{Bearer}
 use Rattle.gtp_machine.specs.Node.{PendingRequest}
 use Rattle.gtp_machine.specs.Removal.{on}
 use Rattle.gtp_gateway.specs.Parts.{pending_in, node_of}
-use Rattle.gtp_gateway.specs.messages.Spelled.{IsAsked, AreAsked}
-use Rattle.gtp_gateway.proofs.Finished.{pending_kept}
-use Rattle.gtp_gateway.proofs.Removed.{session_kept}
+use Rattle.gtp_gateway.proofs.Removed.{pending_kept, asked_stay, session_kept}
 use Rattle.gtp_gateway.proofs.parts.Parts.remove_session.Goals as goal
 
 pub returns-clause-node : goal.returns-clause-node
@@ -21,10 +18,7 @@ returns-clause-node c =
     λ i. record (node_of old) { sessions = sessions i; bearers = bearers i; pending = pending i }
 
 pub invariant_of-self-clause-asked : goal.invariant_of-self-clause-asked
-invariant_of-self-clause-asked c =
-    let old = c.args.self.now in
-    let peer = old.config.config.peer.control in
-    subst (AreAsked peer) (sym c.finish_where.ensures.waiting) (All-filter _ (IsAsked peer) old.pending.waiting old.asked)
+invariant_of-self-clause-asked c = asked_stay _ _ _ _ c.finish_where.ensures.waiting c.args.self.now.asked
 
 pub remove_where-requires-clause-decides : goal.remove_where-requires-clause-decides
 remove_where-requires-clause-decides c = (λ (b : Bearer). b.session == c.args.session, search rules)

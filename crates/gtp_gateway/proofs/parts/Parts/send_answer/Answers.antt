@@ -6,9 +6,6 @@ use Rattle.gtp_gateway.specs.GatewayState.{state_of, queues_of}
 use Rattle.gtp_gateway.proofs.QueuesAfter.{tied_of, given_goes}
 use Rattle.gtp_gateway.proofs.parts.Parts.send_answer.Goals as goal
 
-pub returns-clause-queues : goal.returns-clause-queues
-returns-clause-queues c = λ i. record (queues_of c.args.self.now) { timers = record (queues_of c.args.self.now).timers { hold = c.keep.ensures.hold i }; held = c.keep.ensures.pairs i }
-
 pub returns-clause-goes : goal.returns-clause-goes
 returns-clause-goes c =
     let old = c.args.self.now in

@@ -1,34 +1,17 @@
-use Rattle.std.proofs.Common.{[], ◌∷◌, refl, sym, ◌∙◌, ap, subst}
+use Rattle.std.proofs.Common.{[], ◌∷◌, refl, ◌∙◌, ap}
 use Rattle.gtp_machine.specs.Config.{Config, control_end}
 use Rattle.gtp_machine.specs.Command.{asks}
 use Rattle.gtp_machine.specs.Spelling.{datagram_of}
-use Rattle.gtp_reliable.specs.Pending.{IsPrepared}
 use Rattle.gtp_gateway.specs.command.SendRequest.{about, asking, after_begun}
 use Rattle.gtp_gateway.specs.command.Command.{request_number}
 use Rattle.gtp_gateway.specs.command.Request.{request_by}
-use Rattle.gtp_gateway.specs.tables.Change.{CanChange, changed_by}
+use Rattle.gtp_gateway.specs.tables.Change.{changed_by}
 use Rattle.gtp_gateway.specs.Parts.{node_of}
-use Rattle.gtp_gateway.specs.GatewayState.{GatewayState, state_of}
+use Rattle.gtp_gateway.specs.GatewayState.{GatewayState}
 use Rattle.gtp_gateway.proofs.QueuesAfter.{tied_of}
 use Rattle.gtp_gateway.proofs.Requests.{none_pending, small_number}
-use Rattle.gtp_gateway.proofs.RequestsToSend.{begun, no_memory}
 use Rattle.gtp_gateway.proofs.SentBack.{one_sent}
 use Rattle.gtp_gateway.proofs.parts.Parts.send_request.Goals as goal
-
-pub returns-in_err-reserve_request-clause-refused : goal.returns-in_err-reserve_request-clause-refused
-returns-in_err-reserve_request-clause-refused c = no_memory (state_of c.args.self.now) c.requires.room c.from_residual.result c.from_residual.ensures.1
-
-pub returns-in_err-out-clause-refused : goal.returns-in_err-out-clause-refused
-returns-in_err-out-clause-refused c = no_memory (state_of c.args.self.now) c.requires.room c.from_residual-in_err-out.result c.from_residual-in_err-out.ensures.1
-
-pub returns-clause-refused : goal.returns-clause-refused
-returns-clause-refused c = begun (state_of c.args.self.now) c.requires.room _
-
-pub begin_request-requires-clause-prepared : goal.begin_request-requires-clause-prepared
-begin_request-requires-clause-prepared c = subst (λ p. IsPrepared p c.args.seq) (sym c.in_ok-reserve_request.ensures.room) (record { number = c.requires.number; count = c.requires.few; room = refl })
-
-pub begin_request-requires-clause-can : goal.begin_request-requires-clause-can
-begin_request-requires-clause-can c = subst (λ (s : GatewayState). CanChange c.args.request.now.change s.node) (sym c.reserve_request.ensures.same) c.requires.can
 
 pub returns-clause-done : goal.returns-clause-done
 returns-clause-done c =

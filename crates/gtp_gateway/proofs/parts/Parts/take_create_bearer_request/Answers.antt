@@ -16,7 +16,7 @@ use Rattle.gtp_gateway.proofs.Columns.{yes, no}
 use Rattle.gtp_gateway.proofs.BeforeSecond.{stands_itself}
 use Rattle.gtp_gateway.proofs.Rows.{drops, answers_made}
 use Rattle.gtp_gateway.proofs.Allocations.{on_err, create_bearer_asked}
-use Rattle.gtp_gateway.proofs.Choosings.{unmade, lowest_bearer}
+use Rattle.gtp_gateway.proofs.Choosings.{lowest_bearer}
 use Rattle.gtp_gateway.specs.declared.step.ControlStep.{ControlStep}
 use Rattle.gtp_gateway.proofs.parts.Parts.take_create_bearer_request.Goals as goal
 
@@ -74,9 +74,3 @@ returns-clause-choices c = λ made.
     let granted : is_granted v.answer ≡ true = sym c.is_granted.ensures ∙ (sym (ap (λ (s : ControlStep). s.report.made) c.answered.ensures) ∙ made) in
     lowest_bearer r v.answer old (node_of c.answer.new.self) (subst (λ (o : Option CreateBearerVerdict). ChoosesBearer r.header o old) c.in-Some.is (c.judge_create_bearer.ensures.judged old (stands_itself old c.args.request.now.header c.get-found.result c.new-view.result.bearers c.get-found.ensures (ap (λ (x : Contexts). x.bearers) c.new-view.ensures))).chosen)
     (ap (λ (n : Node). n.bearers) c.in_ok-out.ensures.node ∙ ap (λ (k : Change). (changed_by k old).bearers) c.change.ensures) granted
-
-pub returns-then-is_full-clause-choices : goal.returns-then-is_full-clause-choices
-returns-then-is_full-clause-choices c = unmade c.dropped.result.report.made (ap (λ (s : ControlStep). s.report.made) c.dropped.ensures)
-
-pub returns-in_default-clause-choices : goal.returns-in_default-clause-choices
-returns-in_default-clause-choices c = unmade c.dropped-in_default.result.report.made (ap (λ (s : ControlStep). s.report.made) c.dropped-in_default.ensures)

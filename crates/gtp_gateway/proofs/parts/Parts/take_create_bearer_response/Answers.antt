@@ -1,5 +1,5 @@
 use Rattle.std.proofs.Common.{ℕ, ap, subst}
-use Rattle.std.proofs.lemmas.Result.{IfOk-weaker, on_err_weaker}
+use Rattle.std.proofs.lemmas.Result.{on_err_weaker}
 use Rattle.gtp_machine.specs.Input.{Came_to}
 use Rattle.gtp_machine.specs.Packet.{CreateBearerAnswered}
 use Rattle.gtp_gateway.specs.receive.RestartCounter.{node_heard}
@@ -7,7 +7,6 @@ use Rattle.gtp_gateway.specs.tables.Opening.{effect_by}
 use Rattle.gtp_gateway.specs.GatewayState.{state_of}
 use Rattle.gtp_gateway.proofs.Opened.{settled, if_ok}
 use Rattle.gtp_gateway.proofs.Allocations.{create_bearer_answered}
-use Rattle.gtp_gateway.specs.declared.step.ControlStep.{ControlStep}
 use Rattle.gtp_gateway.proofs.parts.Parts.take_create_bearer_response.Goals as goal
 
 pub returns-clause-taken : goal.returns-clause-taken
@@ -21,10 +20,6 @@ returns-clause-taken c =
 
 pub returns-clause-memory : goal.returns-clause-memory
 returns-clause-memory c =
-    let old = state_of c.args.self.now in
     let v = c.judge_create_bearer_response-verdict.result in
-    let n = node_heard c.args.heard old.node in
+    let n = node_heard c.args.heard (state_of c.args.self.now).node in
     on_err_weaker c.apply_verdict.result (λ opened x says. create_bearer_answered x n (effect_by v x.number n) (ap (λ o. Came_to o) opened) (c.judge_create_bearer_response-verdict.ensures.judged x says)) c.apply_verdict.ensures.memory
-
-pub returns-clause-unmade : goal.returns-clause-unmade
-returns-clause-unmade c = IfOk-weaker c.apply_verdict.result _ _ (λ step is. ap (λ (s : ControlStep). s.report.made) is) c.apply_verdict.ensures.step

@@ -20,8 +20,7 @@ use Rattle.gtp_gateway.proofs.CreateSessionAnswered.{answered_so, refusal_same, 
 use Rattle.gtp_gateway.proofs.Columns.{yes, no}
 use Rattle.gtp_gateway.proofs.Rows.{ends}
 use Rattle.gtp_gateway.proofs.Allocations.{on_err, create_session_asked}
-use Rattle.gtp_gateway.proofs.Choosings.{unmade, lowest_session}
-use Rattle.gtp_gateway.specs.declared.step.ControlStep.{ControlStep}
+use Rattle.gtp_gateway.proofs.Choosings.{lowest_session}
 use Rattle.gtp_gateway.proofs.parts.Parts.take_create_session_request.Goals as goal
 use Rattle.gtp_gateway.proofs.RestartCounters.{held_stays, config_stays}
 
@@ -42,14 +41,13 @@ returns-in-Refused-clause-taken c =
     let old = state_of c.args.self.now in
     let left = node_heard c.args.heard old.node in
     let request = arrival_of c.args.source c.args.octets.now in
-    let r = c.args.request.now in
     let cause = c.in-Refused.cause in
     let room = room_left c.args.self.now c.args.heard (no c.is_full.ensures.full c.if-is_full.false) in
     IfOk-weaker c.refuse_session.result _ _ (λ step a q says.
     answered_so (CreateSessionAsked request q) c.args.source c.args.octets.now _ cause.value false left left old step (state_of c.refuse_session.new.self) (config_stays c.args.heard old.node) a
     (inr (
       room,
-      subst (λ (m : Message). SessionJudged request q left (answered request m cause.value left)) (sym (refusal_same r q says c.args.heard old.node cause))
+      subst (λ (m : Message). SessionJudged request q left (answered request m cause.value left)) (sym (refusal_same c.args.request.now q says c.args.heard old.node cause))
           (subst (λ (v : CreateSessionVerdict). SessionJudged request q left (create_session_effect request q v left)) c.in-Refused.is (c.judge_create_session.ensures.judged request q says)),
     )))
     c.refuse_session.ensures.refused
@@ -101,14 +99,8 @@ returns-in-GrantedWith-clause-choices c =
     let chosen = subst (λ (v : CreateSessionVerdict). IsVerdict r.default.identity r.pdn.0 v c.args.heard (state_of c.args.self.now)) c.in-GrantedWith.is c.judge_create_session.ensures.is in
     IfOk-weaker c.grant_with.result _ _ (λ step a made. lowest_session r.default.identity r.pdn.0 r c.in-GrantedWith.grant c.args.heard old (node_of c.grant_with.new.self) chosen.0 (ap (λ (n : Node). n.sessions) a.becomes)) c.grant_with.ensures.granted
 
-pub returns-in-Refused-clause-memory : goal.returns-in-Refused-clause-memory
-returns-in-Refused-clause-memory c = on_err c.refuse_session.result (λ arrival q. create_session_asked arrival q _ (room_left c.args.self.now c.args.heard (no c.is_full.ensures.full c.if-is_full.false)))
-
 pub returns-in-Granted-clause-memory : goal.returns-in-Granted-clause-memory
 returns-in-Granted-clause-memory c = on_err c.grant_session.result (λ arrival q. create_session_asked arrival q _ (room_left c.args.self.now c.args.heard (no c.is_full.ensures.full c.if-is_full.false)))
-
-pub returns-in-Refused-clause-choices : goal.returns-in-Refused-clause-choices
-returns-in-Refused-clause-choices c = IfOk-weaker c.refuse_session.result _ _ (λ step a. unmade step.report.made (ap (λ (s : ControlStep). s.report.made) a.is)) c.refuse_session.ensures.refused
 
 pub returns-in-Granted-clause-choices : goal.returns-in-Granted-clause-choices
 returns-in-Granted-clause-choices c =
@@ -116,6 +108,3 @@ returns-in-Granted-clause-choices c =
     let old = node_of c.args.self.now in
     let chosen = subst (λ (v : CreateSessionVerdict). IsVerdict r.default.identity r.pdn.0 v c.args.heard (state_of c.args.self.now)) c.in-Granted.is c.judge_create_session.ensures.is in
     IfOk-weaker c.grant_session.result _ _ (λ step a made. lowest_session r.default.identity r.pdn.0 r c.in-Granted.grant c.args.heard old (node_of c.grant_session.new.self) chosen (ap (λ (n : Node). n.sessions) a.becomes)) c.grant_session.ensures.granted
-
-pub returns-then-is_full-clause-choices : goal.returns-then-is_full-clause-choices
-returns-then-is_full-clause-choices c = unmade c.dropped.result.report.made (ap (λ (s : ControlStep). s.report.made) c.dropped.ensures)

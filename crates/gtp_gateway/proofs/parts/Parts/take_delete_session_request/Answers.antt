@@ -11,7 +11,6 @@ use Rattle.gtp_gateway.specs.Parts.{arrival_of, node_of}
 use Rattle.gtp_gateway.specs.GatewayState.{state_of}
 use Rattle.gtp_gateway.proofs.Answers.{held_few, held_many}
 use Rattle.gtp_gateway.proofs.Columns.{yes, no}
-use Rattle.gtp_gateway.proofs.Allocations.{on_err, delete_session_asked}
 use Rattle.gtp_gateway.proofs.Rows.{drops, answers}
 use Rattle.gtp_gateway.proofs.parts.Parts.take_delete_session_request.Goals as goal
 
@@ -36,6 +35,3 @@ returns-clause-taken c =
       record { few = held_few old.held.pairs (no c.is_full.ensures.full c.if-is_full.false) },
       subst (λ (k : Message). DeleteSessionJudged request d node (answered request k v.cause (changed_by v.change node))) (sym said) (c.judge_delete_session-verdict.ensures.judged request),
     ))
-
-pub returns-in_err-out-clause-memory : goal.returns-in_err-out-clause-memory
-returns-in_err-out-clause-memory c = on_err c.from_residual.result (λ arrival. delete_session_asked arrival (delete_session_by c.args.request.now) (node_of c.args.self.now) (record { few = held_few c.args.self.now.held.pairs (no c.is_full.ensures.full c.if-is_full.false) }))

@@ -9,8 +9,7 @@ use Rattle.gtp_gateway.proofs.parts.Parts.take_error_indication.Goals as goal
 
 pub returns-in_default : goal.returns-in_default
 returns-in_default c =
-    let old = state_of c.args.self.now in
-    drops (ErrorCame c.args.remote) old refl Unexpected (inl (λ named. c.in_default.ensures.none named.key named.at.bearer named.at.stands named.named, refl))
+    drops (ErrorCame c.args.remote) (state_of c.args.self.now) refl Unexpected (inl (λ named. c.in_default.ensures.none named.key named.at.bearer named.at.stands named.named, refl))
 
 pub returns : goal.returns
 returns c =

@@ -5,8 +5,7 @@ use Rattle.gtp_gateway.specs.declared.receive.invalid_request.Flaw.{Flaw}
 use Rattle.gtp_gateway.specs.declared.step.ControlStep.{ControlStep}
 use Rattle.gtp_gateway.specs.receive.InvalidRequest.{defect_of, fault_of, reading_of, dropped_for, IsFaultEffect}
 use Rattle.gtp_gateway.specs.GatewayState.{state_of}
-use Rattle.gtp_gateway.proofs.InvalidRequests.{drops_for, fault_unanswered}
-use Rattle.gtp_gateway.proofs.ReadsAs.{fault_dropped}
+use Rattle.gtp_gateway.proofs.InvalidRequests.{drops_for, fault_unanswered, fault_dropped}
 use Rattle.gtp_gateway.proofs.Allocations.{on_err, fault_needs}
 use Rattle.gtp_gateway.specs.receive.Allocations.{StepSendsOrOpens}
 use Rattle.gtp_gateway.proofs.parts.Parts.take_flaw.Goals as goal
@@ -29,6 +28,5 @@ returns-else-is_answered_by-clause-taken c = λ request from peer new.
 pub returns-then-is_answered_by-clause-memory : goal.returns-then-is_answered_by-clause-memory
 returns-then-is_answered_by-clause-memory c = on_err c.answer_fault.result (λ request from peer.
     let old = state_of c.args.self.now in
-    let f = c.in-Faulty.faulty in
     subst (λ (g : Flaw). StepSendsOrOpens request (reading_of g) old) (sym c.in-Faulty.is)
-    (fault_needs request (fault_of f) old (ap (λ (e : Endpoint). e.ip) from ∙ peer) (sym c.is_answered_by.ensures ∙ c.if-is_answered_by.true)))
+    (fault_needs request (fault_of c.in-Faulty.faulty) old (ap (λ (e : Endpoint). e.ip) from ∙ peer) (sym c.is_answered_by.ensures ∙ c.if-is_answered_by.true)))

@@ -29,9 +29,6 @@ says_request view r q reads is =
     let same : reads.request ≡ q = cc both in
     subst (SaysCreateBearer r) same reads.says
 
-pub create_bearer_request_in-request-requires : goal.create_bearer_request_in-request-requires
-create_bearer_request_in-request-requires c = c.requires.second
-
 pub returns-clause-taken : goal.returns-clause-taken
 returns-clause-taken c = λ octets lie a q pair.
     let g = c.args.self.now in

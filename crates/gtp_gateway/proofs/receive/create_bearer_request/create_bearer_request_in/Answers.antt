@@ -1,17 +1,11 @@
 use Rattle.std.proofs.Common.{◌≡◌, true, map, ap, rules}
 use Rattle.std.specs.Prelude.{is_some, option_to_list}
-use Rattle.gtp_v2.specs.Viewed.{optional_at, values_in, always_has, has_contexts, always_has_context, context_rows, context_always_has}
+use Rattle.gtp_v2.specs.Viewed.{optional_at, values_in, has_contexts, context_rows, context_always_has}
 use Rattle.gtp_machine.specs.declared.message_type.MessageType.TheVariants as types
 use Rattle.gtp_machine.proofs.Basics.Types.{type_kind}
 use Rattle.gtp_gateway.proofs.ContextsRead.{first_has, first_read, none_left}
 use Rattle.gtp_gateway.proofs.CreateBearerRequests.{none_further}
 use Rattle.gtp_gateway.proofs.receive.create_bearer_request.create_bearer_request_in.Goals as goal
-
-pub unreachable-requires : goal.unreachable-requires
-unreachable-requires c = c.contexts-contexts.ensures.some (ap always_has_context (type_kind c.args.view.now.message.kind types.CreateBearerRequest c.requires)) c.in_default.ensures.steps.0
-
-pub needed-requires : goal.needed-requires
-needed-requires c = ap (λ k. always_has k 73 0) (type_kind c.args.view.now.message.kind types.CreateBearerRequest c.requires)
 
 pub needed-requires-2 : goal.needed-requires-2
 needed-requires-2 c =

@@ -1,18 +1,12 @@
-use Rattle.std.proofs.Common.{ℕ, refl, sym, ap, subst}
-use Rattle.gtp_v2.specs.Viewed.{always_has, contexts_of, context_rows}
+use Rattle.std.proofs.Common.{ℕ, sym, ap, subst}
+use Rattle.gtp_v2.specs.Viewed.{contexts_of, context_rows}
 use Rattle.gtp_machine.specs.Decoded.{row_in, contexts_in, cause_at}
 use Rattle.gtp_machine.specs.declared.message_type.MessageType.TheVariants as types
 use Rattle.gtp_machine.proofs.Basics.Types.{type_kind}
 use Rattle.gtp_machine.proofs.Octets.Readings.{reads_as}
-use Rattle.gtp_gateway.specs.receive.ResponseContext.{HasCauses, ReadsOnly}
-use Rattle.gtp_gateway.proofs.CreateBearerResponses.{given_only}
+use Rattle.gtp_gateway.specs.receive.ResponseContext.{ReadsOnly}
+use Rattle.gtp_gateway.proofs.CreateResponses.{given_only}
 use Rattle.gtp_gateway.proofs.receive.create_bearer_response.create_bearer_response_in.Goals as goal
-
-pub response_in-requires : goal.response_in-requires
-response_in-requires c = ap (λ (k : ℕ). always_has k 2 0) (type_kind c.args.view.now.message.kind types.CreateBearerResponse c.requires.of)
-
-pub only_context_in-requires : goal.only_context_in-requires
-only_context_in-requires c = subst HasCauses (sym (type_kind c.args.view.now.message.kind types.CreateBearerResponse c.requires.of)) (record { contexts = refl; identity = refl; cause = refl })
 
 pub returns : goal.returns
 unfolding row_in contexts_in

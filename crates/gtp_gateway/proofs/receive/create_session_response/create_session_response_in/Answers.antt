@@ -1,21 +1,15 @@
 use Rattle.std.proofs.Common.{ℕ, refl, sym, ◌∙◌, ap, subst}
 use Rattle.gtp_ie.specs.Value.{OfFTeid, OfPaa}
-use Rattle.gtp_v2.specs.Viewed.{always_has, contexts_of, context_rows, has_row, row_of}
+use Rattle.gtp_v2.specs.Viewed.{contexts_of, context_rows, has_row, row_of}
 use Rattle.gtp_machine.specs.Decoded.{row_in, contexts_in, cause_at, end_in, paa_in}
 use Rattle.gtp_machine.specs.Element.{address_of, teid_in}
 use Rattle.gtp_machine.specs.declared.message_type.MessageType.TheVariants as types
 use Rattle.gtp_machine.proofs.Basics.Types.{type_kind}
 use Rattle.gtp_machine.proofs.Octets.Readings.{reads_as}
-use Rattle.gtp_gateway.specs.receive.ResponseContext.{HasCauses, ReadsOnly}
-use Rattle.gtp_gateway.proofs.CreateSessionResponses.{created_only}
+use Rattle.gtp_gateway.specs.receive.ResponseContext.{ReadsOnly}
+use Rattle.gtp_gateway.proofs.CreateResponses.{created_only}
 use Rattle.gtp_gateway.proofs.InPlace.{row_said}
 use Rattle.gtp_gateway.proofs.receive.create_session_response.create_session_response_in.Goals as goal
-
-pub response_in-requires : goal.response_in-requires
-response_in-requires c = ap (λ (k : ℕ). always_has k 2 0) (type_kind c.args.view.now.message.kind types.CreateSessionResponse c.requires.of)
-
-pub only_context_in-requires : goal.only_context_in-requires
-only_context_in-requires c = subst HasCauses (sym (type_kind c.args.view.now.message.kind types.CreateSessionResponse c.requires.of)) (record { contexts = refl; identity = refl; cause = refl })
 
 pub returns : goal.returns
 unfolding row_in contexts_in

@@ -1,24 +1,12 @@
-use Rattle.std.proofs.Common.{◌≡◌, ℕ, List, [], ◌∷◌, map, refl, sym, ◌∙◌, ap}
+use Rattle.std.proofs.Common.{◌≡◌, List, [], ◌∷◌, map, refl, sym, ◌∙◌, ap}
 use Rattle.gtp_ie.specs.Value.{OfAmbr}
-use Rattle.gtp_v2.specs.Viewed.{always_has, has_row, row_of}
+use Rattle.gtp_v2.specs.Viewed.{has_row, row_of}
 use Rattle.gtp_machine.specs.Decoded.{row_in, ambr_in, octets_at, number_at, end_at, requested}
 use Rattle.gtp_machine.specs.MessageType.{type_at}
 use Rattle.gtp_machine.proofs.Octets.Readings.{create_session_request_read}
 use Rattle.gtp_gateway.specs.receive.CreateSessionRequest.{default_values}
 use Rattle.gtp_gateway.proofs.InPlace.{row_said}
 use Rattle.gtp_gateway.proofs.receive.create_session_request.read.create_session_request_in.Goals as goal
-
-pub needed-requires : goal.needed-requires
-needed-requires c = ap (λ (k : ℕ). always_has k 1 0) c.requires.of
-
-pub needed-requires-2 : goal.needed-requires-2
-needed-requires-2 c = ap (λ (k : ℕ). always_has k 87 0) c.requires.of
-
-pub needed-requires-3 : goal.needed-requires-3
-needed-requires-3 c = ap (λ (k : ℕ). always_has k 71 0) c.requires.of
-
-pub needed-requires-4 : goal.needed-requires-4
-needed-requires-4 c = ap (λ (k : ℕ). always_has k 99 0) c.requires.of
 
 same_first : {A : Type 0} (x y : A) (xs ys : List A) → x ∷ xs ≡ y ∷ ys → (x ≡ y) × (xs ≡ ys)
 same_first x y xs ys is = (cc, cc)

@@ -1,11 +1,8 @@
 use Rattle.std.proofs.Common.{◌≡◌, true, [], ◌∷◌, map, ◌∙◌, ap}
 use Rattle.std.specs.Prelude.{is_some, option_to_list}
-use Rattle.gtp_v2.specs.Viewed.{optional_at, values_in, has_contexts, always_has_context, context_rows, context_always_has}
+use Rattle.gtp_v2.specs.Viewed.{optional_at, values_in, has_contexts, context_rows, context_always_has}
 use Rattle.gtp_gateway.proofs.ContextsRead.{first_has, first_read, none_left}
 use Rattle.gtp_gateway.proofs.receive.create_session_request.read.requested_default.Goals as goal
-
-pub unreachable-requires : goal.unreachable-requires
-unreachable-requires c = c.contexts-contexts.ensures.some (ap always_has_context c.requires) c.in_default.ensures.steps.0
 
 pub needed-identity-requires : goal.needed-identity-requires
 needed-identity-requires c = first_has (λ es. is_some (optional_at 73 0 es) ≡ true) c.contexts-contexts.result c.in-Some.first c.next.new.self (c.contexts-contexts.ensures.needed 73 0 (ap (λ k. context_always_has k 73 0) c.requires)) c.in-Some.ensures.steps
