@@ -12,13 +12,12 @@ use Rattle.gtp_machine.specs.declared.role.Role.TheVariants.{Serving, Packet}
 use Rattle.gtp_machine.specs.declared.outcome.Outcome.TheVariants.{Opened}
 use Rattle.gtp_machine.specs.Answer.{IsNew, Faulted, TakesReading, answered, echoed}
 use Rattle.gtp_machine.specs.Choice.{HasHeldRoom, HasSession}
-use Rattle.gtp_machine.specs.Config.{Template, template_for}
 use Rattle.gtp_machine.specs.Input.{Came_to, Moves_on, Resend, Effect, FaultyRequest, ControlReading, Control_message, Faulty}
-use Rattle.gtp_machine.specs.Message.{Message, CreateSessionRequest, CreateSessionResponse, DeleteSessionRequest, CreateBearerRequest, CreateBearerResponse, DeleteBearerRequest, Echo, recovery_of}
-use Rattle.gtp_machine.specs.Node.{Active, Pending, Session, Arrival, Held, Node}
-use Rattle.gtp_machine.specs.Packet.{AnswersWith, session_cause, session_response, made_session, session_made, SessionJudged, CreateSessionAsked, DeleteSessionJudged, DeleteSessionAsked, CreateBearerAnswered}
+use Rattle.gtp_machine.specs.Message.{Message, CreateSessionResponse, CreateBearerRequest, CreateBearerResponse, Echo, recovery_of}
+use Rattle.gtp_machine.specs.Node.{Active, Session, Arrival, Held, Node}
+use Rattle.gtp_machine.specs.Packet.{CreateBearerAnswered}
 use Rattle.gtp_machine.specs.Recovery.{Judges, Weighs, Hears}
-use Rattle.gtp_machine.specs.Serving.{BearerJudged, CreateBearerAsked, DeleteBearerTaken, DeleteBearerJudged, DeleteBearerAsked, CreateSessionAnswered}
+use Rattle.gtp_machine.specs.Serving.{BearerJudged, CreateBearerAsked, CreateSessionAnswered}
 use Rattle.gtp_machine.proofs.Basics.Facts.{one_value}
 use Rattle.gtp_machine.proofs.Determined.Responses.{create_session_answered as session_alike, create_bearer_answered as bearer_alike}
 use Rattle.gtp_gateway.specs.declared.receive.restart_counter.Heard.{Heard}
@@ -37,37 +36,14 @@ pub on_err : {A E P : Type 0} (r : Result A E) → P → OnErr r P
 on_err (Ok x) is = tt
 on_err (Err e) is = is
 
-sends : {e f : Effect} → (f.out.sent ≡ [] → ⊥) → e ≡ f → SendsOrOpens e
+pub sends : {e f : Effect} → (f.out.sent ≡ [] → ⊥) → e ≡ f → SendsOrOpens e
 sends some is = inl (λ none. some (ap (λ (x : Effect). x.out.sent) (sym is) ∙ none))
 
 -- what is answered is sent
-answers : {P : Type 0} {m : Message} {cause : ℕ} {e : Effect} (request : Arrival) (left : Node) → (P → ⊥) → e ≡ answered request m cause left → SendsOrOpens e
-answers request left not is = sends (λ none. cc) is
+pub sends_answer : {P : Type 0} {m : Message} {cause : ℕ} {e : Effect} (request : Arrival) (left : Node) → (P → ⊥) → e ≡ answered request m cause left → SendsOrOpens e
+sends_answer request left not is = sends (λ none. cc) is
 
 -- ---- requests
-
--- with a template's bearer or without
-answered_with : (template : Option Template) (request : Arrival) (a : CreateSessionResponse) (cause session : ℕ) (s : Session) (made : Node) (e : Effect) → AnswersWith template request a cause session s made e → SendsOrOpens e
-answered_with None request a cause session s made e is = sends (λ none. cc) is
-answered_with (Some t) request a cause session s made e (inl alone) = sends (λ none. cc) alone.1
-answered_with (Some t) request a cause session s made e (inr (can, adds)) = sends (λ none. cc) adds.gives
-
-session_judged : (request : Arrival) (q : CreateSessionRequest) (old : Node) (e : Effect) → SessionJudged request q old e → SendsOrOpens e
-session_judged request q old e r =
-    follows (answers request old) (λ one.
-    follows (answers request old) (λ identity.
-    follows (answers request old) (λ configured. follows (answers request old) (λ served. follows (answers request old) (λ few. follows (answers request old) (λ can makes.
-    answered_with (template_for q.access_point old.config.templates) request (session_response old q makes.control makes.user makes.address) (session_cause q.pdn makes.address) makes.control
-    (made_session q makes.address) (session_made old q makes.control makes.user makes.address) e makes.gives)))))) r
-
-pub create_session_asked : (request : Arrival) (q : CreateSessionRequest) (old : Node) → HasHeldRoom old → AlwaysSendsOrOpens (CreateSessionAsked request q) old
-create_session_asked request q old room e r = follows (λ full is. absurd (full room)) (λ few. session_judged request q old e) r
-
-delete_session_judged : (request : Arrival) (d : DeleteSessionRequest) (old : Node) (e : Effect) → DeleteSessionJudged request d old e → SendsOrOpens e
-delete_session_judged request d old e r = follows (answers request old) (λ at. follows (answers request old) (λ linked is. sends (λ none. cc) is)) r
-
-pub delete_session_asked : (request : Arrival) (d : DeleteSessionRequest) (old : Node) → HasHeldRoom old → AlwaysSendsOrOpens (DeleteSessionAsked request d) old
-delete_session_asked request d old room e r = follows (λ full is. absurd (full room)) (λ few. delete_session_judged request d old e) r
 
 -- its session is active, if it stands
 abbrev IsOpen : Node → ℕ → Type 0
@@ -75,9 +51,9 @@ IsOpen old session = (at : HasSession old session) → at.session.state ≡ Acti
 
 bearer_judged : (request : Arrival) (r : CreateBearerRequest) (old : Node) → IsOpen old r.header → (e : Effect) → BearerJudged request r old e → SendsOrOpens e
 bearer_judged request r old active e rule =
-    follows (answers request old) (λ at.
+    follows (sends_answer request old) (λ at.
     follows (λ idle is. absurd (idle (active at))) (λ opened.
-    follows (answers request old) (λ one. follows (answers request old) (λ linked. follows (answers request old) (λ free makes. sends (λ none. cc) makes.gives))))) rule
+    follows (sends_answer request old) (λ one. follows (sends_answer request old) (λ linked. follows (sends_answer request old) (λ free makes. sends (λ none. cc) makes.gives))))) rule
 
 -- so it is where the request is answered
 bearer_open : (request : Arrival) (r : CreateBearerRequest) (old : Node) (made : _) (m : Message) (cause : ℕ) (left : Node) → BearerJudged request r old (answering made request (m ∷ []) cause left) → IsOpen old r.header
@@ -88,27 +64,6 @@ bearer_open request r old made m cause left (inr (a, inr (active, rest))) at = s
 pub create_bearer_asked : (request : Arrival) (r : CreateBearerRequest) (old : Node) (made : _) (m : Message) (cause : ℕ) (left : Node) → HasHeldRoom old → BearerJudged request r old (answering made request (m ∷ []) cause left) → AlwaysSendsOrOpens (CreateBearerAsked request r) old
 create_bearer_asked request r old made m cause left room judged e rule =
     follows (λ full is. absurd (full room)) (λ few. bearer_judged request r old (bearer_open request r old made m cause left judged) e) rule
-
--- its session was opened, if it stands
-abbrev pub WasOpened : Node → ℕ → Type 0
-WasOpened old session = (at : HasSession old session) → at.session.state ≡ Pending → ⊥
-
-delete_bearer_taken : (request : Arrival) (d : DeleteBearerRequest) (linked : Option ℕ) (old : Node) (s : Session) (e : Effect) → DeleteBearerTaken request d linked old s e → SendsOrOpens e
-delete_bearer_taken request d (Some identity) old s e r = follows (answers request old) (λ only is. sends (λ none. cc) is) r
-delete_bearer_taken request d None old s e r = follows (answers request old) (λ few removes. sends (λ none. cc) removes.gives) r
-
-delete_bearer_judged : (request : Arrival) (d : DeleteBearerRequest) (old : Node) → WasOpened old d.header → (e : Effect) → DeleteBearerJudged request d old e → SendsOrOpens e
-delete_bearer_judged request d old opened e r =
-    follows (answers request old) (λ at. follows (λ pending is. absurd (pending (opened at))) (λ was. delete_bearer_taken request d d.linked old at.session e)) r
-
--- so it was where the request is answered
-pub delete_bearer_opened : (request : Arrival) (d : DeleteBearerRequest) (old : Node) (m : Message) (cause : ℕ) (left : Node) → DeleteBearerJudged request d old (answered request m cause left) → WasOpened old d.header
-delete_bearer_opened request d old m cause left (inl f) at = absurd (f.0 at)
-delete_bearer_opened request d old m cause left (inr (a, inl f)) at = absurd (let none : (record { destination = request.source; messages = m ∷ [] } ∷ []) ≡ [] = ap (λ (x : Effect). x.out.sent) f.1 in cc)
-delete_bearer_opened request d old m cause left (inr (a, inr (opened, rest))) at = subst (λ (s : Session). s.state ≡ Pending → ⊥) (one_value (get old.sessions d.header) a.session at.session a.stands at.stands) opened
-
-pub delete_bearer_asked : (request : Arrival) (d : DeleteBearerRequest) (old : Node) → HasHeldRoom old → WasOpened old d.header → AlwaysSendsOrOpens (DeleteBearerAsked request d) old
-delete_bearer_asked request d old room opened e r = follows (λ full is. absurd (full room)) (λ few. delete_bearer_judged request d old opened e) r
 
 -- ---- responses that open what was asked for
 

@@ -2,7 +2,6 @@
 use Rattle.gtp_machine.specs.declared.message_type.MessageType.TheVariants as types
 use Rattle.std.proofs.Common.{◌≡◌, ℕ, Bool, false, List, [], ◌∷◌, Some, None, sym, ◌∙◌, ap}
 use Rattle.std.specs.FinMap.{insert}
-use Rattle.gtp_values.specs.declared.address.Endpoint.{Endpoint}
 use Rattle.gtp_values.specs.declared.cause.Cause.{Cause}
 use Rattle.gtp_values.specs.PdnAddress.{allocation}
 use Rattle.gtp_machine.specs.Answer.{refusing}
@@ -10,7 +9,7 @@ use Rattle.gtp_machine.specs.Config.{Config}
 use Rattle.gtp_machine.specs.Element.{tunnel_end, cause_of}
 use Rattle.gtp_machine.specs.Input.{Effect}
 use Rattle.gtp_machine.specs.Message.{CreateSessionRequest, RequestedBearer, Message, Create_session_response, Create_bearer_request}
-use Rattle.gtp_machine.specs.Node.{Active, Default, Node}
+use Rattle.gtp_machine.specs.Node.{Arrival, Active, Default, Node}
 use Rattle.gtp_machine.specs.Command.{create_bearer_asked}
 use Rattle.gtp_machine.specs.Packet.{session_cause, session_response, made_session, session_made}
 use Rattle.gtp_machine.specs.Spelling.{datagram_of}
@@ -23,16 +22,15 @@ use Rattle.gtp_gateway.specs.receive.Answer.{answering}
 use Rattle.gtp_gateway.specs.tables.Change.{changed_by}
 use Rattle.gtp_gateway.specs.receive.CreateSessionRequest.{change_of, session_granted, grants, grants_with, asked_with, IsAnsweredSo, SaysCreateSession}
 use Rattle.gtp_gateway.specs.receive.RestartCounter.{node_heard}
-use Rattle.gtp_gateway.specs.Parts.{arrival_of}
 use Rattle.gtp_gateway.specs.receive.Row.{IsRow}
 use Rattle.gtp_gateway.specs.GatewayState.{GatewayState}
 use Rattle.gtp_gateway.proofs.Rows.{answers_made}
 use Rattle.gtp_gateway.proofs.RestartCounters.{counter_stays, config_stays}
 
-pub answered_so : (Takes : Node → Effect → Type 0) (source : Endpoint) (octets : List ℕ) (answer : List Message) (cause : ℕ) (made : Bool) (left heard : Node) (old : GatewayState) (step : ControlStep) (new : GatewayState) → heard.config ≡ old.node.config → IsAnsweredSo source octets answer cause made left old step new → Takes heard (answering made (arrival_of source octets) answer cause left)
-    → IsRow Takes (arrival_of source octets) old.role heard step new
-answered_so Takes source octets answer cause made left heard old step new config a takes =
-    answers_made Takes (arrival_of source octets) (record old { node = heard }) new step a.sent answer cause made left a.is (a.goes ∙ ap (λ (c : Config). datagram_of c (record { destination = source; messages = answer })) (sym config)) a.read a.becomes a.role takes
+pub answered_so : (Takes : Node → Effect → Type 0) (arrival : Arrival) (answer : List Message) (cause : ℕ) (made : Bool) (left heard : Node) (old : GatewayState) (step : ControlStep) (new : GatewayState) → heard.config ≡ old.node.config → IsAnsweredSo arrival answer cause made left old step new → Takes heard (answering made arrival answer cause left)
+    → IsRow Takes arrival old.role heard step new
+answered_so Takes arrival answer cause made left heard old step new config a takes =
+    answers_made Takes arrival (record old { node = heard }) new step a.sent answer cause made left a.is (a.goes ∙ ap (λ (c : Config). datagram_of c (record { destination = arrival.source; messages = answer })) (sym config)) a.read a.becomes a.role takes
 
 module _ (r : SessionRequest) (q : CreateSessionRequest) (says : SaysCreateSession r q) (heard : Heard) (node : Node) where
   abbrev left : Node

@@ -14,8 +14,8 @@ use Rattle.gtp_tables.specs.declared.pool.Pools.{Pools}
 use Rattle.gtp_tables.specs.declared.pool.IpVersion.{IpVersion}
 use Rattle.gtp_tables.specs.declared.pool.IpVersion.TheVariants.{V4, V6}
 use Rattle.gtp_tables.specs.Free.{count_of, address_at, IsLowestFree, IsUsedUp, IsLowestPart, IsLowestGiven, AreUsedUp}
-use Rattle.gtp_machine.specs.Choice.{IsFree, HasDraws, IsFreeAddress, HasFreeAddress, asked_by, IsPart, IsGiven, CanGive}
-use Rattle.gtp_machine.specs.Node.{Session, Bearer, Node}
+use Rattle.gtp_machine.specs.Choice.{IsFree, HasDraws, IsFreeAddress, HasFreeAddress, asked_by, IsPart, IsGiven, CanGive, HasHeldRoom}
+use Rattle.gtp_machine.specs.Node.{Session, Bearer, Node, Arrival}
 use Rattle.gtp_machine.proofs.Basics.FiniteMaps.{found-insert}
 use Rattle.gtp_gateway.specs.declared.receive.restart_counter.Heard.{Heard}
 use Rattle.gtp_gateway.specs.declared.receive.restart_counter.Heard.TheVariants as heards
@@ -24,6 +24,30 @@ use Rattle.gtp_gateway.specs.receive.RestartCounter.{node_heard}
 use Rattle.gtp_gateway.proofs.RestartCounters.{counter_stays, drawn_stays}
 use Rattle.gtp_gateway.proofs.Opened.{none_where, kept_insert, session_stood}
 use Rattle.gtp_gateway.proofs.Templates.{same_octets}
+use Rattle.gtp_machine.specs.Config.{Template, template_for}
+use Rattle.gtp_machine.specs.Input.{Effect}
+use Rattle.gtp_machine.specs.Message.{CreateSessionRequest, CreateSessionResponse}
+use Rattle.gtp_machine.specs.Packet.{AnswersWith, session_cause, session_response, made_session, session_made, SessionJudged, CreateSessionAsked}
+use Rattle.gtp_gateway.specs.receive.Allocations.{SendsOrOpens, AlwaysSendsOrOpens}
+use Rattle.gtp_gateway.proofs.Rules.{follows}
+use Rattle.gtp_gateway.proofs.Allocations.{sends, sends_answer}
+
+-- with a template's bearer or without
+answered_with : (template : Option Template) (request : Arrival) (a : CreateSessionResponse) (cause session : ℕ) (s : Session) (made : Node) (e : Effect) → AnswersWith template request a cause session s made e → SendsOrOpens e
+answered_with None request a cause session s made e is = sends (λ none. cc) is
+answered_with (Some t) request a cause session s made e (inl alone) = sends (λ none. cc) alone.1
+answered_with (Some t) request a cause session s made e (inr (can, adds)) = sends (λ none. cc) adds.gives
+
+session_judged : (request : Arrival) (q : CreateSessionRequest) (old : Node) (e : Effect) → SessionJudged request q old e → SendsOrOpens e
+session_judged request q old e r =
+    follows (sends_answer request old) (λ one.
+    follows (sends_answer request old) (λ identity.
+    follows (sends_answer request old) (λ configured. follows (sends_answer request old) (λ served. follows (sends_answer request old) (λ few. follows (sends_answer request old) (λ can makes.
+    answered_with (template_for q.access_point old.config.templates) request (session_response old q makes.control makes.user makes.address) (session_cause q.pdn makes.address) makes.control
+    (made_session q makes.address) (session_made old q makes.control makes.user makes.address) e makes.gives)))))) r
+
+pub create_session_asked : (request : Arrival) (q : CreateSessionRequest) (old : Node) → HasHeldRoom old → AlwaysSendsOrOpens (CreateSessionAsked request q) old
+create_session_asked request q old room e r = follows (λ full is. absurd (full room)) (λ few. session_judged request q old e) r
 
 -- ---- what hearing leaves as it was
 

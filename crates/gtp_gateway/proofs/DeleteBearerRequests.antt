@@ -1,36 +1,25 @@
 -- Delete Bearer Requests: the bearers that are named, and how they go.
-use Rattle.std.proofs.Common.{◌≡◌, ℕ, ◌<◌, ◌≤◌, Bool, true, false, cond, List, [], ◌∷◌, ◌++◌, map, length, Option, Some, None, inl, inr, refl, sym, ◌∙◌, ap, subst, append_assoc, append-nil, arith, rules}
-use Rattle.std.specs.Prelude.{◌==◌, ◌||◌, ◌&&◌, not, is_some, All, option_map, option_to_list, unwrap_or}
-use Rattle.std.specs.List.{AllByRecursion, list_all, list_any}
+use Rattle.std.proofs.Common.{◌≡◌, ℕ, ◌<◌, ◌≤◌, Bool, true, false, cond, List, [], ◌∷◌, ◌++◌, map, length, Option, Some, None, inl, inr, refl, sym, ◌∙◌, ap, subst, append_assoc, append-nil, arith}
+use Rattle.std.specs.Prelude.{◌==◌, ◌||◌, ◌&&◌, not, is_some, unwrap_or}
+use Rattle.std.specs.List.{list_all, list_any}
 use Rattle.std.proofs.lemmas.List.{length-map}
-use Rattle.std.proofs.lemmas.List.Elements.{All-from_recursion, All-map}
 use Rattle.std.proofs.lemmas.List.Folds.{list_any-append}
 use Rattle.std.specs.FinMap.{get}
-use Rattle.gtp_values.specs.declared.cause.Cause.{Cause}
-use Rattle.gtp_values.specs.declared.counter.Counter.{Counter}
 use Rattle.gtp_values.specs.declared.identifiers.Teid.{Teid}
 use Rattle.gtp_ie.specs.declared.value.ebi.EbiValue.{EbiValue}
-use Rattle.gtp_v2.specs.declared.body.Body.TheVariants as bodies
-use Rattle.gtp_v2.specs.declared.body.delete_bearer_response.RemovalResponseContext.{RemovalResponseContext}
-use Rattle.gtp_v2.specs.DeleteBearerResponse.{removal_response_context_rows, removal_response_context_values}
-use Rattle.gtp_v2.specs.Marks.{RowsMarked}
-use Rattle.gtp_ie.specs.Value.{Value, OfCause, OfEbi, OfRecovery}
+use Rattle.gtp_ie.specs.Value.{Value, OfEbi}
 use Rattle.gtp_v2.specs.Datagram.{IsMessage}
-use Rattle.gtp_v2.specs.Table.{Plain, Groups, start, after}
 use Rattle.gtp_v2.specs.Message.{MessageValue}
 use Rattle.gtp_tables.proofs.Kept.{passing, get_kept}
 use Rattle.gtp_machine.specs.Command.{NamesBearer}
 use Rattle.gtp_machine.specs.Element.{cause_of}
 use Rattle.gtp_machine.specs.Input.{Effect}
 use Rattle.gtp_machine.specs.Answer.{answered}
-use Rattle.gtp_machine.specs.Decoded.{contexts_in, row_in, list_in, first_in, number_of, removed, message_of}
-use Rattle.gtp_machine.specs.Message.{RemovedBearer, Delete_bearer_request, Delete_bearer_response}
-use Rattle.gtp_machine.specs.Node.{Arrival, Bearer, Node}
+use Rattle.gtp_machine.specs.Decoded.{row_in, list_in, number_of, message_of}
+use Rattle.gtp_machine.specs.Message.{RemovedBearer, Delete_bearer_request, Delete_bearer_response, Message, DeleteBearerRequest}
+use Rattle.gtp_machine.specs.Node.{Arrival, Bearer, Node, Pending, Session}
 use Rattle.gtp_machine.specs.declared.role.Role.{Role}
-use Rattle.gtp_machine.specs.Reading.{control_message, removed_bearer}
-use Rattle.gtp_machine.proofs.Octets.ByName.{removed_read}
-use Rattle.gtp_machine.specs.Serving.{RemovesEach, DeleteBearerTaken, DeleteBearerJudged, all_removed, any_removed, delete_bearer_cause}
-use Rattle.gtp_machine.specs.Spelling.{removed_rows, typed, where_there}
+use Rattle.gtp_machine.specs.Serving.{RemovesEach, DeleteBearerTaken, DeleteBearerJudged, all_removed, any_removed, delete_bearer_cause, DeleteBearerAsked}
 use Rattle.gtp_machine.proofs.Basics.Types.{type_kind}
 use Rattle.gtp_machine.proofs.Octets.Readings.{reads_as}
 use Rattle.gtp_gateway.specs.declared.tables.change.Change.TheVariants.{Stays}
@@ -38,16 +27,40 @@ use Rattle.gtp_gateway.specs.declared.receive.delete_request.DeleteRequest.{Dele
 use Rattle.gtp_gateway.specs.declared.receive.delete_bearer_request.identities.NamedBearer.{NamedBearer}
 use Rattle.gtp_machine.specs.declared.message_type.MessageType.TheVariants as types
 use Rattle.gtp_gateway.specs.declared.step.ControlStep.{ControlStep}
-use Rattle.gtp_gateway.specs.receive.DeleteBearerRequest.{is_at, goes_for, is_found, was_named, NamesOne, NamesEach, identity_named, cause_named, removed_by, context_by, without_named, without_each}
+use Rattle.gtp_gateway.specs.receive.DeleteBearerRequest.{is_at, goes_for, is_found, was_named, NamesOne, NamesEach, identity_named, cause_named, removed_by, without_named, without_each}
 use Rattle.gtp_gateway.specs.receive.DeleteBearerRequest.{delete_bearer_by, identities_of, IsForBearers, number_in, delete_bearer_effect}
 use Rattle.gtp_gateway.specs.receive.DeleteRequest.{ReadsDelete}
 use Rattle.gtp_machine.specs.MessageType.{type_at}
-use Rattle.gtp_gateway.specs.messages.Own.{IsOwn}
 use Rattle.gtp_gateway.specs.receive.Row.{IsRow}
 use Rattle.gtp_gateway.specs.GatewayState.{GatewayState}
-use Rattle.gtp_gateway.proofs.Rules.{meets}
+use Rattle.gtp_gateway.proofs.Rules.{meets, follows}
 use Rattle.gtp_gateway.proofs.InPlace.{row_said}
 use Rattle.gtp_v2.specs.Viewed.{has_row, row_of}
+use Rattle.gtp_machine.specs.Choice.{HasHeldRoom, HasSession}
+use Rattle.gtp_machine.proofs.Basics.Facts.{one_value}
+use Rattle.gtp_gateway.specs.receive.Allocations.{SendsOrOpens, AlwaysSendsOrOpens}
+use Rattle.gtp_gateway.proofs.Allocations.{sends, sends_answer}
+
+-- its session was opened, if it stands
+abbrev pub WasOpened : Node → ℕ → Type 0
+WasOpened old session = (at : HasSession old session) → at.session.state ≡ Pending → ⊥
+
+delete_bearer_taken : (request : Arrival) (d : DeleteBearerRequest) (linked : Option ℕ) (old : Node) (s : Session) (e : Effect) → DeleteBearerTaken request d linked old s e → SendsOrOpens e
+delete_bearer_taken request d (Some identity) old s e r = follows (sends_answer request old) (λ only is. sends (λ none. cc) is) r
+delete_bearer_taken request d None old s e r = follows (sends_answer request old) (λ few removes. sends (λ none. cc) removes.gives) r
+
+delete_bearer_judged : (request : Arrival) (d : DeleteBearerRequest) (old : Node) → WasOpened old d.header → (e : Effect) → DeleteBearerJudged request d old e → SendsOrOpens e
+delete_bearer_judged request d old opened e r =
+    follows (sends_answer request old) (λ at. follows (λ pending is. absurd (pending (opened at))) (λ was. delete_bearer_taken request d d.linked old at.session e)) r
+
+-- so it was where the request is answered
+pub delete_bearer_opened : (request : Arrival) (d : DeleteBearerRequest) (old : Node) (m : Message) (cause : ℕ) (left : Node) → DeleteBearerJudged request d old (answered request m cause left) → WasOpened old d.header
+delete_bearer_opened request d old m cause left (inl f) at = absurd (f.0 at)
+delete_bearer_opened request d old m cause left (inr (a, inl f)) at = absurd (let none : (record { destination = request.source; messages = m ∷ [] } ∷ []) ≡ [] = ap (λ (x : Effect). x.out.sent) f.1 in cc)
+delete_bearer_opened request d old m cause left (inr (a, inr (opened, rest))) at = subst (λ (s : Session). s.state ≡ Pending → ⊥) (one_value (get old.sessions d.header) a.session at.session a.stands at.stands) opened
+
+pub delete_bearer_asked : (request : Arrival) (d : DeleteBearerRequest) (old : Node) → HasHeldRoom old → WasOpened old d.header → AlwaysSendsOrOpens (DeleteBearerAsked request d) old
+delete_bearer_asked request d old room opened e r = follows (λ full is. absurd (full room)) (λ few. delete_bearer_judged request d old opened e) r
 
 -- a row of one kind, as a row of another that holds of the same effects at this node
 pub row_as : (T U : Node → Effect → Type 0) (request : Arrival) (role : Role) (old : Node) (step : ControlStep) (new : GatewayState) → ((e : Effect) → T old e → U old e) → IsRow T request role old step new → IsRow U request role old step new
@@ -154,57 +167,6 @@ each_goes old node session before (n ∷ ns) left each =
 -- the bearers that were named beforehand go in turn as the machine says
 pub removes_each : (old : Node) (session : ℕ) (ns : List NamedBearer) → NamesEach old session [] ns → RemovesEach session (map identity_named ns) old (map removed_by ns) (without_each ns old)
 removes_each old session ns each = each_goes old old session [] ns (record { there = λ t b stands. (stands, refl); here = λ t b stands none. stands }) each
-
--- ---- the answer
-
-every : {X : Type 0} (P : X → Type 0) → ((x : X) → P x) → (xs : List X) → AllByRecursion P xs
-every P each [] = tt
-every P each (x ∷ xs) = (each x, every P each xs)
-
-context_marked : (accepting : Bool) (c : RemovalResponseContext) → RowsMarked accepting removal_response_context_rows (removal_response_context_values c)
-context_marked accepting c = (omega arith, (omega arith, tt))
-
-pub contexts_marked : (accepting : Bool) (cs : List RemovalResponseContext) → All (RowsMarked accepting removal_response_context_rows) (map removal_response_context_values cs)
-contexts_marked accepting cs = All-map (RowsMarked accepting removal_response_context_rows) removal_response_context_values cs (All-from_recursion _ cs (every _ (context_marked accepting) cs))
-
-pub context_values : (cs : List RemovalResponseContext) → map removal_response_context_values cs ≡ map removed_rows (map removed (map removal_response_context_values cs))
-context_values [] = refl
-context_values (c ∷ cs) = λ i. removal_response_context_values c ∷ context_values cs i
-
--- its contexts, by the bearers that are named
-pub contexts_said : (ns : List NamedBearer) → map removed_bearer (map context_by ns) ≡ map removed_by ns
-contexts_said [] = refl
-contexts_said (n ∷ ns) = λ i. removed_by n ∷ contexts_said ns i
-
-linked_values : (linked : Option EbiValue) → option_to_list (option_map (λ (x : EbiValue). OfEbi x.0) linked) ≡ where_there (λ (x : ℕ). OfEbi x) (first_in number_of (option_to_list (option_map (λ (x : EbiValue). OfEbi x.0) linked)))
-linked_values None = refl
-linked_values (Some e) = refl
-
-linked_read : (linked : Option EbiValue) → first_in number_of (option_to_list (option_map (λ (x : EbiValue). OfEbi x.0) linked)) ≡ option_map (λ (e : EbiValue). e.0) linked
-linked_read None = refl
-linked_read (Some e) = refl
-
--- what it says
-pub delete_bearer_said : (header : Teid) (number : ℕ) (cause : Cause) (linked : Option EbiValue) (cs : List RemovalResponseContext) (counter : Counter)
-    → control_message (record { teid = Some header; seq = number; priority = None; body = bodies.DeleteBearerResponse (record { cause = cause; linked_ebi = linked; contexts = cs; recovery = Some (record { 0 = counter }) }) })
-    ≡ Delete_bearer_response (record { header = header; number = number; cause = cause; linked = option_map (λ (e : EbiValue). e.0) linked; contexts = map removed_bearer cs; recovery = Some counter.0 })
-unfolding row_in contexts_in
-delete_bearer_said header number cause linked cs counter = λ i. Delete_bearer_response (record { header = header; number = number; cause = cause; linked = linked_read linked i; contexts = removed_read cs i; recovery = Some counter.0 })
-
--- it is one that a gateway sends
-pub delete_bearer_own : (header : Teid) (number : ℕ) (cause : Cause) (linked : Option EbiValue) (cs : List RemovalResponseContext) (counter : Counter) → length cs ≤ 11
-    → IsOwn (record { teid = Some header; seq = number; priority = None; body = bodies.DeleteBearerResponse (record { cause = cause; linked_ebi = linked; contexts = cs; recovery = Some (record { 0 = counter }) }) })
-unfolding row_in contexts_in
-delete_bearer_own header number cause linked cs counter few =
-    record {
-      header = search rules;
-      kind = tt;
-      marks = (refl, (omega arith, (tt, ((tt, contexts_marked (after (after start (Plain (OfCause cause ∷ []))) (Plain (option_to_list (option_map (λ (x : EbiValue). OfEbi x.0) linked)))).accepting cs), (tt, tt)))));
-      few = omega (arith, few, length-map cs removal_response_context_values);
-      control = refl;
-      own = tt;
-      says = λ i. typed 100 (Some header) number (Plain (OfCause cause ∷ []) ∷ Plain (linked_values linked i) ∷ Groups (context_values cs i) ∷ Plain (OfRecovery counter.0 ∷ []) ∷ []);
-    }
 
 -- ---- the machine's column
 

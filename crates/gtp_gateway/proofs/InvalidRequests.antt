@@ -1,6 +1,5 @@
 -- What either gateway does with a request at fault.
-use Rattle.std.proofs.Common.{◌≡◌, inr, ℕ, Bool, true, false, List, refl, sym, ◌∙◌, subst}
-use Rattle.gtp_values.specs.declared.address.Endpoint.{Endpoint}
+use Rattle.std.proofs.Common.{◌≡◌, inr, ℕ, Bool, true, false, refl, sym, ◌∙◌, subst}
 use Rattle.gtp_v2.specs.Pair.{IsDatagramFault}
 use Rattle.gtp_v2.specs.declared.fault.V2Fault.{V2Fault}
 use Rattle.gtp_machine.specs.declared.role.Role.{Role}
@@ -13,7 +12,6 @@ use Rattle.gtp_machine.specs.Input.{Control_came, dropped, undecodable}
 use Rattle.gtp_machine.specs.Reading.{announces, datagram_fault, datagram_reading, taken_as}
 use Rattle.gtp_machine.specs.Step.{Step as MachineStep}
 use Rattle.gtp_gateway.specs.declared.step.ControlStep.{ControlStep}
-use Rattle.gtp_gateway.specs.Parts.{arrival_of}
 use Rattle.gtp_gateway.specs.receive.InvalidRequest.{dropped_for, IsFaultEffect, IsFaultTaken}
 use Rattle.gtp_gateway.specs.GatewayState.{GatewayState}
 use Rattle.gtp_gateway.specs.receive.Taken.{IsTaken}
@@ -41,14 +39,13 @@ pub fault_dropped : (role : Role) (old : Node) (request : Arrival) (number : ℕ
 fault_dropped role old request number peer new = inr (peer, inr (new, refl))
 
 -- what was done with a datagram at fault is a step on what its octets read as
-pub fault_received : (source : Endpoint) (octets : List ℕ) (old : GatewayState) (f : V2Fault) (reading : inputs.ControlReading) (step : ControlStep) → source.ip ≡ old.node.config.peer.control → IsNew old.node (arrival_of source octets) → IsDatagramFault octets f → reading ≡ datagram_fault (announces octets) f → IsFaultTaken source reading old step → IsTaken source octets old step old
-fault_received source octets old f reading step peer new fails is taken =
-    let request : Arrival = arrival_of source octets in
-    let done = taken request refl peer new in
-    let reads : reading ≡ taken_as (datagram_reading octets) = is ∙ reads_fault octets f fails in
+pub fault_received : (arrival : Arrival) (old : GatewayState) (f : V2Fault) (reading : inputs.ControlReading) (step : ControlStep) → arrival.source.ip ≡ old.node.config.peer.control → IsNew old.node arrival → IsDatagramFault arrival.octets f → reading ≡ datagram_fault (announces arrival.octets) f → IsFaultTaken arrival reading old step → IsTaken arrival old step old
+fault_received arrival old f reading step peer new fails is taken =
+    let done = taken peer new in
+    let reads : reading ≡ taken_as (datagram_reading arrival.octets) = is ∙ reads_fault arrival.octets f fails in
     record {
       effect = done.effect;
-      takes = subst (λ (r : inputs.ControlReading). MachineStep old.role old.node (Control_came request r) done.effect) reads done.takes;
+      takes = subst (λ (r : inputs.ControlReading). MachineStep old.role old.node (Control_came arrival r) done.effect) reads done.takes;
       tells = done.tells;
       becomes = done.stays;
       role = refl;

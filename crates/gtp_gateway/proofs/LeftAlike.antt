@@ -1,17 +1,15 @@
 -- What ticks go by, where the same node is left.
-use Rattle.std.proofs.Common.{◌≡◌, ◌≢◌, ⊎_elim, ℕ, Bool, true, false, cond, filter, List, [], ◌∷◌, ◌++◌, length, map, Option, Some, None, refl, sym, ◌∙◌, ap, subst, arith, length-append}
-use Rattle.std.specs.Prelude.{◌==◌}
-use Rattle.std.specs.List.{list_any, filter_map, cons_option}
+use Rattle.std.proofs.Common.{◌≡◌, ◌≢◌, ⊎_elim, ℕ, Bool, filter, List, [], ◌∷◌, ◌++◌, length, map, Option, Some, None, refl, sym, ◌∙◌, ap, subst, arith, length-append}
+use Rattle.std.specs.List.{filter_map}
 use Rattle.std.specs.FinMap.{get, insert}
 use Rattle.std.proofs.lemmas.List.{map_push, length-map}
 use mathlib.Core.Logic.{∥∥₁_elim}
 use Rattle.gtp_values.specs.FiniteMap.{FiniteMap}
 use Rattle.gtp_values.specs.declared.address.Endpoint.{Endpoint}
-use Rattle.std.proofs.lemmas.Bool.{or_parts}
 use Rattle.gtp_reliable.specs.Held.{HeldPair, just_kept}
-use Rattle.gtp_reliable.specs.Pending.{is_pending, AreDistinct, IsNextFree, number_after}
+use Rattle.gtp_reliable.specs.Pending.{AreDistinct, IsNextFree, number_after}
 use Rattle.gtp_reliable.specs.Waiting.{Waiting, just_sent, next_tick, after_tick_by, after_tick}
-use Rattle.gtp_machine.specs.Node.{PendingRequest, Node}
+use Rattle.gtp_machine.specs.Node.{Arrival, PendingRequest, Node}
 use Rattle.gtp_machine.specs.Spelling.{spelled}
 use Rattle.gtp_machine.proofs.Basics.FiniteMaps.{found-insert, get-insert_same}
 use Rattle.gtp_machine.proofs.Determined.Alike.{WaitsBeside}
@@ -19,7 +17,7 @@ use Rattle.gtp_machine.proofs.Determined.Steps.{drawn_before}
 use Rattle.gtp_gateway.specs.declared.command.purpose.Purpose.{Purpose}
 use Rattle.gtp_gateway.specs.Determined.{held_as, waits_as, AreLeftAlike, WaitsNext}
 use Rattle.gtp_gateway.specs.receive.Queues.{Beginning, held_with, begun_with, IsNext, IsNewFor, IsNew, waiting_on, QueuesAfterMessage}
-use Rattle.gtp_gateway.specs.Parts.{held_of, pending_of, pending_in}
+use Rattle.gtp_gateway.specs.Parts.{arrival_of, held_of, pending_of, pending_in}
 use Rattle.gtp_gateway.proofs.Requests.{none_pending, pending_push, found_before, of_found}
 use Rattle.gtp_reliable.specs.declared.waiting.NextTick.{NextTick}
 use Rattle.gtp_reliable.specs.declared.waiting.NextTick.TheVariants.{WaitsOn}
@@ -35,69 +33,7 @@ use Rattle.gtp_gateway.specs.GatewayState.{Queues, GatewayState, NodeMatchesQueu
 use Rattle.gtp_gateway.specs.Tick.{QueuesAfterTick}
 use Rattle.gtp_gateway.proofs.QueuesAfter.{on_goes}
 use Rattle.gtp_gateway.proofs.ChosenOnce.{same_beside, one_next}
-
--- a list with what an option holds before it, where a test is true
-abbrev taken : Bool → Option (Waiting Purpose) → List (Waiting Purpose) → List (Waiting Purpose)
-taken true o ws = cons_option o ws
-taken false o ws = ws
-
-none_taken : (n : ℕ) (b : Bool) (o : Option (Waiting Purpose)) (ws : List (Waiting Purpose)) → ((v : Waiting Purpose) → o ≡ Some v → (v.seq == n) ≡ false) → is_pending n ws ≡ false → is_pending n (taken b o ws) ≡ false
-unfolding is_pending
-none_taken n true (Some v) ws other none = rw (other v refl) none
-none_taken n b o ws other none = none
-
-module _ (o : Option (Waiting Purpose)) (ws vs : List (Waiting Purpose)) (absent : (w : Waiting Purpose) → o ≡ Some w → get (pending_in ws) w.seq ≡ None) (missing : (w : Waiting Purpose) → o ≡ Some w → get (pending_in vs) w.seq ≡ None) (rest : pending_in ws ≡ pending_in vs → ws ≡ vs) where
-  same_taken : (a b : Bool) → pending_in (taken a o ws) ≡ pending_in (taken b o vs) → taken a o ws ≡ taken b o vs
-  same_taken a b = by_option a b o refl
-    where
-      never : (m n : FiniteMap PendingRequest) (key : ℕ) (x : PendingRequest) → insert m key x ≡ n → get n key ≡ None → ⊥
-      never m n key x is gone = let there : get n key ≡ Some x = ap (λ (k : FiniteMap PendingRequest). get k key) (sym is) ∙ get-insert_same m key x in cc
-
-      by_option : (a b : Bool) (p : Option (Waiting Purpose)) → o ≡ p → pending_in (taken a p ws) ≡ pending_in (taken b p vs) → taken a p ws ≡ taken b p vs
-      by_option false true (Some w) is e = absurd (never (pending_in vs) (pending_in ws) w.seq (pending_of w).1 (sym e) (absent w is))
-      by_option true false (Some w) is e = absurd (never (pending_in ws) (pending_in vs) w.seq (pending_of w).1 e (missing w is))
-      by_option true true (Some w) is e = ap (λ k. w ∷ k) (rest (same_beside (pending_in ws) (pending_in vs) w.seq (pending_of w).1 (pending_of w).1 (absent w is) (missing w is) e))
-      by_option a b p is e = rest e
-
--- of requests, those that stay, each as a tick leaves it
-module _ (later : Waiting Purpose → Option (Waiting Purpose)) (numbered : (w v : Waiting Purpose) → later w ≡ Some v → v.seq ≡ w.seq) where
-  abbrev staying : (Waiting Purpose → Bool) → List (Waiting Purpose) → List (Waiting Purpose)
-  staying stays ws = filter_map later (filter stays ws)
-
-  first_taken : (w : Waiting Purpose) (b : Bool) (ws : List (Waiting Purpose)) → filter_map later (cond b (w ∷ ws) ws) ≡ taken b (later w) (filter_map later ws)
-  first_taken w true ws = refl
-  first_taken w false ws = refl
-
-  none_stays : (stays : Waiting Purpose → Bool) (n : ℕ) (ws : List (Waiting Purpose)) → is_pending n ws ≡ false → is_pending n (staying stays ws) ≡ false
-  unfolding is_pending
-  none_stays stays n [] none = refl
-  none_stays stays n (w ∷ ws) none =
-      let both = or_parts (w.seq == n) (list_any (λ (x : Waiting Purpose). x.seq == n) ws) none in
-      ap (λ k. is_pending n k) (first_taken w (stays w) (filter stays ws)) ∙ none_taken n (stays w) (later w) (staying stays ws) (λ v is. ap (λ (k : ℕ). k == n) (numbered w v is) ∙ both.0) (none_stays stays n ws both.1)
-
-  same_staying : (stays keeps : Waiting Purpose → Bool) (ws : List (Waiting Purpose)) → AreDistinct ws → pending_in (staying stays ws) ≡ pending_in (staying keeps ws) → staying stays ws ≡ staying keeps ws
-  same_staying stays keeps [] apart same = refl
-  same_staying stays keeps (w ∷ ws) apart same =
-      let first = first_taken w (stays w) (filter stays ws) in
-      let second = first_taken w (keeps w) (filter keeps ws) in
-      first ∙ (same_taken (later w) (staying stays ws) (staying keeps ws) (gone stays) (gone keeps) (same_staying stays keeps ws apart.1) (stays w) (keeps w) (ap pending_in (sym first) ∙ (same ∙ ap pending_in second)) ∙ sym second)
-    where
-      gone : (test : Waiting Purpose → Bool) (v : Waiting Purpose) → later w ≡ Some v → get (pending_in (staying test ws)) v.seq ≡ None
-      gone test v is = none_pending (staying test ws) v.seq (subst (λ k. is_pending k (staying test ws) ≡ false) (sym (numbered w v is)) (none_stays test w.seq ws apart.0))
-
--- requests that stay, as they are
-all_there : (ws : List (Waiting Purpose)) → filter_map (λ (w : Waiting Purpose). Some w) ws ≡ ws
-all_there [] = refl
-all_there (w ∷ ws) = ap (λ k. w ∷ k) (all_there ws)
-
-same_filter : (stays keeps : Waiting Purpose → Bool) (ws : List (Waiting Purpose)) → AreDistinct ws → pending_in (filter stays ws) ≡ pending_in (filter keeps ws) → filter stays ws ≡ filter keeps ws
-same_filter stays keeps ws apart same =
-    sym (all_there (filter stays ws))
-    ∙ (same_staying (λ w. Some w) (λ w v is. numbered w v is) stays keeps ws apart (ap pending_in (all_there (filter stays ws)) ∙ (same ∙ ap pending_in (sym (all_there (filter keeps ws)))))
-    ∙ all_there (filter keeps ws))
-  where
-    numbered : (w v : Waiting Purpose) → ◌≡◌ {A = Option (Waiting Purpose)} (Some w) (Some v) → v.seq ≡ w.seq
-    numbered w v is = let same : w ≡ v = cc in ap (λ (k : Waiting Purpose). k.seq) (sym same)
+use Rattle.gtp_gateway.proofs.Filtered.{same_filter, same_staying}
 
 longer : (ps : List HeldPair) (p : HeldPair) → map held_of ps ≡ map held_of (ps ++ (p ∷ [])) → ⊥
 longer ps p e = omega (arith, ap length e, length-map ps held_of, length-map (ps ++ (p ∷ [])) held_of, length-append ps (p ∷ []))
@@ -176,8 +112,8 @@ module _ (old : GatewayState) (whole : IsSoundState old) (tied : NodeMatchesQueu
     pub next : IsNextFree old.queues.next (filter stays old.queues.waiting) n
     pub beside : pending_in (filter stays old.queues.waiting) ≡ others
 
-  begun_among : (source : Endpoint) (octets : List ℕ) (new : GatewayState) (others : FiniteMap PendingRequest) (n : ℕ) (p : PendingRequest) → QueuesAfterMessage source octets old new → WaitsBeside old.node.drawn new.node.pending others n p → IsBegunAmong others n
-  begun_among source octets new others n p goes waits = by goes.begun goes.next left
+  begun_among : (arrival : Arrival) (new : GatewayState) (others : FiniteMap PendingRequest) (n : ℕ) (p : PendingRequest) → QueuesAfterMessage arrival old new → WaitsBeside old.node.drawn new.node.pending others n p → IsBegunAmong others n
+  begun_among arrival new others n p goes waits = by goes.begun goes.next left
     where
       left : pending_in (begun_with goes.begun (waiting_on goes.stays old.queues)).waiting ≡ insert others n p
       left = ap (λ (t : Queues). pending_in t.waiting) (sym goes.queues) ∙ (sym goes.tied.pending ∙ waits.is)
@@ -196,32 +132,32 @@ module _ (old : GatewayState) (whole : IsSoundState old) (tied : NodeMatchesQueu
           (λ there. absurd (no_request n p goes.stays waits there.1))
           (found-insert stay b.number (pending_of (begins b)).1 n p (ap (λ (k : FiniteMap PendingRequest). get k n) both ∙ get-insert_same others n p))
 
-  pub number_begun : (source : Endpoint) (octets : List ℕ) (new left : GatewayState) (others : FiniteMap PendingRequest) (m n : ℕ) (p q : PendingRequest) → QueuesAfterMessage source octets old new → QueuesAfterMessage source octets old left → WaitsBeside old.node.drawn new.node.pending others m p → WaitsBeside old.node.drawn left.node.pending others n q → m ≡ n
-  number_begun source octets new left others m n p q goes also waits too =
-      let one = begun_among source octets new others m p goes waits in
-      let other = begun_among source octets left others n q also too in
+  pub number_begun : (arrival : Arrival) (new left : GatewayState) (others : FiniteMap PendingRequest) (m n : ℕ) (p q : PendingRequest) → QueuesAfterMessage arrival old new → QueuesAfterMessage arrival old left → WaitsBeside old.node.drawn new.node.pending others m p → WaitsBeside old.node.drawn left.node.pending others n q → m ≡ n
+  number_begun arrival new left others m n p q goes also waits too =
+      let one = begun_among arrival new others m p goes waits in
+      let other = begun_among arrival left others n q also too in
       let same = same_filter one.stays other.stays old.queues.waiting apart (one.beside ∙ sym other.beside) in
       one_next old.queues.next (filter other.stays old.queues.waiting) m n (subst (λ (ws : List (Waiting Purpose)). IsNextFree old.queues.next ws m) same one.next) other.next
 
 -- what ticks go by, after a datagram
-abbrev timing_after : Endpoint → List ℕ → GatewayState → Option Beginning → (Waiting Purpose → Bool) → Option (List ℕ) → Queues
-timing_after source octets old begun stays answer = record (begun_with begun (waiting_on stays old.queues)) { held = held_with source octets answer old.queues.held }
+abbrev timing_after : Arrival → GatewayState → Option Beginning → (Waiting Purpose → Bool) → Option (List ℕ) → Queues
+timing_after arrival old begun stays answer = record (begun_with begun (waiting_on stays old.queues)) { held = held_with arrival.source arrival.octets answer old.queues.held }
 
-module _ (source : Endpoint) (octets : List ℕ) (old new left : GatewayState) (apart : AreDistinct old.queues.waiting) (role : new.role ≡ left.role) (node : new.node ≡ left.node) (m : QueuesAfterMessage source octets old new) (n : QueuesAfterMessage source octets old left) where
+module _ (arrival : Arrival) (old new left : GatewayState) (apart : AreDistinct old.queues.waiting) (role : new.role ≡ left.role) (node : new.node ≡ left.node) (m : QueuesAfterMessage arrival old new) (n : QueuesAfterMessage arrival old left) where
   abbrev one : Option Beginning → Queues
-  one begun = timing_after source octets old begun m.stays m.answer
+  one begun = timing_after arrival old begun m.stays m.answer
 
   abbrev two : Option Beginning → Queues
-  two begun = timing_after source octets old begun n.stays n.answer
+  two begun = timing_after arrival old begun n.stays n.answer
 
   pending_alike : (x y : Option Beginning) → new.queues ≡ one x → left.queues ≡ two y → pending_in (one x).waiting ≡ pending_in (two y).waiting
   pending_alike x y p q = ap (λ (t : Queues). pending_in t.waiting) (sym p) ∙ (sym m.tied.pending ∙ (ap (λ (k : Node). k.pending) node ∙ (n.tied.pending ∙ ap (λ (t : Queues). pending_in t.waiting) q)))
 
-  held_alike : (x y : Option Beginning) → new.queues ≡ one x → left.queues ≡ two y → map held_of (held_with source octets m.answer old.queues.held) ≡ map held_of (held_with source octets n.answer old.queues.held)
+  held_alike : (x y : Option Beginning) → new.queues ≡ one x → left.queues ≡ two y → map held_of (held_with arrival.source arrival.octets m.answer old.queues.held) ≡ map held_of (held_with arrival.source arrival.octets n.answer old.queues.held)
   held_alike x y p q = ap (λ (t : Queues). map held_of t.held) (sym p) ∙ (sym m.tied.held ∙ (ap (λ (k : Node). k.held) node ∙ (n.tied.held ∙ ap (λ (t : Queues). map held_of t.held) q)))
 
   alike : (x y : Option Beginning) → new.queues ≡ one x → left.queues ≡ two y → (one x).timers ≡ (two y).timers → (one x).next ≡ (two y).next → map waits_as (one x).waiting ≡ map waits_as (two y).waiting → AreLeftAlike new left
-  alike x y p q timers next waiting = left_as new left role node (one x) (two y) p q timers next waiting (same_held source octets m.answer n.answer old.queues.held (held_alike x y p q))
+  alike x y p q timers next waiting = left_as new left role node (one x) (two y) p q timers next waiting (same_held arrival.source arrival.octets m.answer n.answer old.queues.held (held_alike x y p q))
 
   by_begun : (x y : Option Beginning) → IsNext x (waiting_on m.stays old.queues) → IsNext y (waiting_on n.stays old.queues) → IsNew x old → IsNew y old → new.queues ≡ one x → left.queues ≡ two y → AreLeftAlike new left
   by_begun None None i j v w p q = alike None None p q refl refl (ap (map waits_as) (same_filter m.stays n.stays old.queues.waiting apart (pending_alike None None p q)))
@@ -240,12 +176,12 @@ module _ (source : Endpoint) (octets : List ℕ) (old new left : GatewayState) (
 
 -- what ticks go by after a datagram that was received as a whole
 abbrev pub KeepsOnce : Plane → Endpoint → List ℕ → Step → GatewayState → GatewayState → Type 0
-KeepsOnce Control source octets step old new = QueuesAfterMessage source octets old new
+KeepsOnce Control source octets step old new = QueuesAfterMessage (arrival_of source octets) old new
 KeepsOnce User source octets step old new = QueuesAfterReceive User source octets step old new
 
 pub left_by : (plane : Plane) (source : Endpoint) (octets : List ℕ) (step other : Step) (old new left : GatewayState) → AreDistinct old.queues.waiting → new.role ≡ left.role → new.node ≡ left.node → KeepsOnce plane source octets step old new → KeepsOnce plane source octets other old left → AreLeftAlike new left
-left_by Control source octets step other old new left apart role node m n = left_goes source octets old new left apart role node m n
-left_by User source octets step other old new left apart role node m n = left_goes source octets old new left apart role node (on_goes source octets old new m.1 m.2) (on_goes source octets old left n.1 n.2)
+left_by Control source octets step other old new left apart role node m n = left_goes (arrival_of source octets) old new left apart role node m n
+left_by User source octets step other old new left apart role node m n = left_goes (arrival_of source octets) old new left apart role node (on_goes (arrival_of source octets) old new m.1 m.2) (on_goes (arrival_of source octets) old left n.1 n.2)
 
 -- ---- after a command
 

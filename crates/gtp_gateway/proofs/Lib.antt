@@ -2,6 +2,7 @@ pub mod Stays
 pub mod Own
 pub mod TwoMessages
 pub mod BeforeSecond
+pub mod SecondGranted
 pub mod SecondsTaken
 pub mod PairTaken
 pub mod SentBack
@@ -16,6 +17,7 @@ pub mod Teids
 pub mod DedicatedBearers
 pub mod CreateBearerRequests
 pub mod DeleteBearerRequests
+pub mod DeleteBearerAnswers
 pub mod Answers
 pub mod Readings
 pub mod Taking
@@ -28,7 +30,8 @@ pub mod Rows
 pub mod InvalidRequests
 pub mod ByType
 pub mod Opened
-pub mod CreateResponses
+pub mod CreateSessionResponses
+pub mod CreateBearerResponses
 pub mod RestartCounters
 pub mod UserRows
 pub mod ErrorIndications
@@ -46,5 +49,6 @@ pub mod QueuesAfter
 pub mod Allocations
 pub mod Choosings
 pub mod ChosenOnce
+pub mod Filtered
 pub mod LeftAlike
 pub mod Determined

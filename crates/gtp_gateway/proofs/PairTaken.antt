@@ -107,11 +107,8 @@ one_heard Takes one old (Some counter) e f (x, weighs_x, is_x) (y, weighs_y, is_
 
 -- ---- its step
 
-module _ (source : Endpoint) (octets : List ℕ) (old : GatewayState) (serving : old.role ≡ Serving) (peer : source.ip ≡ old.node.config.peer.control) (fresh : IsNew old.node (arrival_of source octets)) (a : CreateSessionResponse) (recovery : Option Counter) (counted : option_map (λ (c : Counter). c.0) recovery ≡ a.recovery)
+module _ (arrival : Arrival) (old : GatewayState) (serving : old.role ≡ Serving) (peer : arrival.source.ip ≡ old.node.config.peer.control) (fresh : IsNew old.node arrival) (a : CreateSessionResponse) (recovery : Option Counter) (counted : option_map (λ (c : Counter). c.0) recovery ≡ a.recovery)
     (r : SessionResponse) (v : ResponseVerdict) (j : JudgesAnswer r (weighed_by recovery old.node.known) old.node v) (says : SaysCreateSessionResponse r a) where
-  abbrev request : Arrival
-  request = arrival_of source octets
-
   abbrev message : Message
   message = Create_session_response a
 
@@ -137,13 +134,13 @@ module _ (source : Endpoint) (octets : List ℕ) (old : GatewayState) (serving :
       ap (λ (w : ResponseVerdict). effect_by w a.number left) (j.early early) ∙ (λ i. record { out = nothing; outcome = Came_to (Dropped OldCounter); node = earlier_changes_none heard old.node early i }) in
       subst (λ (e : Effect). Hears (CreateSessionAnswered a) old.node (option_map (λ (c : Counter). c.0) recovery) (told recovery old.node.known e)) (sym is) (hears_early (CreateSessionAnswered a) old.node recovery early)
 
-  heard_first : Hears (TakesBy old.role request message) old.node (recovery_of message) first_effect
+  heard_first : Hears (TakesBy old.role arrival message) old.node (recovery_of message) first_effect
   heard_first =
-      subst (λ (k : Role). Hears (TakesBy k request message) old.node (recovery_of message) first_effect) (sym serving)
+      subst (λ (k : Role). Hears (TakesBy k arrival message) old.node (recovery_of message) first_effect) (sym serving)
       (subst (λ (o : Option ℕ). Hears (CreateSessionAnswered a) old.node o first_effect) counted (by_counter (earlier_or_not heard)))
 
-  pub first_step : MachineStep old.role old.node (Control_came request (Control_message message)) first_effect
-  first_step = message_taken old.role old.node request message first_effect peer fresh takes_it heard_first
+  pub first_step : MachineStep old.role old.node (Control_came arrival (Control_message message)) first_effect
+  first_step = message_taken old.role old.node arrival message first_effect peer fresh takes_it heard_first
 
   pub first_node : first_effect.node ≡ node_after_first heard v a.number old.node
   first_node = told_node recovery old.node.known (effect_by v a.number left)
@@ -152,10 +149,10 @@ module _ (source : Endpoint) (octets : List ℕ) (old : GatewayState) (serving :
   first_tells = first_told recovery old.node.known v a.number left
 
   -- whatever step there is leaves this node
-  pub one_first : (e : Effect) → MachineStep old.role old.node (Control_came request (Control_message message)) e → e.node ≡ first_effect.node
-  one_first e step = by (subst (λ (k : Role). MachineStep k old.node (Control_came request (Control_message message)) e) serving step)
+  pub one_first : (e : Effect) → MachineStep old.role old.node (Control_came arrival (Control_message message)) e → e.node ≡ first_effect.node
+  one_first e step = by (subst (λ (k : Role). MachineStep k old.node (Control_came arrival (Control_message message)) e) serving step)
     where
-      by : MachineStep Serving old.node (Control_came request (Control_message message)) e → e.node ≡ first_effect.node
+      by : MachineStep Serving old.node (Control_came arrival (Control_message message)) e → e.node ≡ first_effect.node
       by (inl f) = absurd (f.0 peer)
       by (inr (from, inl repeats)) = absurd (fresh repeats.held repeats.stands repeats.same)
       by (inr (from, inr (none, inl f))) = absurd (f.0 refl)
@@ -163,11 +160,11 @@ module _ (source : Endpoint) (octets : List ℕ) (old : GatewayState) (serving :
           one_heard (CreateSessionAnswered a) (λ n x y. one_answered a n x y) old.node a.recovery e first_effect hears (subst (λ (o : Option ℕ). Hears (CreateSessionAnswered a) old.node o first_effect) counted (by_counter (earlier_or_not heard)))
 
   -- where a session is opened, it is so by whatever step
-  pub first_needs : outcome_by v ≡ Opened → StepSendsOrOpens request (Control_message message) old
+  pub first_needs : outcome_by v ≡ Opened → StepSendsOrOpens arrival (Control_message message) old
   first_needs opened =
       let on = λ (early : IsEarlier heard). (let is : Dropped OldCounter ≡ Opened = sym (ap outcome_by (j.early early)) ∙ opened in let never : ⊥ = cc is in never) in
-      message_needs request old message recovery peer takes_it counted heard refl on
-      (needs_by old.role request message left types.CreateSessionResponse types.CreateSessionResponse message has_it refl refl (needing.create_session_answered a left (effect_by v a.number left) (ap (λ o. Came_to o) opened) (j.judged on a says)))
+      message_needs arrival old message recovery peer takes_it counted heard refl on
+      (needs_by old.role arrival message left types.CreateSessionResponse types.CreateSessionResponse message has_it refl refl (needing.create_session_answered a left (effect_by v a.number left) (ap (λ o. Came_to o) opened) (j.judged on a says)))
 
 -- ---- the step of both
 
@@ -177,33 +174,33 @@ module _ (source : Endpoint) (octets front back : List ℕ) (announced : Announc
   settled = state_after_first (weighed_by recovery old.node.known) v r.response.seq old
 
   fresh : IsNew old.node (arrival_of source (first_part octets))
-  fresh = announcing_new source (first_part octets) pairs old.node held kept (parts_of octets front back announced).told_in_first
+  fresh = announcing_new (arrival_of source (first_part octets)) pairs old.node held kept (parts_of octets front back announced).told_in_first
 
   abbrev first : Effect
-  first = first_effect source (first_part octets) old serving peer fresh a recovery counted r v j says
+  first = first_effect (arrival_of source (first_part octets)) old serving peer fresh a recovery counted r v j says
 
   node_is : first.node ≡ settled.node
-  node_is = first_node source (first_part octets) old serving peer fresh a recovery counted r v j says ∙ (λ i. node_after_first (weighed_by recovery old.node.known) v (says.number i) old.node)
+  node_is = first_node (arrival_of source (first_part octets)) old serving peer fresh a recovery counted r v j says ∙ (λ i. node_after_first (weighed_by recovery old.node.known) v (says.number i) old.node)
 
   -- the second message, at the node that the first leaves
-  second_there : (n : Node) (e : Effect) → n ≡ settled.node → MachineStep old.role settled.node (Control_came (arrival_of source back) (Control_message (Create_bearer_request q))) e → MachineStep old.role n (second_comes source octets q) e
+  second_there : (n : Node) (e : Effect) → n ≡ settled.node → MachineStep old.role settled.node (Control_came (arrival_of source back) (Control_message (Create_bearer_request q))) e → MachineStep old.role n (second_comes (arrival_of source octets) q) e
   second_there n e same step =
-      subst (λ (k : Node). MachineStep old.role k (second_comes source octets q) e) (sym same)
+      subst (λ (k : Node). MachineStep old.role k (second_comes (arrival_of source octets) q) e) (sym same)
       (subst (λ (o : List ℕ). MachineStep old.role settled.node (Control_came (arrival_of source o) (Control_message (Create_bearer_request q))) e) (sym (parts_of octets front back announced).second) step)
 
   pub pair_received : (given second : ControlStep) (new : GatewayState) → given ≡ followed_by (record { out = None; report = report_heard (weighed_by recovery old.node.known) (plain_report (outcome_by v)) }) second → (second.report.heard ≡ None) × (second.report.restart ≡ None)
-      → IsSecondTaken source back request settled second new → AreReceived source octets a q old (of_control given) new
+      → IsSecondTaken (arrival_of source back) request settled second new → AreReceived (arrival_of source octets) a q old (of_control given) new
   pair_received given second new is unheard takes =
       let taken = takes q asks in
       let e = taken.effect in
       let t = taken.tells in
-      let tells = first_tells source (first_part octets) old serving peer fresh a recovery counted r v j says in
+      let tells = first_tells (arrival_of source (first_part octets)) old serving peer fresh a recovery counted r v j says in
       let none : e.out.heard ≡ None = sym t.heard ∙ ap (option_map (λ (c : Counter). c.0)) unheard.0 in
       let unlearned : e.out.learned ≡ None = sym t.restart ∙ ap (option_map (λ (c : Counter). c.0)) unheard.1 in
-      subst (λ (s : ControlStep). AreReceived source octets a q old (of_control s) new) (sym is)
+      subst (λ (s : ControlStep). AreReceived (arrival_of source octets) a q old (of_control s) new) (sym is)
       (record {
         first = first;
-        takes = first_step source (first_part octets) old serving peer fresh a recovery counted r v j says;
+        takes = first_step (arrival_of source (first_part octets)) old serving peer fresh a recovery counted r v j says;
         second = e;
         follows = second_there first.node e node_is taken.takes;
         tells = record {
@@ -221,13 +218,13 @@ module _ (source : Endpoint) (octets front back : List ℕ) (announced : Announc
         role = taken.role;
       })
 
-  pub pair_needs : EitherMayRunOut v source back request settled → EitherSendsOrOpens source octets a q old
-  pair_needs (inl opened) one two first_is second_is = inl (first_needs source (first_part octets) old serving peer fresh a recovery counted r v j says opened one first_is)
+  pub pair_needs : EitherMayRunOut v (arrival_of source back) request settled → EitherSendsOrOpens (arrival_of source octets) a q old
+  pair_needs (inl opened) one two first_is second_is = inl (first_needs (arrival_of source (first_part octets)) old serving peer fresh a recovery counted r v j says opened one first_is)
   pair_needs (inr needs) one two first_is second_is =
-      let same : one.node ≡ settled.node = one_first source (first_part octets) old serving peer fresh a recovery counted r v j says one first_is ∙ node_is in
+      let same : one.node ≡ settled.node = one_first (arrival_of source (first_part octets)) old serving peer fresh a recovery counted r v j says one first_is ∙ node_is in
       inr (needs q asks two (back_there one.node same second_is))
     where
-      back_there : (n : Node) → n ≡ settled.node → MachineStep old.role n (second_comes source octets q) two → MachineStep old.role settled.node (Control_came (arrival_of source back) (Control_message (Create_bearer_request q))) two
+      back_there : (n : Node) → n ≡ settled.node → MachineStep old.role n (second_comes (arrival_of source octets) q) two → MachineStep old.role settled.node (Control_came (arrival_of source back) (Control_message (Create_bearer_request q))) two
       back_there n same step =
           subst (λ (o : List ℕ). MachineStep old.role settled.node (Control_came (arrival_of source o) (Control_message (Create_bearer_request q))) two) (parts_of octets front back announced).second
-          (subst (λ (k : Node). MachineStep old.role k (second_comes source octets q) two) same step)
+          (subst (λ (k : Node). MachineStep old.role k (second_comes (arrival_of source octets) q) two) same step)

@@ -13,18 +13,15 @@ use Rattle.gtp_values.specs.declared.cause.Cause.{Cause}
 use Rattle.gtp_tables.proofs.Rows.{turned}
 use Rattle.gtp_reliable.specs.Waiting.{Waiting}
 use Rattle.gtp_reliable.specs.Pending.{purpose_of}
-use Rattle.gtp_machine.specs.Message.{Message, DeleteSessionResponse, DeleteBearerResponse, Echo_request, Delete_session_request, Delete_bearer_request, header_of}
+use Rattle.gtp_machine.specs.Message.{Message, header_of}
 use Rattle.gtp_machine.specs.Node.{PendingRequest}
-use Rattle.gtp_machine.specs.Response.{IsEcho, Named}
-use Rattle.gtp_machine.specs.Serving.{FitsDeleteSession}
-use Rattle.gtp_machine.specs.Packet.{FitsDeleteBearer}
+use Rattle.gtp_machine.specs.Response.{Named}
 use Rattle.gtp_gateway.specs.declared.command.purpose.Purpose.{Purpose}
 use Rattle.gtp_gateway.specs.declared.command.purpose.Asked.{Asked}
-use Rattle.gtp_gateway.specs.declared.command.purpose.Asked.TheVariants.{Echo, DeleteSession, DeleteBearer}
 use Rattle.gtp_gateway.specs.declared.receive.response.Response.{Response}
 use Rattle.gtp_gateway.specs.command.SendRequest.{about}
 use Rattle.gtp_gateway.specs.Parts.{pending_of, pending_in}
-use Rattle.gtp_gateway.specs.receive.Response.{Names, FitsAsked}
+use Rattle.gtp_gateway.specs.receive.Response.{Names}
 use Rattle.gtp_gateway.specs.messages.Spelled.{message_in, is_asked, is_for, IsAsked, AreAsked}
 
 -- a request for the purpose waits under the number
@@ -88,20 +85,6 @@ asked_there purpose a m is meant = ap (λ (x : Asked). is_asked x purpose m) (sy
 pub asked_here : (purpose : Purpose) (m k : Message) → m ≡ k → is_for purpose m ≡ true → is_asked purpose.asked purpose k ≡ true
 asked_here purpose m k is meant = ap (is_for purpose) (sym is) ∙ meant
 
-pub echo_there : (purpose : Purpose) (m : Message) → is_for purpose m ≡ true → FitsAsked Echo None purpose → IsEcho (about purpose m)
-echo_there purpose m meant fits = by m (asked_there purpose Echo m fits meant)
-  where
-    by : (m : Message) → is_asked Echo purpose m ≡ true → IsEcho (about purpose m)
-    by (Echo_request q) is = record { request = q; asked = refl }
-    by m is = absurd cc
-
-pub echo_here : (purpose : Purpose) (m : Message) → is_for purpose m ≡ true → IsEcho (about purpose m) → FitsAsked Echo None purpose
-echo_here purpose m meant fits = by purpose.asked (asked_here purpose m (Echo_request fits.request) fits.asked meant)
-  where
-    by : (a : Asked) → is_asked a purpose (Echo_request fits.request) ≡ true → a ≡ Echo
-    by Echo is = refl
-    by a is = absurd cc
-
 named_true : (named : Bool) (asked : ℕ) → beq named (not (asked == 0)) ≡ true → (asked ≡ 0 → ⊥) → named ≡ true
 named_true true asked told other = refl
 named_true false asked told other = by (asked == 0) refl told
@@ -136,38 +119,6 @@ module _ (purpose : Purpose) (m : Message) (r : Response) (header : ℕ) (cause 
   pub names_there : Names r purpose → Named (about purpose m) header cause
   names_there (inl same) = inl (same ∙ ap one (sym at))
   names_there (inr (zero, unknown, is)) = inr (at ∙ zero, ap (λ (c : Cause). c.value) of ∙ unknown, named_some purpose.is_named (header_of m) told is)
-
-pub delete_session_there : (purpose : Purpose) (m : Message) (r : Response) (d : DeleteSessionResponse) → is_for purpose m ≡ true → d.header ≡ r.header → d.cause ≡ r.cause → FitsAsked DeleteSession (Some r) purpose → FitsDeleteSession (about purpose m) d
-delete_session_there purpose m r d meant at of (is, names) = by m (asked_there purpose DeleteSession m is meant)
-  where
-    by : (m : Message) → is_asked DeleteSession purpose m ≡ true → FitsDeleteSession (about purpose m) d
-    by (Delete_session_request q) told = record { request = q; asked = refl; named = names_there purpose (Delete_session_request q) r d.header d.cause told at of names }
-    by m told = absurd cc
-
-pub delete_session_here : (purpose : Purpose) (m : Message) (r : Response) (d : DeleteSessionResponse) → is_for purpose m ≡ true → d.header ≡ r.header → d.cause ≡ r.cause → FitsDeleteSession (about purpose m) d → FitsAsked DeleteSession (Some r) purpose
-delete_session_here purpose m r d meant at of fits =
-    let is = by purpose.asked (asked_here purpose m (Delete_session_request fits.request) fits.asked meant) in
-    (is.0, names_here purpose m r d.header d.cause (told_of purpose m (Delete_session_request fits.request) fits.asked is.1) at of fits.named)
-  where
-    by : (a : Asked) → is_asked a purpose (Delete_session_request fits.request) ≡ true → (a ≡ DeleteSession) × IsTold purpose (Delete_session_request fits.request)
-    by DeleteSession told = (refl, told)
-    by a told = absurd cc
-
-pub delete_bearer_there : (purpose : Purpose) (m : Message) (r : Response) (d : DeleteBearerResponse) → is_for purpose m ≡ true → d.header ≡ r.header → d.cause ≡ r.cause → FitsAsked DeleteBearer (Some r) purpose → FitsDeleteBearer (about purpose m) d
-delete_bearer_there purpose m r d meant at of (is, names) = by m (asked_there purpose DeleteBearer m is meant)
-  where
-    by : (m : Message) → is_asked DeleteBearer purpose m ≡ true → FitsDeleteBearer (about purpose m) d
-    by (Delete_bearer_request q) told = record { request = q; asked = refl; named = names_there purpose (Delete_bearer_request q) r d.header d.cause told at of names }
-    by m told = absurd cc
-
-pub delete_bearer_here : (purpose : Purpose) (m : Message) (r : Response) (d : DeleteBearerResponse) → is_for purpose m ≡ true → d.header ≡ r.header → d.cause ≡ r.cause → FitsDeleteBearer (about purpose m) d → FitsAsked DeleteBearer (Some r) purpose
-delete_bearer_here purpose m r d meant at of fits =
-    let is = by purpose.asked (asked_here purpose m (Delete_bearer_request fits.request) fits.asked meant) in
-    (is.0, names_here purpose m r d.header d.cause (told_of purpose m (Delete_bearer_request fits.request) fits.asked is.1) at of fits.named)
-  where
-    by : (a : Asked) → is_asked a purpose (Delete_bearer_request fits.request) ≡ true → (a ≡ DeleteBearer) × IsTold purpose (Delete_bearer_request fits.request)
-    by DeleteBearer told = (refl, told)
-    by a told = absurd cc
 
 pub none_waits_at : (ws : List (Waiting Purpose)) (n : ℕ) (p : PendingRequest) → purpose_of n ws ≡ None → get (pending_in ws) n ≡ Some p → ⊥
 none_waits_at ws n p none is =

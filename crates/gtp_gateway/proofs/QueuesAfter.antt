@@ -15,6 +15,7 @@ use Rattle.gtp_gateway.specs.declared.parts.Parts.{Parts}
 use Rattle.gtp_gateway.proofs.Teids.{length_drawn}
 use Rattle.gtp_gateway.proofs.GivenUp.{wait_on}
 use Rattle.gtp_gateway.proofs.UserRows.{all_wait}
+use Rattle.gtp_machine.specs.Node.{Arrival}
 
 -- a gateway's node keeps what its ticks and draws go by
 pub tied_of : (g : Parts) → NodeMatchesQueues (state_of g)
@@ -25,44 +26,43 @@ pub on_ok : {T E P Q : Type 0} (r : Result T E) → (P → Q) → OnOk r P → O
 on_ok (Ok x) follows holds = follows holds
 on_ok (Err e) follows holds = tt
 
-module _ (source : Endpoint) (octets : List ℕ) where
+module _ (arrival : Arrival) where
   -- no answer was given
-  pub on_goes : (a b : GatewayState) → RequestsWaitOn a b → NodeMatchesQueues b → QueuesAfterMessage source octets a b
+  pub on_goes : (a b : GatewayState) → RequestsWaitOn a b → NodeMatchesQueues b → QueuesAfterMessage arrival a b
   on_goes a b on tied = record { stays = on.stays; begun = None; next = tt {0}; new_one = tt {0}; answer = None; queues = on.queues; tied = tied }
 
   -- some requests no longer wait, and then some others
-  pub then_goes : (a b : GatewayState) (g : Parts) → RequestsWaitOn a b → RequestsWaitOn b (state_of g) → QueuesAfterMessage source octets a (state_of g)
+  pub then_goes : (a b : GatewayState) (g : Parts) → RequestsWaitOn a b → RequestsWaitOn b (state_of g) → QueuesAfterMessage arrival a (state_of g)
   then_goes a b g first second = on_goes a (state_of g) (wait_on a b (state_of g) first second) (tied_of g)
 
-  pub same_goes : (a b : GatewayState) → b ≡ a → NodeMatchesQueues a → QueuesAfterMessage source octets a b
+  pub same_goes : (a b : GatewayState) → b ≡ a → NodeMatchesQueues a → QueuesAfterMessage arrival a b
   same_goes a b same tied = on_goes a b (all_wait a b (ap (λ (s : GatewayState). s.queues) same) (subst (λ (s : GatewayState). s.node.pending ≡ pending_in s.queues.waiting) (sym same) tied.pending)) (subst NodeMatchesQueues (sym same) tied)
 
   -- some requests no longer wait, and then an answer was given
-  pub answered_goes : (a b c : GatewayState) (answer : List ℕ) → RequestsWaitOn a b → c.queues ≡ record b.queues { held = after_held source octets answer b.queues.held } → NodeMatchesQueues c → QueuesAfterMessage source octets a c
+  pub answered_goes : (a b c : GatewayState) (answer : List ℕ) → RequestsWaitOn a b → c.queues ≡ record b.queues { held = after_held arrival.source arrival.octets answer b.queues.held } → NodeMatchesQueues c → QueuesAfterMessage arrival a c
   answered_goes a b c answer first queues tied = record {
     stays = first.stays;
     begun = None;
     next = tt {0};
     new_one = tt {0};
     answer = Some answer;
-    queues = queues ∙ (λ i. record (first.queues i) { held = after_held source octets answer (first.queues i).held });
+    queues = queues ∙ (λ i. record (first.queues i) { held = after_held arrival.source arrival.octets answer (first.queues i).held });
     tied = tied;
   }
 
   -- an answer was made ready, which changed nothing, and was given after that
-  pub readied_goes : (old readied mid : GatewayState) (g : Parts) (request answer : List ℕ) → readied ≡ old → request ≡ octets → RequestsWaitOn readied mid → (state_of g).queues ≡ record mid.queues { held = after_held source request answer mid.queues.held } → QueuesAfterMessage source octets old (state_of g)
-  readied_goes old readied mid g request answer same is waits gives =
-      answered_goes old mid (state_of g) answer (subst (λ (s : GatewayState). RequestsWaitOn s mid) same waits) (gives ∙ (λ i. record mid.queues { held = after_held source (is i) answer mid.queues.held })) (tied_of g)
+  pub readied_goes : (old readied mid : GatewayState) (g : Parts) (answer : List ℕ) → readied ≡ old → RequestsWaitOn readied mid → (state_of g).queues ≡ record mid.queues { held = after_held arrival.source arrival.octets answer mid.queues.held } → QueuesAfterMessage arrival old (state_of g)
+  readied_goes old readied mid g answer same waits gives = answered_goes old mid (state_of g) answer (subst (λ (s : GatewayState). RequestsWaitOn s mid) same waits) gives (tied_of g)
 
   -- an answer was given
-  pub given_goes : (a b : GatewayState) (answer : List ℕ) → b.queues ≡ record a.queues { held = after_held source octets answer a.queues.held } → NodeMatchesQueues b → QueuesAfterMessage source octets a b
+  pub given_goes : (a b : GatewayState) (answer : List ℕ) → b.queues ≡ record a.queues { held = after_held arrival.source arrival.octets answer a.queues.held } → NodeMatchesQueues b → QueuesAfterMessage arrival a b
   given_goes a b answer queues tied =
       let same = record a { node = record a.node { pending = pending_in a.queues.waiting } } in
       answered_goes a same b answer (all_wait a same refl refl) queues tied
 
   -- a request was begun, and then an answer given
   pub begun_goes : (a b c d : GatewayState) (number : ℕ) (purpose : Purpose) (to : Endpoint) (kept answer : List ℕ) → RequestsWaitOn a b → IsNextFree b.queues.next b.queues.waiting number → IsNewFor (record { number = number; purpose = purpose; to = to; octets = kept }) a → c.queues ≡ after_begun number purpose to kept b.queues
-      → d.queues ≡ record c.queues { held = after_held source octets answer c.queues.held } → NodeMatchesQueues d → QueuesAfterMessage source octets a d
+      → d.queues ≡ record c.queues { held = after_held arrival.source arrival.octets answer c.queues.held } → NodeMatchesQueues d → QueuesAfterMessage arrival a d
   begun_goes a b c d number purpose to kept answer first free is_new begins gives tied =
       record {
         stays = first.stays;
@@ -70,7 +70,7 @@ module _ (source : Endpoint) (octets : List ℕ) where
         next = subst (λ (t : Queues). IsNextFree t.next t.waiting number) first.queues free;
         new_one = is_new;
         answer = Some answer;
-        queues = gives ∙ (λ i. record (begins i) { held = after_held source octets answer (begins i).held }) ∙ (λ i. record (after_begun number purpose to kept (first.queues i)) { held = after_held source octets answer (first.queues i).held });
+        queues = gives ∙ (λ i. record (begins i) { held = after_held arrival.source arrival.octets answer (begins i).held }) ∙ (λ i. record (after_begun number purpose to kept (first.queues i)) { held = after_held arrival.source arrival.octets answer (first.queues i).held });
         tied = tied;
       }
 

@@ -5,7 +5,7 @@ use Rattle.gtp_values.specs.declared.address.Endpoint.{Endpoint}
 use Rattle.gtp_machine.specs.declared.role.Role.{Role}
 use Rattle.gtp_machine.specs.Message.{Message, Packet_data, End_marker, Error_indication, Plane, Control, User, Create_session_response, Create_bearer_request}
 use Rattle.gtp_machine.specs.Input.{Came_to, UserReading, Effect, EventOutcome, Input, Out, nothing}
-use Rattle.gtp_machine.specs.Node.{Node}
+use Rattle.gtp_machine.specs.Node.{Arrival, Node}
 use Rattle.gtp_machine.specs.Reading.{user_reading, datagram_reading}
 use Rattle.gtp_machine.specs.User.{UserTaken, UserStep}
 use Rattle.gtp_machine.specs.declared.outcome.Outcome.TheVariants.{Accepted, Broken, Ended}
@@ -61,8 +61,8 @@ accepted_stays source octets old step new taken some =
     let queues = taken.same (λ broken. broken_not (ap (λ o. Came_to o) (sym broken ∙ accepted))) in
     λ i. record { role = taken.role i; node = node i; queues = queues i }
 
-once_received : (source : Endpoint) (octets : List ℕ) (old : GatewayState) (step : ControlStep) (new : GatewayState) → IsTaken source octets old step new → IsReceivedOnce Control source octets old (of_control step) new
-once_received source octets old step new taken =
+once_received : (arrival : Arrival) (old : GatewayState) (step : ControlStep) (new : GatewayState) → IsTaken arrival old step new → IsReceivedOnce Control arrival.source arrival.octets old (of_control step) new
+once_received arrival old step new taken =
     let t = taken.tells in
     record {
       effect = taken.effect;
@@ -72,9 +72,9 @@ once_received source octets old step new taken =
       role = taken.role;
     }
 
-pub control_received : (source : Endpoint) (octets : List ℕ) (old : GatewayState) (step : ControlStep) (new : GatewayState) → IsControlTaken source octets old step new → IsReceived Control source octets old (of_control step) new
-control_received source octets old step new (inl (none, taken)) = inl (none, once_received source octets old step new taken)
-control_received source octets old step new (inr both) = inr both
+pub control_received : (arrival : Arrival) (old : GatewayState) (step : ControlStep) (new : GatewayState) → IsControlTaken arrival old step new → IsReceived Control arrival.source arrival.octets old (of_control step) new
+control_received arrival old step new (inl (none, taken)) = inl (none, once_received arrival old step new taken)
+control_received arrival old step new (inr both) = inr both
 
 user_received : (source : Endpoint) (octets : List ℕ) (old : GatewayState) (step : Step) (new : GatewayState) → IsUserTaken source octets old step new → IsReceived User source octets old step new
 user_received source octets old step new taken =
@@ -123,15 +123,15 @@ once_sound : (plane : Plane) (source : Endpoint) (octets : List ℕ) (step : Ste
 once_sound plane source octets step old new taken = step_sound old new (coming plane source octets) taken.effect (formed plane source octets) taken.takes taken.becomes taken.role
 
 -- so do two
-both_sound : (source : Endpoint) (octets : List ℕ) (step : Step) (old new : GatewayState) (pair : TakesPair old.role old.node.config (arrival_of source octets) (datagram_reading octets)) → AreReceived source octets pair.answer pair.asked old step new → IsSound old.role old.node → IsSound new.role new.node
-both_sound source octets step old new pair taken before =
-    let whole = pair_reads_whole octets (Create_session_response pair.answer) (Create_bearer_request pair.asked) (sym pair.is) in
-    let between = stays_sound old.role old.node (first_comes source octets pair.answer) taken.first before whole.0 taken.takes in
-    step_sound (record old { node = taken.first.node }) new (second_comes source octets pair.asked) taken.second whole.1 taken.follows taken.becomes taken.role between
+both_sound : (arrival : Arrival) (step : Step) (old new : GatewayState) (pair : TakesPair old.role old.node.config arrival (datagram_reading arrival.octets)) → AreReceived arrival pair.answer pair.asked old step new → IsSound old.role old.node → IsSound new.role new.node
+both_sound arrival step old new pair taken before =
+    let whole = pair_reads_whole arrival.octets (Create_session_response pair.answer) (Create_bearer_request pair.asked) (sym pair.is) in
+    let between = stays_sound old.role old.node (first_comes arrival pair.answer) taken.first before whole.0 taken.takes in
+    step_sound (record old { node = taken.first.node }) new (second_comes arrival pair.asked) taken.second whole.1 taken.follows taken.becomes taken.role between
 
 leaves_sound : (plane : Plane) (source : Endpoint) (octets : List ℕ) (step : Step) (old new : GatewayState) → IsReceived plane source octets old step new → IsSound old.role old.node → IsSound new.role new.node
 leaves_sound Control source octets step old new (inl (none, taken)) = once_sound Control source octets step old new taken
-leaves_sound Control source octets step old new (inr (pair, taken)) = both_sound source octets step old new pair taken
+leaves_sound Control source octets step old new (inr (pair, taken)) = both_sound (arrival_of source octets) step old new pair taken
 leaves_sound User source octets step old new taken = once_sound User source octets step old new taken
 
 -- what a datagram leaves is sound: it was one step or two, or changed nothing

@@ -1,11 +1,10 @@
 -- Commands that are refused, and commands that are not.
-use Rattle.std.proofs.Common.{◌≡◌, ℕ, ◌<◌, ◌≤◌, List, length, Option, refl, sym, ◌∙◌, ap, subst, arith}
+use Rattle.std.proofs.Common.{◌≡◌, ℕ, ◌<◌, ◌≤◌, List, length, Option, sym, ◌∙◌, ap, subst, arith}
 use Rattle.std.specs.FinMap.{len}
 use Rattle.gtp_reliable.specs.Waiting.{Waiting}
 use Rattle.gtp_reliable.specs.Pending.{AreDistinct}
-use Rattle.gtp_machine.specs.Node.{Session, Node}
+use Rattle.gtp_machine.specs.Node.{Node}
 use Rattle.gtp_machine.specs.Choice.{HasPendingRoom}
-use Rattle.gtp_machine.specs.Command.{ClosesSession, ReleasesSession, SendsEcho}
 use Rattle.gtp_machine.specs.Input.{Came_to, Effect, refused}
 use Rattle.gtp_machine.specs.declared.outcome.Refusal.{Refusal}
 use Rattle.gtp_machine.specs.declared.outcome.Outcome.TheVariants as outcomes
@@ -36,12 +35,3 @@ module _ (old : Node) (ws : List (Waiting Purpose)) (distinct : AreDistinct ws) 
 
   pub has_none : 256 ≤ length ws → HasPendingRoom old → ⊥
   has_none many room = let few : length ws < 256 = subst (λ (n : ℕ). n < 256) count room.few in omega (arith, few, many)
-
-pub echo_goes_on : (old : Node) (why : Refusal) → SendsEcho old (refused old why) → ⊥
-echo_goes_on old why sends = asks_on why sends.gives refl
-
-pub delete_session_goes_on : (old : Node) (session : ℕ) (at : Session) (why : Refusal) → ClosesSession old session at (refused old why) → ⊥
-delete_session_goes_on old session at why closes = asks_on why closes.gives refl
-
-pub release_goes_on : (old : Node) (session : ℕ) (at : Session) (why : Refusal) → ReleasesSession old session at (refused old why) → ⊥
-release_goes_on old session at why closes = asks_on why closes.gives refl

@@ -1,7 +1,6 @@
 -- What a step that sends nothing comes to, as a row of the machine.
 use Rattle.std.proofs.Common.{◌≡◌, inl, inr, ℕ, Bool, true, false, List, [], ◌∷◌, Option, None, Some, option_map, refl, sym, ◌∙◌, subst}
 use Rattle.gtp_machine.specs.Node.{Arrival, Node, holding}
-use Rattle.gtp_values.specs.declared.address.Endpoint.{Endpoint}
 use Rattle.gtp_values.specs.declared.counter.Counter.{Counter}
 use Rattle.gtp_machine.specs.Config.{Config}
 use Rattle.gtp_machine.specs.declared.role.Role.{Role}
@@ -27,7 +26,6 @@ use Rattle.gtp_gateway.specs.receive.Taken.{plain_report, datagrams, Tells, IsTa
 use Rattle.gtp_gateway.specs.receive.RestartCounter.{weighed_by, node_heard, IsEarlier, report_heard, effect_heard}
 use Rattle.gtp_machine.specs.MessageType.{takes_message}
 use Rattle.gtp_machine.specs.Step.{TakesBy}
-use Rattle.gtp_gateway.specs.Parts.{arrival_of}
 use Rattle.gtp_gateway.proofs.SentBack.{none_sent, one_sent}
 use Rattle.gtp_gateway.proofs.RestartCounters.{told_is, later_is, hears_on, hears_old, config_stays}
 
@@ -94,9 +92,9 @@ pub message_left : (role : Role) (old : Node) (request : Arrival) (m : Message) 
 message_left role old request m peer new not = inr (peer, inr (new, inl (not, refl)))
 
 -- a datagram that is dropped, and changes nothing
-pub dropped_taken : (source : Endpoint) (octets : List ℕ) (s : GatewayState) (step : ControlStep) (why : DropReason) → step ≡ record { out = None; report = plain_report (Dropped why) } → MachineStep s.role s.node (Control_came (arrival_of source octets) (taken_as (datagram_reading octets))) (dropped s.node why) → IsTaken source octets s step s
-dropped_taken source octets s step why is takes =
-    subst (λ (t : ControlStep). IsTaken source octets s t s) (sym is)
+pub dropped_taken : (arrival : Arrival) (s : GatewayState) (step : ControlStep) (why : DropReason) → step ≡ record { out = None; report = plain_report (Dropped why) } → MachineStep s.role s.node (Control_came arrival (taken_as (datagram_reading arrival.octets))) (dropped s.node why) → IsTaken arrival s step s
+dropped_taken arrival s step why is takes =
+    subst (λ (t : ControlStep). IsTaken arrival s t s) (sym is)
     (record {
       effect = dropped s.node why;
       takes = takes;
@@ -132,40 +130,38 @@ told_node None known e = refl
 told_node (Some counter) known e = refl
 
 -- a message from the peer, which the gateway takes, is weighed by its counter
-module _ (source : Endpoint) (octets : List ℕ) (old : GatewayState) (m : Message) (recovery : Option Counter) (peer : source.ip ≡ old.node.config.peer.control) (fresh : IsNew old.node (arrival_of source octets)) (reads : Control_message m ≡ taken_as (datagram_reading octets)) (takes : takes_message old.role m ≡ true) (counter : option_map (λ (c : Counter). c.0) recovery ≡ recovery_of m) where
+module _ (arrival : Arrival) (old : GatewayState) (m : Message) (recovery : Option Counter) (peer : arrival.source.ip ≡ old.node.config.peer.control) (fresh : IsNew old.node arrival) (reads : Control_message m ≡ taken_as (datagram_reading arrival.octets)) (takes : takes_message old.role m ≡ true) (counter : option_map (λ (c : Counter). c.0) recovery ≡ recovery_of m) where
   -- a row, once the counter was heard, is a step on what the octets read as
-  row_weighed : (step : ControlStep) (new : GatewayState) → (IsEarlier (weighed_by recovery old.node.known) → ⊥) → IsHeardRow (arrival_of source octets) m (weighed_by recovery old.node.known) old step new
-      → IsTaken source octets old (record step { report = report_heard (weighed_by recovery old.node.known) step.report }) new
+  row_weighed : (step : ControlStep) (new : GatewayState) → (IsEarlier (weighed_by recovery old.node.known) → ⊥) → IsHeardRow arrival m (weighed_by recovery old.node.known) old step new
+      → IsTaken arrival old (record step { report = report_heard (weighed_by recovery old.node.known) step.report }) new
   row_weighed step new on row =
-      let request : Arrival = arrival_of source octets in
       let effect : Effect = told recovery old.node.known row.effect in
-      let heard = subst (λ (r : Option ℕ). Hears (TakesBy old.role request m) old.node r effect) counter (hears (TakesBy old.role request m) old.node recovery row.effect on row.takes) in
+      let heard = subst (λ (r : Option ℕ). Hears (TakesBy old.role arrival m) old.node r effect) counter (hears (TakesBy old.role arrival m) old.node recovery row.effect on row.takes) in
       record {
         effect = effect;
-        takes = subst (λ (r : ControlReading). MachineStep old.role old.node (Control_came request r) effect) reads (message_taken old.role old.node request m effect peer fresh takes heard);
-        tells = tells_heard _ request old step recovery row.effect (config_stays (weighed_by recovery old.node.known) old.node) row.tells;
+        takes = subst (λ (r : ControlReading). MachineStep old.role old.node (Control_came arrival r) effect) reads (message_taken old.role old.node arrival m effect peer fresh takes heard);
+        tells = tells_heard _ arrival old step recovery row.effect (config_stays (weighed_by recovery old.node.known) old.node) row.tells;
         becomes = row.becomes ∙ sym (told_node recovery old.node.known row.effect);
         role = row.role_stays;
       }
 
   -- a message with a counter of an earlier start is dropped
-  early_weighed : IsEarlier (weighed_by recovery old.node.known) → IsTaken source octets old (record { out = None; report = report_heard (weighed_by recovery old.node.known) (plain_report (Dropped OldCounter)) }) old
+  early_weighed : IsEarlier (weighed_by recovery old.node.known) → IsTaken arrival old (record { out = None; report = report_heard (weighed_by recovery old.node.known) (plain_report (Dropped OldCounter)) }) old
   early_weighed early =
-      let request : Arrival = arrival_of source octets in
       let effect : Effect = told recovery old.node.known (dropped old.node OldCounter) in
-      let heard = subst (λ (r : Option ℕ). Hears (TakesBy old.role request m) old.node r effect) counter (hears_early (TakesBy old.role request m) old.node recovery early) in
+      let heard = subst (λ (r : Option ℕ). Hears (TakesBy old.role arrival m) old.node r effect) counter (hears_early (TakesBy old.role arrival m) old.node recovery early) in
       record {
         effect = effect;
-        takes = subst (λ (r : ControlReading). MachineStep old.role old.node (Control_came request r) effect) reads (message_taken old.role old.node request m effect peer fresh takes heard);
-        tells = tells_heard old.node.config request old (record { out = None; report = plain_report (Dropped OldCounter) }) recovery (dropped old.node OldCounter) refl (record { sent = none_sent old.node.config; outcome = refl; alone = refl; made = refl; heard = refl; learned = refl; untold = refl; unlearned = refl; all = refl });
+        takes = subst (λ (r : ControlReading). MachineStep old.role old.node (Control_came arrival r) effect) reads (message_taken old.role old.node arrival m effect peer fresh takes heard);
+        tells = tells_heard old.node.config arrival old (record { out = None; report = plain_report (Dropped OldCounter) }) recovery (dropped old.node OldCounter) refl (record { sent = none_sent old.node.config; outcome = refl; alone = refl; made = refl; heard = refl; learned = refl; untold = refl; unlearned = refl; all = refl });
         becomes = sym (told_node recovery old.node.known (dropped old.node OldCounter));
         role = refl;
       }
 
   -- the same by what was heard
   module _ (heard : Heard) (is : heard ≡ weighed_by recovery old.node.known) where
-    pub row_taken : (step : ControlStep) (new : GatewayState) → (IsEarlier heard → ⊥) → IsHeardRow (arrival_of source octets) m heard old step new → IsTaken source octets old (record step { report = report_heard heard step.report }) new
-    row_taken step new = subst (λ (h : Heard). (IsEarlier h → ⊥) → IsHeardRow (arrival_of source octets) m h old step new → IsTaken source octets old (record step { report = report_heard h step.report }) new) (sym is) (row_weighed step new)
+    pub row_taken : (step : ControlStep) (new : GatewayState) → (IsEarlier heard → ⊥) → IsHeardRow arrival m heard old step new → IsTaken arrival old (record step { report = report_heard heard step.report }) new
+    row_taken step new = subst (λ (h : Heard). (IsEarlier h → ⊥) → IsHeardRow arrival m h old step new → IsTaken arrival old (record step { report = report_heard h step.report }) new) (sym is) (row_weighed step new)
 
-    pub early_taken : IsEarlier heard → IsTaken source octets old (record { out = None; report = report_heard heard (plain_report (Dropped OldCounter)) }) old
-    early_taken = subst (λ (h : Heard). IsEarlier h → IsTaken source octets old (record { out = None; report = report_heard h (plain_report (Dropped OldCounter)) }) old) (sym is) early_weighed
+    pub early_taken : IsEarlier heard → IsTaken arrival old (record { out = None; report = report_heard heard (plain_report (Dropped OldCounter)) }) old
+    early_taken = subst (λ (h : Heard). IsEarlier h → IsTaken arrival old (record { out = None; report = report_heard h (plain_report (Dropped OldCounter)) }) old) (sym is) early_weighed

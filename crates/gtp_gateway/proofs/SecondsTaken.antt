@@ -49,22 +49,22 @@ held_there (p ∷ ps) source request (inl here) = (held_of p, inl refl, λ i. ar
 held_there (p ∷ ps) source request (inr there) = let later = held_there ps source request there in (later.0, inr later.1, later.2)
 
 -- it is sent again by any gateway that holds it and is configured so
-pub again_there : (source : Endpoint) (octets : List ℕ) (old node : Node) (sent : Sent) → node.held ≡ old.held → node.config ≡ old.config → IsSentAgain source octets old sent → IsSentAgain source octets node sent
-again_there source octets old node sent held config is = record {
+pub again_there : (arrival : Arrival) (old node : Node) (sent : Sent) → node.held ≡ old.held → node.config ≡ old.config → IsSentAgain arrival old sent → IsSentAgain arrival node sent
+again_there arrival old node sent held config is = record {
   held = is.held;
   stands = subst (Among is.held) (sym held) is.stands;
   same = is.same;
-  again = subst (λ (c : Config). AreSent c (datagram_by sent ∷ []) (record { destination = source; messages = is.held.answer } ∷ [])) (sym config) is.again;
+  again = subst (λ (c : Config). AreSent c (datagram_by sent ∷ []) (record { destination = arrival.source; messages = is.held.answer } ∷ [])) (sym config) is.again;
 }
 
-pub repeated_taken : (reading : ControlReading) (source : Endpoint) (octets : List ℕ) (old new : GatewayState) (sent : Sent) (step : ControlStep) → source.ip ≡ old.node.config.peer.control → IsSentAgain source octets old.node sent → step ≡ record { out = Some sent; report = plain_report Repeated } → new.node ≡ old.node → new.role ≡ old.role
-    → IsTakenAs reading source octets old step new
-repeated_taken reading source octets old new sent step peer again is becomes role =
-    let effect : Effect = record { out = says_all source again.held.answer; outcome = Came_to Repeated; node = old.node } in
-    subst (λ (s : ControlStep). IsTakenAs reading source octets old s new) (sym is)
+pub repeated_taken : (reading : ControlReading) (arrival : Arrival) (old new : GatewayState) (sent : Sent) (step : ControlStep) → arrival.source.ip ≡ old.node.config.peer.control → IsSentAgain arrival old.node sent → step ≡ record { out = Some sent; report = plain_report Repeated } → new.node ≡ old.node → new.role ≡ old.role
+    → IsTakenAs reading arrival old step new
+repeated_taken reading arrival old new sent step peer again is becomes role =
+    let effect : Effect = record { out = says_all arrival.source again.held.answer; outcome = Came_to Repeated; node = old.node } in
+    subst (λ (s : ControlStep). IsTakenAs reading arrival old s new) (sym is)
     (record {
       effect = effect;
-      takes = by_role old.role old.node (arrival_of source octets) reading effect (λ Reads. inr (peer, inl (record { held = again.held; stands = again.stands; same = again.same; gives = refl })));
+      takes = by_role old.role old.node arrival reading effect (λ Reads. inr (peer, inl (record { held = again.held; stands = again.stands; same = again.same; gives = refl })));
       tells = record { sent = again.again; outcome = refl; alone = refl; heard = refl; restart = refl; made = refl; all = refl };
       becomes = becomes;
       role = role;
@@ -72,10 +72,7 @@ repeated_taken reading source octets old new sent step peer again is becomes rol
 
 -- ---- a request that is taken by its row
 
-module _ (source : Endpoint) (octets : List ℕ) (q : CreateBearerRequest) (old : GatewayState) (serving : old.role ≡ Serving) (peer : source.ip ≡ old.node.config.peer.control) where
-  abbrev request : Arrival
-  request = arrival_of source octets
-
+module _ (arrival : Arrival) (q : CreateBearerRequest) (old : GatewayState) (serving : old.role ≡ Serving) (peer : arrival.source.ip ≡ old.node.config.peer.control) where
   abbrev message : Message
   message = Create_bearer_request q
 
@@ -85,12 +82,12 @@ module _ (source : Endpoint) (octets : List ℕ) (q : CreateBearerRequest) (old 
   takes_it : takes_message old.role message ≡ true
   takes_it = ap (λ (r : Role). takes_message r message) serving
 
-  pub row_is_taken : IsNew old.node request → (step : ControlStep) (new : GatewayState) → IsRow (CreateBearerAsked request q) request old.role old.node step new → IsTakenAs (Control_message message) source octets old step new
+  pub row_is_taken : IsNew old.node arrival → (step : ControlStep) (new : GatewayState) → IsRow (CreateBearerAsked arrival q) arrival old.role old.node step new → IsTakenAs (Control_message message) arrival old step new
   row_is_taken fresh step new row =
       let t = row.tells in
       record {
         effect = row.effect;
-        takes = message_taken old.role old.node request message row.effect peer fresh takes_it (at_taker (λ r k. TakesBy r request k old.node row.effect) old.role types.CreateBearerRequest types.CreateBearerRequest message message has_it refl refl row.takes);
+        takes = message_taken old.role old.node arrival message row.effect peer fresh takes_it (at_taker (λ r k. TakesBy r arrival k old.node row.effect) old.role types.CreateBearerRequest types.CreateBearerRequest message message has_it refl refl row.takes);
         tells = record {
           sent = t.sent;
           outcome = t.outcome;
@@ -105,19 +102,19 @@ module _ (source : Endpoint) (octets : List ℕ) (q : CreateBearerRequest) (old 
       }
 
   -- it is dropped
-  pub drop_is_taken : IsNew old.node request → (step : ControlStep) (new : GatewayState) (outcome : Outcome) → step ≡ record { out = None; report = plain_report outcome } → new.node ≡ old.node → new.role ≡ old.role → CreateBearerAsked request q old.node (record { out = nothing; outcome = Came_to outcome; node = old.node })
-      → IsTakenAs (Control_message message) source octets old step new
-  drop_is_taken fresh step new outcome is becomes role takes = row_is_taken fresh step new (ends (CreateBearerAsked request q) request old new step outcome old.node is becomes role takes)
+  pub drop_is_taken : IsNew old.node arrival → (step : ControlStep) (new : GatewayState) (outcome : Outcome) → step ≡ record { out = None; report = plain_report outcome } → new.node ≡ old.node → new.role ≡ old.role → CreateBearerAsked arrival q old.node (record { out = nothing; outcome = Came_to outcome; node = old.node })
+      → IsTakenAs (Control_message message) arrival old step new
+  drop_is_taken fresh step new outcome is becomes role takes = row_is_taken fresh step new (ends (CreateBearerAsked arrival q) arrival old new step outcome old.node is becomes role takes)
 
   -- where it is answered, something is sent
-  pub answer_needs : (made : Bool) (m : Message) (cause : ℕ) (left : Node) → HasHeldRoom old.node → BearerJudged request q old.node (answering made request (m ∷ []) cause left) → StepSendsOrOpens request (Control_message message) old
+  pub answer_needs : (made : Bool) (m : Message) (cause : ℕ) (left : Node) → HasHeldRoom old.node → BearerJudged arrival q old.node (answering made arrival (m ∷ []) cause left) → StepSendsOrOpens arrival (Control_message message) old
   answer_needs made m cause left room judged =
-      message_needs request old message None peer takes_it refl (weighed_by None old.node.known) refl (λ early. early) (needs_by old.role request message old.node types.CreateBearerRequest types.CreateBearerRequest message has_it refl refl (create_bearer_asked request q old.node made m cause left room judged))
+      message_needs arrival old message None peer takes_it refl (weighed_by None old.node.known) refl (λ early. early) (needs_by old.role arrival message old.node types.CreateBearerRequest types.CreateBearerRequest message has_it refl refl (create_bearer_asked arrival q old.node made m cause left room judged))
 
-  pub again_needs : (ps : List HeldPair) → old.node.held ≡ map held_of ps → IsHeld source octets ps → StepSendsOrOpens request (Control_message message) old
+  pub again_needs : (ps : List HeldPair) → old.node.held ≡ map held_of ps → IsHeld arrival.source arrival.octets ps → StepSendsOrOpens arrival (Control_message message) old
   again_needs ps is held =
-      let there = held_there ps source octets held in
-      repeated_needs request (Control_message message) old peer there.0 (subst (Among there.0) (sym is) there.1) there.2
+      let there = held_there ps arrival.source arrival.octets held in
+      repeated_needs arrival (Control_message message) old peer there.0 (subst (Among there.0) (sym is) there.1) there.2
 
 -- ---- what is answered
 

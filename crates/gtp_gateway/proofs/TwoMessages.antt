@@ -18,12 +18,12 @@ use Rattle.gtp_machine.specs.Answer.{IsNew}
 use Rattle.gtp_machine.specs.Decoded.{message_of}
 use Rattle.gtp_machine.specs.Input.{ControlReading, Control_message}
 use Rattle.gtp_machine.specs.Message.{Message, Create_session_response, Create_bearer_request}
-use Rattle.gtp_machine.specs.Node.{Held, Node}
+use Rattle.gtp_machine.specs.Node.{Arrival, Held, Node}
 use Rattle.gtp_machine.specs.Reading.{Alone, Both, announces, datagram_fault, datagram_reading, taken_as}
 use Rattle.gtp_machine.specs.Step.{TakesPair}
 use Rattle.gtp_machine.proofs.Octets.Datagrams.{cut_announces_none, datagram_by_grammar, reads_alone}
 use Rattle.gtp_gateway.specs.receive.TwoMessages.{first_length, first_part, second_part, IsSecondAt}
-use Rattle.gtp_gateway.specs.Parts.{arrival_of, held_of}
+use Rattle.gtp_gateway.specs.Parts.{held_of}
 use Rattle.gtp_gateway.specs.receive.Piggybacked.{ArePair}
 use Rattle.gtp_gateway.specs.messages.Spelled.{IsKept, AreAnswered}
 use Rattle.gtp_gateway.specs.GatewayState.{GatewayState}
@@ -110,20 +110,20 @@ pub reads_fault : (octets : List ℕ) (f : V2Fault) → IsDatagramFault octets f
 reads_fault octets f fails = ap taken_as (sym (fault_reads octets f fails))
 
 -- octets that read as one message, or as a fault, are no pair
-pub alone_no_pair : (source : Endpoint) (octets : List ℕ) (old : GatewayState) (reading : ControlReading) → datagram_reading octets ≡ Alone reading → IsNoPair source octets old
-alone_no_pair source octets old reading is pair = let both : Alone reading ≡ Both (Create_session_response pair.answer) (Create_bearer_request pair.asked) = sym is ∙ pair.is in cc
+pub alone_no_pair : (arrival : Arrival) (old : GatewayState) (reading : ControlReading) → datagram_reading arrival.octets ≡ Alone reading → IsNoPair arrival old
+alone_no_pair arrival old reading is pair = let both : Alone reading ≡ Both (Create_session_response pair.answer) (Create_bearer_request pair.asked) = sym is ∙ pair.is in cc
 
 -- and those that announce none
-pub unannounced_no_pair : (source : Endpoint) (octets : List ℕ) (old : GatewayState) → announces octets ≡ false → IsNoPair source octets old
-unannounced_no_pair source octets old none = alone_no_pair source octets old _ (reads_alone octets none)
+pub unannounced_no_pair : (arrival : Arrival) (old : GatewayState) → announces arrival.octets ≡ false → IsNoPair arrival old
+unannounced_no_pair arrival old none = alone_no_pair arrival old _ (reads_alone arrival.octets none)
 
 same_both : (a b c d : Message) → Both a b ≡ Both c d → (a ≡ c) × (b ≡ d)
 same_both a b c d is = (cc is, cc is)
 
 -- the messages of a pair that is taken are those that were viewed
-pub pair_viewed : (source : Endpoint) (octets : List ℕ) (old : GatewayState) (first second : Viewed) (back : List ℕ) → LieIn octets first (Some second) back → (pair : TakesPair old.role old.node.config (arrival_of source octets) (datagram_reading octets)) → ArePair first second pair.answer pair.asked
-pair_viewed source octets old first second back lie pair =
-    let same = same_both _ _ _ _ (sym (two_read octets first second back lie) ∙ pair.is) in
+pub pair_viewed : (arrival : Arrival) (old : GatewayState) (first second : Viewed) (back : List ℕ) → LieIn arrival.octets first (Some second) back → (pair : TakesPair old.role old.node.config arrival (datagram_reading arrival.octets)) → ArePair first second pair.answer pair.asked
+pair_viewed arrival old first second back lie pair =
+    let same = same_both _ _ _ _ (sym (two_read arrival.octets first second back lie) ∙ pair.is) in
     record { answer = same.0; asked = same.1 }
 
 -- ---- answers that are held
@@ -137,17 +137,17 @@ kept_alone source octets (p ∷ ps) each (inr there) = kept_alone source octets 
 pub held_alone : (source : Endpoint) (octets : List ℕ) (ps : List HeldPair) → AreAnswered ps → IsHeld source octets ps → announces octets ≡ false
 held_alone source octets ps each held = kept_alone source octets ps (recursion_from_All IsKept ps each) held
 
-pub announcing_new : (source : Endpoint) (octets : List ℕ) (ps : List HeldPair) (node : Node) → node.held ≡ map held_of ps → AreAnswered ps → announces octets ≡ true → IsNew node (arrival_of source octets)
-announcing_new source octets ps node is each told held among same =
-    none_held ps source octets (λ here. let both : true ≡ false = sym told ∙ held_alone source octets ps each here in cc) held (subst (Among held) is among) same
+pub announcing_new : (arrival : Arrival) (ps : List HeldPair) (node : Node) → node.held ≡ map held_of ps → AreAnswered ps → announces arrival.octets ≡ true → IsNew node arrival
+announcing_new arrival ps node is each told held among same =
+    none_held ps arrival.source arrival.octets (λ here. let both : true ≡ false = sym told ∙ held_alone arrival.source arrival.octets ps each here in cc) held (subst (Among held) is among) same
 
 -- so a datagram for which an answer is held is no pair
-pub kept_no_pair : (source : Endpoint) (octets : List ℕ) (old : GatewayState) (ps : List HeldPair) → old.node.held ≡ map held_of ps → AreAnswered ps → (held : Held) → Among held old.node.held → held.request ≡ arrival_of source octets → IsNoPair source octets old
-kept_no_pair source octets old ps is each held stands same = by (announces octets) refl
+pub kept_no_pair : (arrival : Arrival) (old : GatewayState) (ps : List HeldPair) → old.node.held ≡ map held_of ps → AreAnswered ps → (held : Held) → Among held old.node.held → held.request ≡ arrival → IsNoPair arrival old
+kept_no_pair arrival old ps is each held stands same = by (announces arrival.octets) refl
   where
-    by : (b : Bool) → announces octets ≡ b → IsNoPair source octets old
-    by true told = absurd (announcing_new source octets ps old.node is each told held stands same)
-    by false none = unannounced_no_pair source octets old none
+    by : (b : Bool) → announces arrival.octets ≡ b → IsNoPair arrival old
+    by true told = absurd (announcing_new arrival ps old.node is each told held stands same)
+    by false none = unannounced_no_pair arrival old none
 
 -- ---- the place of the second
 

@@ -1,6 +1,7 @@
 //! Datagrams of the control plane, as they come in (TS 29.274 7.6, 7.7).
 
 pub mod answer;
+pub mod arrival;
 pub mod create_bearer_request;
 pub mod create_bearer_response;
 pub mod create_session_request;
@@ -23,7 +24,7 @@ pub mod restart_counter;
 ghost use Rattle.std.specs.Prelude.{◌≡◌, ◌↔◌, ℕ, false, IsTrue, Some, true, IfOk, IfErr, IfSome, IfNone, IsSome, OnOk, OnErr};
 ghost use Rattle.gtp_gateway.specs.receive.Choosing.{ChoosesLowest, MadeNothing};
 ghost use Rattle.gtp_gateway.specs.receive.TwoMessages.{IsSecondAt};
-ghost use Rattle.gtp_gateway.specs.Parts.{node_of};
+ghost use Rattle.gtp_gateway.specs.Parts.{arrival_of, node_of};
 ghost use Rattle.gtp_machine.specs.MessageType.{type_at, takes_type, takes_some};
 ghost use Rattle.gtp_gateway.specs.GatewayState.{IsSoundState, state_of};
 ghost use Rattle.gtp_gateway.specs.receive.Received.{QueuesAfterControl, ControlMayRunOut, IsControlTaken, IsReceived, QueuesAfterReceive, MayRunOut};
@@ -33,6 +34,7 @@ ghost use Rattle.gtp_reliable.specs.Held.{IsHeld};
 
 use crate::command::send_request::control_end_of;
 use crate::parts::Parts;
+use crate::receive::arrival::Arrival;
 use crate::receive::first_fault::{announces_second, flaw_of};
 use crate::sent::Sent;
 use crate::step::{ControlStep, Step};
@@ -72,32 +74,32 @@ pub fn second_at(octets: &[u8]) -> Option<usize>
 
 impl Parts {
     /// Whether a datagram of the control plane comes from the peer's address, whatever the port.
-    fn is_from_peer(&self, source: Endpoint) -> bool
-        ensures { IsTrue result ↔ (source.ip ≡ self.now.config.config.peer.control) }
+    fn is_from_peer(&self, arrival: &Arrival<'_>) -> bool
+        ensures { IsTrue result ↔ (arrival.now.source.ip ≡ self.now.config.config.peer.control) }
     {
-        source.ip == self.config.peer().control
+        arrival.source.ip == self.config.peer().control
     }
 
     /// The answer that is held for a request, as it is sent again; none where none is held.
     pub fn sent_again_to(
         &self,
         alloc: Global,
-        source: Endpoint,
-        octets: &[u8],
+        arrival: &Arrival<'_>,
     ) -> Result<Option<Sent>, Memory>
         ensures some { IfOk result (λ out. IfSome out
-            (λ sent. IsSentAgain source octets.now (node_of self.now) sent)) }
+            (λ sent. IsSentAgain arrival.now (node_of self.now) sent)) }
         ensures none { IfOk result (λ out.
-            IfNone out (IsHeld source octets.now self.now.held.pairs → ⊥)) }
-        ensures memory { OnErr result (IsHeld source octets.now self.now.held.pairs) }
+            IfNone out (IsHeld arrival.now.source arrival.now.octets self.now.held.pairs → ⊥)) }
+        ensures memory { OnErr result
+            (IsHeld arrival.now.source arrival.now.octets self.now.held.pairs) }
     {
-        let Some(answer) = self.held.lookup(source, octets) else {
+        let Some(answer) = self.held.lookup(arrival.source, arrival.octets) else {
             return Ok(None);
         };
         Ok(Some(Sent {
             plane: Plane::Control,
             from: control_end_of(self.config.own().control),
-            to: source,
+            to: arrival.source,
             octets: Vec::from_slice(alloc, answer)?,
         }))
     }
@@ -107,20 +109,19 @@ impl Parts {
     pub fn before_reading(
         &self,
         alloc: Global,
-        source: Endpoint,
-        octets: &[u8],
+        arrival: &Arrival<'_>,
     ) -> Result<BeforeReading, Memory>
-        ensures entered { IfOk result (λ entrance. IsEntered source octets.now (state_of self.now)
+        ensures entered { IfOk result (λ entrance. IsEntered arrival.now (state_of self.now)
             self.now.held.pairs entrance) }
         // An allocation is for the answer that is sent again.
         ensures memory { OnErr result
-            (ControlMayRunOut source octets.now (state_of self.now)) }
+            (ControlMayRunOut arrival.now (state_of self.now)) }
         ensures unmade { IfOk result MadeNothing }
     {
-        if !self.is_from_peer(source) {
+        if !self.is_from_peer(arrival) {
             return Ok(BeforeReading::Settled(ControlStep::dropped(DropReason::NotPeer)));
         }
-        match self.sent_again_to(alloc, source, octets)? {
+        match self.sent_again_to(alloc, arrival)? {
             Some(out) => Ok(BeforeReading::Settled(ControlStep::sent(out, Outcome::Repeated))),
             None => Ok(BeforeReading::New),
         }
@@ -137,34 +138,38 @@ impl Parts {
     ) -> Result<ControlStep, Memory>
         requires whole { IsSoundState (state_of self.old) }
         ensures taken { IfOk result (λ step.
-            IsControlTaken source octets.now (state_of self.old) step (state_of self.new)) }
-        ensures goes { OnOk result
-            (QueuesAfterControl source octets.now (state_of self.old) (state_of self.new)) }
+            IsControlTaken (arrival_of source octets.now)
+            (state_of self.old) step (state_of self.new)) }
+        ensures goes { OnOk result (QueuesAfterControl (arrival_of source octets.now)
+            (state_of self.old) (state_of self.new)) }
         ensures choices { IfOk result (λ step. ChoosesLowest step.report.made self.old.role
             (node_of self.old) (node_of self.new)) }
         ensures memory { OnErr result
-            (ControlMayRunOut source octets.now (state_of self.old)) }
+            (ControlMayRunOut (arrival_of source octets.now) (state_of self.old)) }
         ensures err { OnErr result (state_of self.new ≡ state_of self.old) }
     {
-        match self.before_reading(alloc, source, octets)? {
+        let arrival = Arrival { source, octets };
+        match self.before_reading(alloc, &arrival)? {
             BeforeReading::Settled(step) => return Ok(step),
             BeforeReading::New => {}
         }
         let view = match view(octets) {
             Ok(view) => view,
-            Err(fault) => return self.take_flaw(alloc, source, &flaw_of(octets, &fault)),
+            Err(fault) => return self.take_flaw(alloc, &arrival, &flaw_of(octets, &fault)),
         };
         let message = view.message();
         if let Some(second) = view.second() {
             if !self.takes_pair(message, &second) {
                 return Ok(ControlStep::dropped(DropReason::Unexpected));
             }
-            return self.take_pair(alloc, source, message, &second, view.back());
+            let back = Arrival {
+                source,
+                octets: view.back(),
+            };
+            return self.take_pair(alloc, message, &second, &back);
         }
         match self.type_for(message.kind()) {
-            Some(message_type) => {
-                self.take_message(alloc, source, octets, message, message_type)
-            }
+            Some(message_type) => self.take_message(alloc, &arrival, message, message_type),
             None => Ok(ControlStep::dropped(DropReason::Unexpected)),
         }
     }

@@ -19,14 +19,11 @@ pub struct Accepted<'a> {
 }
 
 impl<'a> Model for Accepted<'a> {
-    ghost use Rattle.std.specs.Prelude.{◌<◌, ◌^◌};
     ghost use Rattle.gtp_gateway.specs.user.Accepted.{Accepted as Packet};
 
     ghost Value = { Packet };
 
     ghost view = { λ a. record { bearer = a.bearer; payload = a.payload.now } };
-
-    ghost invariant = { λ a. a.bearer < 2 ^ 32 };
 }
 
 /// The report on a datagram that was received.

@@ -1,7 +1,6 @@
 -- A run goes on by what comes of an event.
 use Rattle.std.proofs.Common.{◌≡◌, inl, inr, ℕ, ◌<◌, Bool, true, false, List, [], ◌∷◌, ◌++◌, length, take, All, refl, sym, ◌∙◌, ap, subst}
 use Rattle.gtp_values.specs.FiniteMap.{Among}
-use Rattle.gtp_values.specs.declared.address.Endpoint.{Endpoint}
 use Rattle.gtp_v2.specs.Codes.{short_number}
 use Rattle.gtp_machine.specs.Config.{Addresses, Config, own_end}
 use Rattle.gtp_machine.specs.Input.{Input, Commanded, Control_came, Control_message, Control_fault, Effect}
@@ -94,8 +93,8 @@ module _ (setup : Setup) (v : WorldRecord) (w : World) (stands : StandsFor setup
   does_on role input new t = takes_on role false (no_request role) input input AsksFor new refl t
 
   -- two messages of one datagram
-  takes_both : (role : Role) (late : Bool) (a : Arrival) (source : Endpoint) (octets : List ℕ) (answer : CreateSessionResponse) (asked : CreateBearerRequest) (first second : Input) (new : WorldRecord) → first_comes source octets answer ≡ first → second_comes source octets asked ≡ second → TakesBoth v role source octets answer asked late new → MovedTwice setup (lates late w role a) role first second new
-  takes_both role late a source octets answer asked first second new first_is second_is t =
+  takes_both : (role : Role) (late : Bool) (a : Arrival) (arrival : Arrival) (answer : CreateSessionResponse) (asked : CreateBearerRequest) (first second : Input) (new : WorldRecord) → first_comes arrival answer ≡ first → second_comes arrival asked ≡ second → TakesBoth v role arrival answer asked late new → MovedTwice setup (lates late w role a) role first second new
+  takes_both role late a arrival answer asked first second new first_is second_is t =
       let old = lates late w role a in
       let steps : List Done = record { before = (side_of old role).node; input = first; effect = t.first } ∷ record { before = t.first.node; input = second; effect = t.second } ∷ [] in
       let next = world_after_both old role t.first t.second steps in
@@ -104,9 +103,9 @@ module _ (setup : Setup) (v : WorldRecord) (w : World) (stands : StandsFor setup
         world = next;
         moves = record {
           effect = t.first;
-          step = subst (λ n. Step role n first t.first) (late_node late role a) (subst (λ k. Step role (side_of w role).node k t.first) first_is (step_there role (first_comes source octets answer) t.first t.step));
+          step = subst (λ n. Step role n first t.first) (late_node late role a) (subst (λ k. Step role (side_of w role).node k t.first) first_is (step_there role (first_comes arrival answer) t.first t.step));
           next = t.second;
-          follows = subst (λ k. Step role t.first.node k t.second) second_is (subst (λ r. Step r t.first.node (second_comes source octets asked) t.second) (half_stands setup v w stands role).role t.follows);
+          follows = subst (λ k. Step role t.first.node k t.second) second_is (subst (λ r. Step r t.first.node (second_comes arrival asked) t.second) (half_stands setup v w stands role).role t.follows);
           becomes = refl;
         };
         stands = subst (λ k. StandsFor setup k next) (sym t.becomes) (after_both setup v w role t.state t.first t.second late a steps (same role) stands readable t.readable t.node t.role_stays);
@@ -165,12 +164,12 @@ module _ (setup : Setup) (v : WorldRecord) (w : World) (stands : StandsFor setup
         let m = takes_on role late a _ _ _ new (came Control config datagram reads) t in
         record { world = m.world; comes = inl ((λ p. none (pair_here role late a _ _ _ reads.0 p)), m.moves); stands = m.stands }
 
-    comes_apart : (m n : Message) (rest : List Message) → ReadsBackOn Control (m ∷ n ∷ rest) → (pair : TakesPair (gateway_in v role).state.role (gateway_in v role).state.node.config (arrival_of (own_end config Control) (spelled_all (m ∷ n ∷ rest))) (datagram_reading (spelled_all (m ∷ n ∷ rest)))) → TakesBoth v role (own_end config Control) (spelled_all (m ∷ n ∷ rest)) pair.answer pair.asked late new → Came setup old role config.own Control (m ∷ n ∷ rest) new
+    comes_apart : (m n : Message) (rest : List Message) → ReadsBackOn Control (m ∷ n ∷ rest) → (pair : TakesPair (gateway_in v role).state.role (gateway_in v role).state.node.config (arrival_of (own_end config Control) (spelled_all (m ∷ n ∷ rest))) (datagram_reading (spelled_all (m ∷ n ∷ rest)))) → TakesBoth v role (arrival_of (own_end config Control) (spelled_all (m ∷ n ∷ rest))) pair.answer pair.asked late new → Came setup old role config.own Control (m ∷ n ∷ rest) new
     comes_apart m n rest reads pair t =
         let both : Both m n ≡ Both (Create_session_response pair.answer) (Create_bearer_request pair.asked) = reads.0 ∙ pair.is in
         let first : m ≡ Create_session_response pair.answer = cc both in
         let second : n ≡ Create_bearer_request pair.asked = cc both in
-        let x = takes_both role late a _ _ pair.answer pair.asked (first_came config.own (Create_session_response pair.answer)) (second_came config.own (Create_bearer_request pair.asked)) new
+        let x = takes_both role late a _ pair.answer pair.asked (first_came config.own (Create_session_response pair.answer)) (second_came config.own (Create_bearer_request pair.asked)) new
         (ap (λ o. Control_came (come_from config.own o) (Control_message (Create_session_response pair.answer))) (first_sent m n rest reads.1 ∙ ap announcing first))
         (ap (λ o. Control_came (come_from config.own o) (Control_message (Create_bearer_request pair.asked))) (second_sent m n rest reads.1 ∙ ap spelled second))
         t in

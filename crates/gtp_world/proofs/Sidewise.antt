@@ -21,6 +21,8 @@ use Rattle.gtp_world.specs.declared.records.Records.{Records}
 use Rattle.gtp_world.specs.declared.side.Came.{Came}
 use Rattle.gtp_world.specs.declared.side.Side.{Side}
 use Rattle.gtp_world.specs.declared.sides.Sides.{Sides}
+use Rattle.gtp_machine.specs.Node.{Arrival}
+use Rattle.gtp_gateway.specs.Parts.{arrival_of}
 
 -- the log, after what came of an input
 came_log : (log : Log) (role : Role) (input : Input) (Timed : List Datagram → EventOutcome → GatewayState → GatewayState → Type 0) (old : GatewayRecord) (came : Came) (new : GatewayRecord) (late : Bool) (t : IsInput role input Timed old came new) → log_of_came log role came late ≡ log_after log role t.effect.out (sent_at old t.effect.out) t.effect.outcome late
@@ -50,8 +52,8 @@ takes_by v role input Timed came half log late new t is becomes =
     }
 
 -- the log, after what came of two messages of one datagram
-both_log : (log : Log) (role : Role) (source : Endpoint) (octets : List ℕ) (answer : CreateSessionResponse) (asked : CreateBearerRequest) (old : GatewayRecord) (came : Came) (new : GatewayRecord) (late : Bool) (t : AreInputs role source octets answer asked old came new) → log_of_came log role came late ≡ log_after_both log role t.first t.second (sent_at old t.first.out) (sent_at old t.second.out) late
-both_log log role source octets answer asked old came new late t =
+both_log : (log : Log) (role : Role) (arrival : Arrival) (answer : CreateSessionResponse) (asked : CreateBearerRequest) (old : GatewayRecord) (came : Came) (new : GatewayRecord) (late : Bool) (t : AreInputs role arrival answer asked old came new) → log_of_came log role came late ≡ log_after_both log role t.first t.second (sent_at old t.first.out) (sent_at old t.second.out) late
+both_log log role arrival answer asked old came new late t =
     let first = t.first.out in
     let second = t.second.out in
     let datagrams = ap (λ l. log.datagrams ++ signed role l) t.tells.sent ∙ ap (λ l. log.datagrams ++ l) (both_signed role (sent_at old first) (sent_at old second)) ∙ sym (append_assoc log.datagrams (signed role (sent_at old first)) (signed role (sent_at old second))) in
@@ -65,9 +67,9 @@ both_log log role source octets answer asked old came new late t =
       notes = log.notes ++ (record { outcome = t.tells.outcome i; second = t.tells.next i; learned = t.tells.learned i; sent = length (t.tells.sent i); gave_up = sym t.tells.gave_up i; forgot = sym t.tells.forgot i } ∷ []);
     }
 
-both_by : (v : WorldRecord) (role : Role) (source : Endpoint) (octets : List ℕ) (answer : CreateSessionResponse) (asked : CreateBearerRequest) (came : Came) (half : GatewayRecord) (log : Log) (late : Bool) (new : WorldRecord) → AreInputs role source octets answer asked (gateway_in v role) came half → log ≡ log_of_came v.log role came late → new ≡ record (with_gateway v role half) { log = log } → TakesBoth v role source octets answer asked late new
-both_by v role source octets answer asked came half log late new t is becomes =
-    let logs = is ∙ both_log v.log role source octets answer asked (gateway_in v role) came half late t in
+both_by : (v : WorldRecord) (role : Role) (arrival : Arrival) (answer : CreateSessionResponse) (asked : CreateBearerRequest) (came : Came) (half : GatewayRecord) (log : Log) (late : Bool) (new : WorldRecord) → AreInputs role arrival answer asked (gateway_in v role) came half → log ≡ log_of_came v.log role came late → new ≡ record (with_gateway v role half) { log = log } → TakesBoth v role arrival answer asked late new
+both_by v role arrival answer asked came half log late new t is becomes =
+    let logs = is ∙ both_log v.log role arrival answer asked (gateway_in v role) came half late t in
     record {
       first = t.first;
       step = t.step;
@@ -86,7 +88,7 @@ both_by v role source octets answer asked came half log late new t is becomes =
 -- a datagram of a plane
 brought_by : (v : WorldRecord) (role : Role) (plane : Plane) (source : Endpoint) (octets : List ℕ) (came : Came) (half : GatewayRecord) (log : Log) (late : Bool) (new : WorldRecord) → IsBrought role plane source octets (gateway_in v role) came half → log ≡ log_of_came v.log role came late → new ≡ record (with_gateway v role half) { log = log } → TakesOn v role plane source octets late new
 brought_by v role Control source octets came half log late new (inl (none, t)) is becomes = inl (none, takes_by v role _ _ came half log late new t is becomes)
-brought_by v role Control source octets came half log late new (inr (pair, t)) is becomes = inr (pair, both_by v role source octets pair.answer pair.asked came half log late new t is becomes)
+brought_by v role Control source octets came half log late new (inr (pair, t)) is becomes = inr (pair, both_by v role (arrival_of source octets) pair.answer pair.asked came half log late new t is becomes)
 brought_by v role User source octets came half log late new t is becomes = takes_by v role _ _ came half log late new t is becomes
 
 -- the log, after a tick

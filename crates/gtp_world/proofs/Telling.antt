@@ -17,7 +17,7 @@ use Rattle.gtp_machine.specs.declared.outcome.Refusal.{Refusal}
 use Rattle.gtp_gateway.specs.command.Command.{IsCarriedOut, SendsRequestNext, IsTimed, outcome_by}
 use Rattle.gtp_gateway.specs.receive.Choosing.{ChoosesLowest}
 use Rattle.gtp_gateway.specs.receive.Queues.{QueuesAfterMessage}
-use Rattle.gtp_gateway.specs.receive.TwoMessages.{second_part}
+use Rattle.gtp_gateway.specs.receive.TwoMessages.{second_arrival}
 use Rattle.gtp_gateway.specs.Parts.{arrival_of}
 use Rattle.gtp_gateway.specs.receive.Received.{IsReceivedOnce, AreReceived, IsReceived, QueuesAfterReceive, coming}
 use Rattle.gtp_gateway.specs.messages.Sent.{datagram_by}
@@ -198,8 +198,8 @@ none_accepted : (node : Role) (at : Node) (accepted : Option Accepted) (entry : 
 none_accepted node at accepted entry none is = is [] (subst (λ a. AreEntries at a []) (sym none) refl)
 
 -- its two messages were taken, one after the other
-taken_both : (node : Role) (source : Endpoint) (octets : List ℕ) (answer : CreateSessionResponse) (asked : CreateBearerRequest) (old : GatewayRecord) (step : Step) (state : GatewayState) (entry : Option LoggedEntry) (request : Arrival) → AreReceived source octets answer asked old.state step state → request ≡ arrival_of source (second_part octets) → QueuesAfterMessage source (second_part octets) old.state state → ChoosesLowest step.report.made old.state.role old.state.node state.node → IsAccepted node state.node step.accepted entry → AreInputs node source octets answer asked old (came_of_step step entry) (half_told old state step request)
-taken_both node source octets answer asked old step state entry request r same keeps lowest is =
+taken_both : (node : Role) (arrival : Arrival) (answer : CreateSessionResponse) (asked : CreateBearerRequest) (old : GatewayRecord) (step : Step) (state : GatewayState) (entry : Option LoggedEntry) (request : Arrival) → AreReceived arrival answer asked old.state step state → request ≡ second_arrival arrival → QueuesAfterMessage (second_arrival arrival) old.state state → ChoosesLowest step.report.made old.state.role old.state.node state.node → IsAccepted node state.node step.accepted entry → AreInputs node arrival answer asked old (came_of_step step entry) (half_told old state step request)
+taken_both node arrival answer asked old step state entry request r same keeps lowest is =
     let first = r.first.out in
     let second = r.second.out in
     let t = r.tells in
@@ -239,7 +239,7 @@ pub taken : (node : Role) (plane : Plane) (source : Endpoint) (octets : List ℕ
 taken node Control source octets old step state entry (inl (none, r)) (inl (alone, keeps)) lowest stays is = inl (none, taken_whole node Control source octets old step state entry (arrival_of source (last_octets octets)) r (made_last Control source octets old.state step state r) keeps lowest stays is)
 taken node Control source octets old step state entry (inl (none, r)) (inr (pair, keeps)) lowest stays is = absurd (none pair)
 taken node Control source octets old step state entry (inr (pair, r)) (inl (none, keeps)) lowest stays is = absurd (none pair)
-taken node Control source octets old step state entry (inr (pair, r)) (inr (too, keeps)) lowest stays is = inr (pair, taken_both node source octets pair.answer pair.asked old step state entry (arrival_of source (last_octets octets)) r (ap (λ o. arrival_of source o) (last_two octets _ _ pair.is)) keeps lowest is)
+taken node Control source octets old step state entry (inr (pair, r)) (inr (too, keeps)) lowest stays is = inr (pair, taken_both node (arrival_of source octets) pair.answer pair.asked old step state entry (arrival_of source (last_octets octets)) r (ap (λ o. arrival_of source o) (last_two octets _ _ pair.is)) keeps lowest is)
 taken node User source octets old step state entry r keeps lowest stays is =
     taken_whole node User source octets old step state entry (arrival_of source (last_octets octets)) r (made_last User source octets old.state step state r)
     ((λ apart. keeps.0 (λ broken. apart (sym r.tells.outcome ∙ ap (λ o. Came_to o) broken))), keeps.1, keeps.2) lowest stays is

@@ -6,13 +6,13 @@ use Rattle.gtp_values.specs.declared.address.Endpoint.{Endpoint}
 use Rattle.gtp_machine.specs.Message.{CreateSessionResponse, CreateBearerRequest, Plane, Control, User}
 use Rattle.gtp_machine.specs.Input.{Command, Send_user, Input, Entry, entry_for, EventOutcome, Came_to, Out, Effect, nothing}
 use Rattle.gtp_machine.specs.declared.role.Role.{Role}
-use Rattle.gtp_machine.specs.Node.{Node, written}
+use Rattle.gtp_machine.specs.Node.{Arrival, Node, written}
 use Rattle.gtp_machine.specs.Spelling.{Datagram}
 use Rattle.gtp_machine.specs.Step.{Step}
 use Rattle.gtp_machine.specs.Tick.{Ticks}
 use Rattle.gtp_machine.specs.World.{By, signed, outcome_in}
 use Rattle.gtp_gateway.specs.receive.Queues.{QueuesAfterMessage}
-use Rattle.gtp_gateway.specs.receive.TwoMessages.{second_part}
+use Rattle.gtp_gateway.specs.receive.TwoMessages.{second_arrival}
 use Rattle.gtp_gateway.specs.receive.Received.{coming, first_comes, second_comes, ByPair}
 use Rattle.gtp_gateway.specs.messages.Sent.{datagram_by}
 use Rattle.gtp_gateway.specs.receive.Taken.{datagrams}
@@ -25,6 +25,7 @@ use Rattle.gtp_world.specs.Record.{GatewayRecord, entry_by}
 use Rattle.gtp_world.specs.Stepped.{gateway_after, sent_at, AreReadable, TakesLowest, KeepsOn}
 use Rattle.gtp_world.specs.declared.log.Entry.{Entry as LoggedEntry}
 use Rattle.gtp_world.specs.declared.side.Came.{Came}
+use Rattle.gtp_gateway.specs.Parts.{arrival_of}
 
 -- the entry that is logged, if there is one
 abbrev pub entries : Option LoggedEntry → List (By Entry)
@@ -66,26 +67,26 @@ pub record TellsCameBoth (role : Role) (old : GatewayRecord) (came : Came) (firs
 
 -- The gateway took the two messages of a datagram, one after the other. Nothing was sent for the first; of what is free it took the lowest; and what its ticks go
 -- by is as after a datagram, but an answer is held by the octets of the second message.
-pub record AreInputs (role : Role) (source : Endpoint) (octets : List ℕ) (answer : CreateSessionResponse) (asked : CreateBearerRequest) (old : GatewayRecord) (came : Came) (new : GatewayRecord) : Type 0 where
+pub record AreInputs (role : Role) (arrival : Arrival) (answer : CreateSessionResponse) (asked : CreateBearerRequest) (old : GatewayRecord) (came : Came) (new : GatewayRecord) : Type 0 where
   pub first : Effect
-  pub step : Step old.state.role old.state.node (first_comes source octets answer) first
+  pub step : Step old.state.role old.state.node (first_comes arrival answer) first
   pub silent : first.out.sent ≡ []
   pub second : Effect
-  pub follows : Step old.state.role first.node (second_comes source octets asked) second
+  pub follows : Step old.state.role first.node (second_comes arrival asked) second
   pub readable : AreReadable second.out
   pub node : new.state.node ≡ second.node
   pub role_stays : new.state.role ≡ old.state.role
   pub lowest : TakesLowest new.state.role second.out old.state.node new.state.node
-  pub timed : QueuesAfterMessage source (second_part octets) old.state new.state
+  pub timed : QueuesAfterMessage (second_arrival arrival) old.state new.state
   pub becomes : new ≡ gateway_after (gateway_after old new.state first.out) new.state second.out
   pub tells : TellsCameBoth role old came first second
 
 -- The gateway took a datagram of a plane: of the control plane a pair that it takes message by message, and any other as a whole.
 abbrev pub IsBrought : Role → Plane → Endpoint → List ℕ → GatewayRecord → Came → GatewayRecord → Type 0
 IsBrought role Control source octets old came new =
-    ByPair source octets old.state
+    ByPair (arrival_of source octets) old.state
     (IsInput role (coming Control source octets) (KeepsOn Control source octets) old came new)
-    (λ answer asked. AreInputs role source octets answer asked old came new)
+    (λ answer asked. AreInputs role (arrival_of source octets) answer asked old came new)
 IsBrought role User source octets old came new = IsInput role (coming User source octets) (KeepsOn User source octets) old came new
 
 -- The gateway ticked.

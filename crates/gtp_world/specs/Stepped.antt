@@ -17,7 +17,7 @@ use Rattle.gtp_gateway.specs.declared.command.purpose.Purpose.{Purpose}
 use Rattle.gtp_gateway.specs.command.SendRequest.{after_begun}
 use Rattle.gtp_gateway.specs.receive.Choosing.{MakesLowest}
 use Rattle.gtp_gateway.specs.receive.Queues.{QueuesAfterMessage}
-use Rattle.gtp_gateway.specs.receive.TwoMessages.{second_part}
+use Rattle.gtp_gateway.specs.receive.TwoMessages.{second_arrival}
 use Rattle.gtp_gateway.specs.Parts.{arrival_of}
 use Rattle.gtp_gateway.specs.receive.Received.{coming, first_comes, second_comes, ByPair}
 use Rattle.gtp_gateway.specs.messages.Sent.{SendingReads}
@@ -94,7 +94,7 @@ pub record AsksFor (sent : List Datagram) (outcome : EventOutcome) (old new : Ga
 -- what ticks go by, after a datagram of that plane: the requests that are still pending wait on; after one of the control plane one more may wait, and an answer
 -- that was given is held from now on; one of the user plane changes nothing, but where bearers go that the peer does not know; and it is what the node keeps
 abbrev pub KeepsOn : Plane → Endpoint → List ℕ → List Datagram → EventOutcome → GatewayState → GatewayState → Type 0
-KeepsOn Control source octets sent outcome old new = QueuesAfterMessage source octets old new
+KeepsOn Control source octets sent outcome old new = QueuesAfterMessage (arrival_of source octets) old new
 KeepsOn User source octets sent outcome old new = (outcome ≢ Came_to Broken → new.queues ≡ old.queues) × RequestsWaitOn old new × NodeMatchesQueues new
 
 -- what is made on a request has the lowest address or identity that is free
@@ -115,26 +115,26 @@ pub record StepsOn (old : WorldRecord) (role : Role) (input : Input) (Timed : Li
 
 -- A gateway takes the two messages of a datagram, one after the other, by the rules of the machine. Nothing is sent for the first; of what is free it takes the
 -- lowest; and what its ticks go by is as after a datagram, but an answer is held by the octets of the second message.
-pub record TakesBoth (old : WorldRecord) (role : Role) (source : Endpoint) (octets : List ℕ) (answer : CreateSessionResponse) (asked : CreateBearerRequest) (late : Bool) (new : WorldRecord) : Type 0 where
+pub record TakesBoth (old : WorldRecord) (role : Role) (arrival : Arrival) (answer : CreateSessionResponse) (asked : CreateBearerRequest) (late : Bool) (new : WorldRecord) : Type 0 where
   pub first : Effect
-  pub step : Step (gateway_in old role).state.role (gateway_in old role).state.node (first_comes source octets answer) first
+  pub step : Step (gateway_in old role).state.role (gateway_in old role).state.node (first_comes arrival answer) first
   pub silent : first.out.sent ≡ []
   pub second : Effect
-  pub follows : Step (gateway_in old role).state.role first.node (second_comes source octets asked) second
+  pub follows : Step (gateway_in old role).state.role first.node (second_comes arrival asked) second
   pub readable : AreReadable second.out
   pub state : GatewayState
   pub node : state.node ≡ second.node
   pub role_stays : state.role ≡ (gateway_in old role).state.role
   pub lowest : TakesLowest state.role second.out (gateway_in old role).state.node state.node
-  pub timed : QueuesAfterMessage source (second_part octets) (gateway_in old role).state state
+  pub timed : QueuesAfterMessage (second_arrival arrival) (gateway_in old role).state state
   pub becomes : new ≡ kept_after_both old role state first second (sent_at (gateway_in old role) first.out) (sent_at (gateway_in old role) second.out) late
 
 -- A gateway takes a datagram of a plane: of the control plane a pair that it takes message by message, and any other as a whole.
 abbrev pub TakesOn : WorldRecord → Role → Plane → Endpoint → List ℕ → Bool → WorldRecord → Type 0
 TakesOn old role Control source octets late new =
-    ByPair source octets (gateway_in old role).state
+    ByPair (arrival_of source octets) (gateway_in old role).state
     (StepsOn old role (coming Control source octets) (KeepsOn Control source octets) late new)
-    (λ answer asked. TakesBoth old role source octets answer asked late new)
+    (λ answer asked. TakesBoth old role (arrival_of source octets) answer asked late new)
 TakesOn old role User source octets late new = StepsOn old role (coming User source octets) (KeepsOn User source octets) late new
 
 -- The octets of a datagram come to the gateway that did not send it.

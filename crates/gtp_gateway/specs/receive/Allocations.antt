@@ -1,12 +1,10 @@
 -- What takes memory on the control plane: to send a datagram, and to open a context.
-use Rattle.std.specs.Prelude.{◌≡◌, ◌≢◌, ◌⊎◌, ℕ, List, []}
-use Rattle.gtp_values.specs.declared.address.Endpoint.{Endpoint}
+use Rattle.std.specs.Prelude.{◌≡◌, ◌≢◌, ◌⊎◌, []}
 use Rattle.gtp_machine.specs.Input.{Came_to, ControlReading, Control_came, Effect}
 use Rattle.gtp_machine.specs.Node.{Arrival, Node}
 use Rattle.gtp_machine.specs.Reading.{datagram_reading, taken_as}
 use Rattle.gtp_machine.specs.Step.{Step as MachineStep}
 use Rattle.gtp_machine.specs.declared.outcome.Outcome.TheVariants.{Opened}
-use Rattle.gtp_gateway.specs.Parts.{arrival_of}
 use Rattle.gtp_gateway.specs.GatewayState.{GatewayState}
 
 -- a datagram is sent, or a context is opened
@@ -22,9 +20,9 @@ abbrev pub StepSendsOrOpens : Arrival → ControlReading → GatewayState → Ty
 StepSendsOrOpens request reading old = AlwaysSendsOrOpens (λ node e. MachineStep old.role node (Control_came request reading) e) old.node
 
 -- whatever step of the machine there is on these octets
-abbrev pub ControlSendsOrOpens : Endpoint → List ℕ → GatewayState → Type 0
-ControlSendsOrOpens source octets old = StepSendsOrOpens (arrival_of source octets) (taken_as (datagram_reading octets)) old
+abbrev pub ControlSendsOrOpens : Arrival → GatewayState → Type 0
+ControlSendsOrOpens arrival old = StepSendsOrOpens arrival (taken_as (datagram_reading arrival.octets)) old
 
 -- whatever step of the machine there is on a datagram from the peer that reads so
-abbrev pub FaultSendsOrOpens : Endpoint → ControlReading → GatewayState → Type 0
-FaultSendsOrOpens source reading old = (request : Arrival) → request.source ≡ source → source.ip ≡ old.node.config.peer.control → StepSendsOrOpens request reading old
+abbrev pub FaultSendsOrOpens : Arrival → ControlReading → GatewayState → Type 0
+FaultSendsOrOpens arrival reading old = arrival.source.ip ≡ old.node.config.peer.control → StepSendsOrOpens arrival reading old

@@ -4,7 +4,6 @@ use Rattle.gtp_ie.specs.Form.{number_of}
 use Rattle.gtp_ie.specs.declared.form.Form.TheVariants as forms
 use Rattle.std.specs.Prelude.{◌≡◌, ◌↔◌, ℕ, Bool, true, false, IsTrue, IsSome, List, [], ◌∷◌, Option, Some, None}
 use Rattle.std.specs.FinMap.{get}
-use Rattle.gtp_values.specs.declared.address.Endpoint.{Endpoint}
 use Rattle.gtp_values.specs.Cause.{is_accepting_value}
 use Rattle.gtp_values.specs.FiniteMap.{FiniteMap}
 use Rattle.gtp_tables.specs.Identity.{HasIdentity, IsLowestUnused}
@@ -33,7 +32,6 @@ use Rattle.gtp_gateway.specs.declared.step.ControlStep.{ControlStep}
 use Rattle.gtp_gateway.specs.receive.Answer.{answering}
 use Rattle.gtp_gateway.specs.tables.Change.{changed_by}
 use Rattle.gtp_gateway.specs.tables.Teids.{IsOneDrawn}
-use Rattle.gtp_gateway.specs.Parts.{arrival_of}
 use Rattle.gtp_gateway.specs.receive.Row.{IsRow}
 use Rattle.gtp_gateway.specs.GatewayState.{GatewayState}
 
@@ -141,7 +139,7 @@ CanGive found NoResources node = Unit {0}
 CanGive found (Granted g) node = (s : Session) × (found ≡ Some s) × (s.state ≡ Active) × IsOneDrawn g.drawn node
 
 -- a Create Bearer Request was taken
-abbrev pub TakesCreateBearerRequest : Endpoint → List ℕ → BearerRequest → GatewayState → ControlStep → GatewayState → Type 0
-TakesCreateBearerRequest source octets r old step new =
+abbrev pub TakesCreateBearerRequest : Arrival → BearerRequest → GatewayState → ControlStep → GatewayState → Type 0
+TakesCreateBearerRequest arrival r old step new =
     (q : messages.CreateBearerRequest) → SaysCreateBearer r q
-    → IsRow (CreateBearerAsked (arrival_of source octets) q) (arrival_of source octets) old.role old.node step new
+    → IsRow (CreateBearerAsked arrival q) arrival old.role old.node step new

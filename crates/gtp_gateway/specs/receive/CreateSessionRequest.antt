@@ -3,7 +3,6 @@ use Rattle.gtp_machine.specs.declared.message_type.MessageType.TheVariants as ty
 use Rattle.std.specs.Prelude.{◌≡◌, ℕ, ◌<◌, Bool, true, false, List, [], ◌∷◌, Some, length, ◌↔◌}
 use Rattle.std.specs.FinMap.{insert}
 use Rattle.gtp_values.specs.FiniteMap.{FiniteMap}
-use Rattle.gtp_values.specs.declared.address.Endpoint.{Endpoint}
 use Rattle.gtp_values.specs.declared.cause.Cause.{Cause}
 use Rattle.gtp_values.specs.Cause.{is_accepting_value}
 use Rattle.gtp_reliable.specs.Pending.{AreDistinct, IsNextFree}
@@ -36,7 +35,6 @@ use Rattle.gtp_gateway.specs.declared.step.ControlStep.{ControlStep}
 use Rattle.gtp_gateway.specs.tables.Change.{changed_by}
 use Rattle.gtp_gateway.specs.tables.Teids.{AreTwoDrawn, IsThirdDrawn}
 use Rattle.gtp_gateway.specs.receive.RestartCounter.{node_heard}
-use Rattle.gtp_gateway.specs.Parts.{arrival_of}
 use Rattle.gtp_gateway.specs.receive.Row.{IsRow}
 use Rattle.gtp_gateway.specs.messages.Sent.{datagram_by, ReadsBack}
 use Rattle.gtp_gateway.specs.tables.Opening.{waiting_heard}
@@ -195,24 +193,24 @@ pub record JudgesCreateSession (r : SessionRequest) (heard : Heard) (s : Gateway
   pub is : IsVerdict r.default.identity r.pdn.0 v heard s
 
 -- a request was answered with a datagram of these messages, which is held, and left this node; a context was made for it, or not
-pub record IsAnsweredSo (source : Endpoint) (octets : List ℕ) (answer : List Message) (cause : ℕ) (made : Bool) (left : Node) (old : GatewayState) (step : ControlStep) (new : GatewayState) : Type 0 where
+pub record IsAnsweredSo (arrival : Arrival) (answer : List Message) (cause : ℕ) (made : Bool) (left : Node) (old : GatewayState) (step : ControlStep) (new : GatewayState) : Type 0 where
   pub sent : Sent
   pub is : step ≡ record { out = Some sent; report = record (plain_report (Answered cause)) { made = made } }
-  pub goes : datagram_by sent ≡ datagram_of old.node.config (record { destination = source; messages = answer })
+  pub goes : datagram_by sent ≡ datagram_of old.node.config (record { destination = arrival.source; messages = answer })
   pub read : ReadsBack answer
-  pub becomes : new.node ≡ holding (arrival_of source octets) answer left
+  pub becomes : new.node ≡ holding arrival answer left
   pub role : new.role ≡ old.role
 
 -- it was refused
-abbrev pub IsRefusedSession : Endpoint → List ℕ → SessionRequest → Cause → Heard → GatewayState → ControlStep → GatewayState → Type 0
-IsRefusedSession source octets r cause heard old step new =
-    IsAnsweredSo source octets (refusing types.CreateSessionRequest r.control.teid r.seq cause old.node.counter ∷ []) cause.value false
+abbrev pub IsRefusedSession : Arrival → SessionRequest → Cause → Heard → GatewayState → ControlStep → GatewayState → Type 0
+IsRefusedSession arrival r cause heard old step new =
+    IsAnsweredSo arrival (refusing types.CreateSessionRequest r.control.teid r.seq cause old.node.counter ∷ []) cause.value false
     (node_heard heard old.node) old step new
 
 -- it was granted
-abbrev pub IsGrantedSession : Endpoint → List ℕ → SessionRequest → SessionGrant → Heard → GatewayState → ControlStep → GatewayState → Type 0
-IsGrantedSession source octets r g heard old step new =
-    IsAnsweredSo source octets (grants r g old.node ∷ []) (session_cause r.pdn.0 g.address) true
+abbrev pub IsGrantedSession : Arrival → SessionRequest → SessionGrant → Heard → GatewayState → ControlStep → GatewayState → Type 0
+IsGrantedSession arrival r g heard old step new =
+    IsAnsweredSo arrival (grants r g old.node ∷ []) (session_cause r.pdn.0 g.address) true
     (changed_by (change_of r g) (node_heard heard old.node)) old step new
 
 -- the answer that grants it, and the request of the template's bearer
@@ -220,13 +218,13 @@ abbrev pub grants_with : SessionRequest → SessionGrant → AddedBearer → Nod
 grants_with r g a node = grants r g node ∷ Create_bearer_request (asked_with (session_granted r g) a node) ∷ []
 
 -- it was granted, and the bearer of the template begun
-abbrev pub IsGrantedWith : Endpoint → List ℕ → SessionRequest → SessionGrant → AddedBearer → Heard → GatewayState → ControlStep → GatewayState → Type 0
-IsGrantedWith source octets r g a heard old step new =
-    IsAnsweredSo source octets (grants_with r g a old.node) (session_cause r.pdn.0 g.address) true
+abbrev pub IsGrantedWith : Arrival → SessionRequest → SessionGrant → AddedBearer → Heard → GatewayState → ControlStep → GatewayState → Type 0
+IsGrantedWith arrival r g a heard old step new =
+    IsAnsweredSo arrival (grants_with r g a old.node) (session_cause r.pdn.0 g.address) true
     (create_bearer_asked (changed_by (change_of r g) (node_heard heard old.node)) g.drawn.control (asked_with (session_granted r g) a old.node) a.drawn.teid) old step new
 
 -- a Create Session Request was taken
-abbrev pub TakesCreateSessionRequest : Endpoint → List ℕ → SessionRequest → Heard → GatewayState → ControlStep → GatewayState → Type 0
-TakesCreateSessionRequest source octets r heard old step new =
+abbrev pub TakesCreateSessionRequest : Arrival → SessionRequest → Heard → GatewayState → ControlStep → GatewayState → Type 0
+TakesCreateSessionRequest arrival r heard old step new =
     (q : messages.CreateSessionRequest) → SaysCreateSession r q
-    → IsRow (CreateSessionAsked (arrival_of source octets) q) (arrival_of source octets) old.role (node_heard heard old.node) step new
+    → IsRow (CreateSessionAsked arrival q) arrival old.role (node_heard heard old.node) step new

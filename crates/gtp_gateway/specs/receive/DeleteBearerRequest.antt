@@ -2,7 +2,6 @@
 use Rattle.std.specs.Prelude.{◌≡◌, ◌≢◌, ℕ, ◌==◌, Bool, true, false, List, [], ◌∷◌, ◌++◌, map, Option, Some, None, is_some, unwrap_or}
 use Rattle.std.specs.List.{list_any}
 use Rattle.std.specs.FinMap.{get}
-use Rattle.gtp_values.specs.declared.address.Endpoint.{Endpoint}
 use Rattle.gtp_values.specs.declared.identifiers.Teid.{Teid}
 use Rattle.gtp_ie.specs.declared.value.ebi.EbiValue.{EbiValue}
 use Rattle.gtp_ie.specs.Form.{number_of as number_of_form}
@@ -29,7 +28,6 @@ use Rattle.gtp_gateway.specs.declared.receive.delete_bearer_request.DeleteBearer
 use Rattle.gtp_gateway.specs.declared.receive.delete_bearer_request.DeleteBearerVerdict.TheVariants.{NotOpened, Answered, Bearers}
 use Rattle.gtp_gateway.specs.declared.step.ControlStep.{ControlStep}
 use Rattle.gtp_gateway.specs.tables.Change.{changed_by, CanChange}
-use Rattle.gtp_gateway.specs.Parts.{arrival_of}
 use Rattle.gtp_gateway.specs.receive.Row.{IsRow}
 use Rattle.gtp_gateway.specs.GatewayState.{GatewayState}
 
@@ -130,16 +128,16 @@ JudgesDeleteBearer r old (Answered answer) = JudgesAnswer r old answer
 JudgesDeleteBearer r old (Bearers header) = IsForBearers r header old
 
 -- a request with this number was answered so
-abbrev pub AnswersDeleteBearer : Endpoint → List ℕ → ℕ → DeleteBearerAnswer → GatewayState → ControlStep → GatewayState → Type 0
-AnswersDeleteBearer source octets number answer old step new =
-    IsRow (λ node e. e ≡ delete_bearer_effect (arrival_of source octets) number answer node) (arrival_of source octets) old.role old.node step new
+abbrev pub AnswersDeleteBearer : Arrival → ℕ → DeleteBearerAnswer → GatewayState → ControlStep → GatewayState → Type 0
+AnswersDeleteBearer arrival number answer old step new =
+    IsRow (λ node e. e ≡ delete_bearer_effect arrival number answer node) arrival old.role old.node step new
 
 -- a Delete Bearer Request with these identities was taken
-abbrev pub EndsNamed : Endpoint → List ℕ → DeleteRequest → List EbiValue → GatewayState → ControlStep → GatewayState → Type 0
-EndsNamed source octets r identities old step new =
-    IsRow (DeleteBearerJudged (arrival_of source octets) (delete_bearer_by r (map number_in identities))) (arrival_of source octets) old.role old.node step new
+abbrev pub EndsNamed : Arrival → DeleteRequest → List EbiValue → GatewayState → ControlStep → GatewayState → Type 0
+EndsNamed arrival r identities old step new =
+    IsRow (DeleteBearerJudged arrival (delete_bearer_by r (map number_in identities))) arrival old.role old.node step new
 
 -- a Delete Bearer Request was taken, with the identities in the list of its message
-abbrev pub TakesDeleteBearerRequest : Endpoint → List ℕ → MessageValue → DeleteRequest → GatewayState → ControlStep → GatewayState → Type 0
-TakesDeleteBearerRequest source octets m r old step new =
-    IsRow (DeleteBearerAsked (arrival_of source octets) (delete_bearer_by r (identities_of m))) (arrival_of source octets) old.role old.node step new
+abbrev pub TakesDeleteBearerRequest : Arrival → MessageValue → DeleteRequest → GatewayState → ControlStep → GatewayState → Type 0
+TakesDeleteBearerRequest arrival m r old step new =
+    IsRow (DeleteBearerAsked arrival (delete_bearer_by r (identities_of m))) arrival old.role old.node step new

@@ -1,6 +1,5 @@
 -- Delete Session Requests, as the packet gateway takes them.
-use Rattle.std.specs.Prelude.{ℕ, List, Some}
-use Rattle.gtp_values.specs.declared.address.Endpoint.{Endpoint}
+use Rattle.std.specs.Prelude.{Some}
 use Rattle.gtp_machine.specs.Answer.{answered}
 use Rattle.gtp_machine.specs.Element.{cause_of}
 use Rattle.gtp_machine.specs.Input.{Effect}
@@ -12,7 +11,6 @@ use Rattle.gtp_gateway.specs.declared.receive.delete_request.DeleteRequest.{Dele
 use Rattle.gtp_gateway.specs.declared.receive.delete_session_request.DeleteSessionVerdict.{DeleteSessionVerdict}
 use Rattle.gtp_gateway.specs.declared.step.ControlStep.{ControlStep}
 use Rattle.gtp_gateway.specs.tables.Change.{changed_by, CanChange}
-use Rattle.gtp_gateway.specs.Parts.{arrival_of}
 use Rattle.gtp_gateway.specs.receive.Row.{IsRow}
 use Rattle.gtp_gateway.specs.GatewayState.{GatewayState}
 
@@ -32,5 +30,5 @@ pub record JudgesDeleteSession (r : DeleteRequest) (old : Node) (v : DeleteSessi
   pub can : CanChange v.change old
 
 -- a Delete Session Request was taken
-abbrev pub TakesDeleteSessionRequest : Endpoint → List ℕ → DeleteRequest → GatewayState → ControlStep → GatewayState → Type 0
-TakesDeleteSessionRequest source octets r old step new = IsRow (DeleteSessionAsked (arrival_of source octets) (delete_session_by r)) (arrival_of source octets) old.role old.node step new
+abbrev pub TakesDeleteSessionRequest : Arrival → DeleteRequest → GatewayState → ControlStep → GatewayState → Type 0
+TakesDeleteSessionRequest arrival r old step new = IsRow (DeleteSessionAsked arrival (delete_session_by r)) arrival old.role old.node step new

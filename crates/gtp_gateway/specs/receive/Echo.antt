@@ -1,7 +1,6 @@
 -- Echo Request and Echo Response.
 use Rattle.std.specs.Prelude.{◌≡◌, ℕ}
 use Rattle.gtp_machine.specs.Message as messages
-use Rattle.gtp_values.specs.declared.address.Endpoint.{Endpoint}
 use Rattle.gtp_machine.specs.Answer.{echoed}
 use Rattle.gtp_machine.specs.Response.{EchoAnswered}
 use Rattle.gtp_machine.specs.Node.{Arrival}
@@ -12,10 +11,9 @@ use Rattle.gtp_gateway.specs.GatewayState.{GatewayState}
 use Rattle.gtp_gateway.specs.receive.Row.{IsRow}
 
 -- an Echo Request was taken
-abbrev pub AnswersEcho : Endpoint → ℕ → Heard → GatewayState → ControlStep → GatewayState → Type 0
-AnswersEcho source number heard old step new =
-    (request : Arrival) (q : messages.Echo) → request.source ≡ source → q.number ≡ number
-    → IsRow (λ node e. e ≡ echoed request q node) request old.role (node_heard heard old.node) step new
+abbrev pub AnswersEcho : Arrival → ℕ → Heard → GatewayState → ControlStep → GatewayState → Type 0
+AnswersEcho arrival number heard old step new =
+    (q : messages.Echo) → q.number ≡ number → IsRow (λ node e. e ≡ echoed arrival q node) arrival old.role (node_heard heard old.node) step new
 
 -- an Echo Response was taken
 abbrev pub TakesEchoResponse : ℕ → GatewayState → ControlStep → GatewayState → Type 0

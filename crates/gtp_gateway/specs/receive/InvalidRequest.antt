@@ -1,6 +1,5 @@
 -- Datagrams of the control plane that are at fault.
 use Rattle.std.specs.Prelude.{◌≡◌, ℕ, None}
-use Rattle.gtp_values.specs.declared.address.Endpoint.{Endpoint}
 use Rattle.gtp_machine.specs.Message.{Control}
 use Rattle.gtp_machine.specs.Node.{Arrival}
 use Rattle.gtp_machine.specs.Answer.{IsNew}
@@ -52,5 +51,5 @@ pub record IsFaultEffect (request : Arrival) (reading : ControlReading) (s : Gat
   pub tells : Tells s request step effect
   pub stays : s.node ≡ effect.node
 
-abbrev pub IsFaultTaken : Endpoint → ControlReading → GatewayState → ControlStep → Type 0
-IsFaultTaken source reading s step = (request : Arrival) → request.source ≡ source → source.ip ≡ s.node.config.peer.control → IsNew s.node request → IsFaultEffect request reading s step
+abbrev pub IsFaultTaken : Arrival → ControlReading → GatewayState → ControlStep → Type 0
+IsFaultTaken arrival reading s step = arrival.source.ip ≡ s.node.config.peer.control → IsNew s.node arrival → IsFaultEffect arrival reading s step

@@ -1,15 +1,14 @@
 -- The pair of messages in one datagram that the serving gateway takes, once all is known of the first.
-use Rattle.std.specs.Prelude.{◌≡◌, ◌≢◌, ◌⊎◌, ◌==◌, ℕ, List, false, Option, Some, None, if◌then◌else◌}
+use Rattle.std.specs.Prelude.{◌≡◌, ◌≢◌, ◌⊎◌, ◌==◌, ℕ, false, Option, Some, None, if◌then◌else◌}
 use Rattle.std.specs.FinMap.{get}
 use Rattle.gtp_values.specs.FiniteMap.{FiniteMap}
-use Rattle.gtp_values.specs.declared.address.Endpoint.{Endpoint}
 use Rattle.gtp_tables.specs.Contexts.{is_opened}
 use Rattle.gtp_v2.specs.Viewed.{Viewed}
 use Rattle.gtp_machine.specs.Decoded.{message_of}
 use Rattle.gtp_machine.specs.Input.{Control_message}
 use Rattle.gtp_machine.specs.Message.{Create_session_response, Create_bearer_request}
 use Rattle.gtp_machine.specs.Message as messages
-use Rattle.gtp_machine.specs.Node.{Session, Bearer, Node}
+use Rattle.gtp_machine.specs.Node.{Arrival, Session, Bearer, Node}
 use Rattle.gtp_machine.specs.declared.outcome.Outcome.TheVariants.{Opened}
 use Rattle.gtp_gateway.specs.declared.step.ControlStep.{ControlStep}
 use Rattle.gtp_gateway.specs.declared.receive.create_bearer_request.BearerRequest.{BearerRequest}
@@ -20,7 +19,6 @@ use Rattle.gtp_gateway.specs.declared.tables.opening.ResponseVerdict.TheVariants
 use Rattle.gtp_gateway.specs.receive.CreateBearerRequest.{SaysCreateBearer}
 use Rattle.gtp_gateway.specs.receive.RestartCounter.{node_heard}
 use Rattle.gtp_gateway.specs.receive.Allocations.{StepSendsOrOpens}
-use Rattle.gtp_gateway.specs.Parts.{arrival_of}
 use Rattle.gtp_gateway.specs.command.Purpose.{session_of, bearer_of}
 use Rattle.gtp_gateway.specs.tables.Removal.{goes_with_session}
 use Rattle.gtp_gateway.specs.tables.Opening.{outcome_by, node_by}
@@ -60,17 +58,17 @@ abbrev pub state_after_first : Heard → ResponseVerdict → ℕ → GatewayStat
 state_after_first heard verdict number old = record old { node = node_after_first heard verdict number old.node }
 
 -- the second message was taken by a gateway that has applied the first
-abbrev pub IsSecondTaken : Endpoint → List ℕ → BearerRequest → GatewayState → ControlStep → GatewayState → Type 0
-IsSecondTaken source octets r settled step new = (q : messages.CreateBearerRequest) → SaysCreateBearer r q → IsTakenAs (Control_message (Create_bearer_request q)) source octets settled step new
+abbrev pub IsSecondTaken : Arrival → BearerRequest → GatewayState → ControlStep → GatewayState → Type 0
+IsSecondTaken arrival r settled step new = (q : messages.CreateBearerRequest) → SaysCreateBearer r q → IsTakenAs (Control_message (Create_bearer_request q)) arrival settled step new
 
 -- the second message is always answered by a gateway that has applied the first
-abbrev pub SecondMayRunOut : Endpoint → List ℕ → BearerRequest → GatewayState → Type 0
-SecondMayRunOut source octets r settled =
-    (q : messages.CreateBearerRequest) → SaysCreateBearer r q → StepSendsOrOpens (arrival_of source octets) (Control_message (Create_bearer_request q)) settled
+abbrev pub SecondMayRunOut : Arrival → BearerRequest → GatewayState → Type 0
+SecondMayRunOut arrival r settled =
+    (q : messages.CreateBearerRequest) → SaysCreateBearer r q → StepSendsOrOpens arrival (Control_message (Create_bearer_request q)) settled
 
 -- where no memory could be had, the response opens a session or the second message is answered
-abbrev pub EitherMayRunOut : ResponseVerdict → Endpoint → List ℕ → BearerRequest → GatewayState → Type 0
-EitherMayRunOut verdict source octets r settled = (outcome_by verdict ≡ Opened) ⊎ SecondMayRunOut source octets r settled
+abbrev pub EitherMayRunOut : ResponseVerdict → Arrival → BearerRequest → GatewayState → Type 0
+EitherMayRunOut verdict arrival r settled = (outcome_by verdict ≡ Opened) ⊎ SecondMayRunOut arrival r settled
 
 -- the machine's messages are what the two were viewed as
 pub record ArePair (first second : Viewed) (a : messages.CreateSessionResponse) (q : messages.CreateBearerRequest) : Type 0 where

@@ -5,6 +5,7 @@ use Rattle.gtp_reliable.specs.Held.{HeldPair}
 use Rattle.gtp_reliable.specs.Pending.{IsNextFree}
 use Rattle.gtp_reliable.specs.Waiting.{Waiting}
 use Rattle.gtp_machine.specs.Config.{control_end}
+use Rattle.gtp_machine.specs.Node.{Arrival}
 use Rattle.gtp_gateway.specs.declared.command.purpose.Purpose.{Purpose}
 use Rattle.gtp_gateway.specs.receive.Answer.{after_held}
 use Rattle.gtp_gateway.specs.command.SendRequest.{after_begun}
@@ -50,11 +51,11 @@ waiting_on stays old = record old { waiting = filter stays old.waiting }
 
 -- the requests that are still pending wait on as they did, one more may wait from now on, a new one with the next free number, and an answer that was given is held from now
 -- on; nothing else changes of what ticks go by; and it is what the node keeps
-pub record QueuesAfterMessage (source : Endpoint) (octets : List ℕ) (old new : GatewayState) : Type 0 where
+pub record QueuesAfterMessage (arrival : Arrival) (old new : GatewayState) : Type 0 where
   pub stays : Waiting Purpose → Bool
   pub begun : Option Beginning
   pub next : IsNext begun (waiting_on stays old.queues)
   pub new_one : IsNew begun old
   pub answer : Option (List ℕ)
-  pub queues : new.queues ≡ record (begun_with begun (waiting_on stays old.queues)) { held = held_with source octets answer old.queues.held }
+  pub queues : new.queues ≡ record (begun_with begun (waiting_on stays old.queues)) { held = held_with arrival.source arrival.octets answer old.queues.held }
   pub tied : NodeMatchesQueues new

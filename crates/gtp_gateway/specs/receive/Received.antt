@@ -12,7 +12,7 @@ use Rattle.gtp_gateway.specs.declared.step.Step.{Step}
 use Rattle.gtp_gateway.specs.declared.step.ControlStep.{ControlStep}
 use Rattle.gtp_gateway.specs.receive.Queues.{QueuesAfterMessage}
 use Rattle.gtp_gateway.specs.receive.Allocations.{SendsOrOpens, ControlSendsOrOpens}
-use Rattle.gtp_gateway.specs.receive.TwoMessages.{first_part, second_part}
+use Rattle.gtp_gateway.specs.receive.TwoMessages.{first_arrival, second_arrival}
 use Rattle.gtp_gateway.specs.Parts.{arrival_of}
 use Rattle.gtp_gateway.specs.messages.Sent.{AreSent}
 use Rattle.gtp_gateway.specs.GatewayState.{GatewayState, NodeMatchesQueues}
@@ -44,12 +44,12 @@ pub record IsReceivedOnce (plane : Plane) (source : Endpoint) (octets : List ℕ
   pub becomes : new.node ≡ effect.node
   pub role : new.role ≡ old.role
 
--- the first message of a pair as it comes, by the octets in which it lies, and the second by its own
-abbrev pub first_comes : Endpoint → List ℕ → CreateSessionResponse → Input
-first_comes source octets answer = Control_came (arrival_of source (first_part octets)) (Control_message (Create_session_response answer))
+-- the first message of a pair as it comes, and the second
+abbrev pub first_comes : Arrival → CreateSessionResponse → Input
+first_comes arrival answer = Control_came (first_arrival arrival) (Control_message (Create_session_response answer))
 
-abbrev pub second_comes : Endpoint → List ℕ → CreateBearerRequest → Input
-second_comes source octets asked = Control_came (arrival_of source (second_part octets)) (Control_message (Create_bearer_request asked))
+abbrev pub second_comes : Arrival → CreateBearerRequest → Input
+second_comes arrival asked = Control_came (second_arrival arrival) (Control_message (Create_bearer_request asked))
 
 -- the step tells what two effects have: of the first the outcome, the counter that was heard, and whether it is later than the one that was known; of the second
 -- what is sent, the outcome, and whether a context was made for its request; neither has anything else to tell, and no packet is accepted
@@ -65,47 +65,48 @@ pub record TellsBoth (old : Node) (request : Arrival) (step : Step) (first secon
   pub all_second : second.out ≡ record nothing { sent = second.out.sent; made = second.out.made }
 
 -- the two messages of a datagram were received, one after the other: that is two steps of the machine
-pub record AreReceived (source : Endpoint) (octets : List ℕ) (answer : CreateSessionResponse) (asked : CreateBearerRequest) (old : GatewayState) (step : Step) (new : GatewayState) : Type 0 where
+pub record AreReceived (arrival : Arrival) (answer : CreateSessionResponse) (asked : CreateBearerRequest) (old : GatewayState) (step : Step) (new : GatewayState) : Type 0 where
   pub first : Effect
-  pub takes : MachineStep old.role old.node (first_comes source octets answer) first
+  pub takes : MachineStep old.role old.node (first_comes arrival answer) first
   pub second : Effect
-  pub follows : MachineStep old.role first.node (second_comes source octets asked) second
-  pub tells : TellsBoth old.node (arrival_of source (second_part octets)) step first second
+  pub follows : MachineStep old.role first.node (second_comes arrival asked) second
+  pub tells : TellsBoth old.node (second_arrival arrival) step first second
   pub becomes : new.node ≡ second.node
   pub role : new.role ≡ old.role
 
 -- where the datagram is a pair that the gateway takes the one holds, and else the other
-abbrev pub ByPair : Endpoint → List ℕ → GatewayState → Type 0 → (CreateSessionResponse → CreateBearerRequest → Type 0) → Type 0
-ByPair source octets old Whole Two = Unless (TakesPair old.role old.node.config (arrival_of source octets) (datagram_reading octets)) Whole (λ pair. Two pair.answer pair.asked)
+abbrev pub ByPair : Arrival → GatewayState → Type 0 → (CreateSessionResponse → CreateBearerRequest → Type 0) → Type 0
+ByPair arrival old Whole Two = Unless (TakesPair old.role old.node.config arrival (datagram_reading arrival.octets)) Whole (λ pair. Two pair.answer pair.asked)
 
 -- a datagram was received: a pair that the gateway takes message by message, and any other as a whole
 abbrev pub IsReceived : Plane → Endpoint → List ℕ → GatewayState → Step → GatewayState → Type 0
-IsReceived Control source octets old step new = ByPair source octets old (IsReceivedOnce Control source octets old step new) (λ answer asked. AreReceived source octets answer asked old step new)
+IsReceived Control source octets old step new =
+    ByPair (arrival_of source octets) old (IsReceivedOnce Control source octets old step new) (λ answer asked. AreReceived (arrival_of source octets) answer asked old step new)
 IsReceived User source octets old step new = IsReceivedOnce User source octets old step new
 
 -- whatever two steps there are on a pair, one of them sends or opens
-abbrev pub EitherSendsOrOpens : Endpoint → List ℕ → CreateSessionResponse → CreateBearerRequest → GatewayState → Type 0
-EitherSendsOrOpens source octets answer asked old =
-    (first second : Effect) → MachineStep old.role old.node (first_comes source octets answer) first
-    → MachineStep old.role first.node (second_comes source octets asked) second → SendsOrOpens first ⊎ SendsOrOpens second
+abbrev pub EitherSendsOrOpens : Arrival → CreateSessionResponse → CreateBearerRequest → GatewayState → Type 0
+EitherSendsOrOpens arrival answer asked old =
+    (first second : Effect) → MachineStep old.role old.node (first_comes arrival answer) first
+    → MachineStep old.role first.node (second_comes arrival asked) second → SendsOrOpens first ⊎ SendsOrOpens second
 
 -- where no memory could be had for a datagram of the control plane, something was to be sent for it, or a context was to be opened
-abbrev pub ControlMayRunOut : Endpoint → List ℕ → GatewayState → Type 0
-ControlMayRunOut source octets old = ByPair source octets old (ControlSendsOrOpens source octets old) (λ answer asked. EitherSendsOrOpens source octets answer asked old)
+abbrev pub ControlMayRunOut : Arrival → GatewayState → Type 0
+ControlMayRunOut arrival old = ByPair arrival old (ControlSendsOrOpens arrival old) (λ answer asked. EitherSendsOrOpens arrival answer asked old)
 
 -- the same on either plane
 abbrev pub MayRunOut : Plane → Endpoint → List ℕ → GatewayState → Type 0
-MayRunOut Control source octets old = ControlMayRunOut source octets old
+MayRunOut Control source octets old = ControlMayRunOut (arrival_of source octets) old
 MayRunOut User source octets old = IsAnswered source octets old
 
 -- what ticks go by, after a datagram of the control plane: the answer to a pair is held by the octets of its second message
-abbrev pub QueuesAfterControl : Endpoint → List ℕ → GatewayState → GatewayState → Type 0
-QueuesAfterControl source octets old new = ByPair source octets old (QueuesAfterMessage source octets old new) (λ answer asked. QueuesAfterMessage source (second_part octets) old new)
+abbrev pub QueuesAfterControl : Arrival → GatewayState → GatewayState → Type 0
+QueuesAfterControl arrival old new = ByPair arrival old (QueuesAfterMessage arrival old new) (λ answer asked. QueuesAfterMessage (second_arrival arrival) old new)
 
 -- what ticks go by, after a datagram: the requests that are still pending wait on; after one of the control plane one more may wait, and an answer that was given
 -- is held from now on, and one of the user plane changes nothing, but where bearers go that the peer does not know; and it is what the node keeps
 abbrev pub QueuesAfterReceive : Plane → Endpoint → List ℕ → Step → GatewayState → GatewayState → Type 0
-QueuesAfterReceive Control source octets step old new = QueuesAfterControl source octets old new
+QueuesAfterReceive Control source octets step old new = QueuesAfterControl (arrival_of source octets) old new
 QueuesAfterReceive User source octets step old new = (step.report.outcome ≢ Broken → new.queues ≡ old.queues) × RequestsWaitOn old new × NodeMatchesQueues new
 
 -- what a datagram of the control plane comes to
@@ -113,5 +114,5 @@ abbrev pub of_control : ControlStep → Step
 of_control s = record { out = s.out; accepted = None; report = s.report }
 
 -- a datagram of the control plane was taken: a pair that the gateway takes message by message, and any other as a whole
-abbrev pub IsControlTaken : Endpoint → List ℕ → GatewayState → ControlStep → GatewayState → Type 0
-IsControlTaken source octets old step new = ByPair source octets old (IsTaken source octets old step new) (λ answer asked. AreReceived source octets answer asked old (of_control step) new)
+abbrev pub IsControlTaken : Arrival → GatewayState → ControlStep → GatewayState → Type 0
+IsControlTaken arrival old step new = ByPair arrival old (IsTaken arrival old step new) (λ answer asked. AreReceived arrival answer asked old (of_control step) new)

@@ -1,6 +1,5 @@
 -- Datagrams that were taken.
-use Rattle.std.specs.Prelude.{◌≡◌, ℕ, Bool, true, false, List, [], ◌∷◌, Option, Some, None, option_map}
-use Rattle.gtp_values.specs.declared.address.Endpoint.{Endpoint}
+use Rattle.std.specs.Prelude.{◌≡◌, Bool, true, false, List, [], ◌∷◌, Option, Some, None, option_map}
 use Rattle.gtp_reliable.specs.Held.{HeldPair, IsHeld}
 use Rattle.gtp_values.specs.FiniteMap.{Among}
 use Rattle.gtp_machine.specs.Node.{Arrival, Held, Node}
@@ -15,7 +14,6 @@ use Rattle.gtp_gateway.specs.declared.step.Report.{Report}
 use Rattle.gtp_gateway.specs.declared.step.ControlStep.{ControlStep}
 use Rattle.gtp_gateway.specs.declared.receive.BeforeReading.{BeforeReading}
 use Rattle.gtp_gateway.specs.declared.receive.BeforeReading.TheVariants.{Settled, New}
-use Rattle.gtp_gateway.specs.Parts.{arrival_of}
 use Rattle.gtp_gateway.specs.messages.Sent.{datagram_by, AreSent}
 use Rattle.gtp_gateway.specs.GatewayState.{GatewayState}
 
@@ -45,45 +43,45 @@ pub record Tells (old : GatewayState) (request : Arrival) (step : ControlStep) (
   pub all : e.out ≡ record nothing { sent = e.out.sent; heard = e.out.heard; learned = e.out.learned; made = e.out.made }
 
 -- octets of the control plane were taken that read so: that is a step of the machine
-pub record IsTakenAs (reading : ControlReading) (source : Endpoint) (octets : List ℕ) (old : GatewayState) (step : ControlStep) (new : GatewayState) : Type 0 where
+pub record IsTakenAs (reading : ControlReading) (arrival : Arrival) (old : GatewayState) (step : ControlStep) (new : GatewayState) : Type 0 where
   pub effect : Effect
-  pub takes : MachineStep old.role old.node (Control_came (arrival_of source octets) reading) effect
-  pub tells : Tells old (arrival_of source octets) step effect
+  pub takes : MachineStep old.role old.node (Control_came arrival reading) effect
+  pub tells : Tells old arrival step effect
   pub becomes : new.node ≡ effect.node
   pub role : new.role ≡ old.role
 
 -- a datagram of the control plane was taken: that is a step of the machine, on what it is taken for
-abbrev pub IsTaken : Endpoint → List ℕ → GatewayState → ControlStep → GatewayState → Type 0
-IsTaken source octets = IsTakenAs (taken_as (datagram_reading octets)) source octets
+abbrev pub IsTaken : Arrival → GatewayState → ControlStep → GatewayState → Type 0
+IsTaken arrival = IsTakenAs (taken_as (datagram_reading arrival.octets)) arrival
 
 -- a datagram that comes from the peer, and for which no answer is held
-pub record IsUnheld (source : Endpoint) (octets : List ℕ) (old : GatewayState) (pairs : List HeldPair) : Type 0 where
-  pub peer : source.ip ≡ old.node.config.peer.control
-  pub new : IsNew old.node (arrival_of source octets)
-  pub none : IsHeld source octets pairs → ⊥
+pub record IsUnheld (arrival : Arrival) (old : GatewayState) (pairs : List HeldPair) : Type 0 where
+  pub peer : arrival.source.ip ≡ old.node.config.peer.control
+  pub new : IsNew old.node arrival
+  pub none : IsHeld arrival.source arrival.octets pairs → ⊥
 
 -- the same of octets that announce no second message
-pub record IsFresh (source : Endpoint) (octets : List ℕ) (old : GatewayState) (pairs : List HeldPair) : Type 0 where
-  pub peer : source.ip ≡ old.node.config.peer.control
-  pub new : IsNew old.node (arrival_of source octets)
-  pub none : IsHeld source octets pairs → ⊥
-  pub alone : announces octets ≡ false
+pub record IsFresh (arrival : Arrival) (old : GatewayState) (pairs : List HeldPair) : Type 0 where
+  pub peer : arrival.source.ip ≡ old.node.config.peer.control
+  pub new : IsNew old.node arrival
+  pub none : IsHeld arrival.source arrival.octets pairs → ⊥
+  pub alone : announces arrival.octets ≡ false
 
 -- the datagram is no pair that the gateway takes
-abbrev pub IsNoPair : Endpoint → List ℕ → GatewayState → Type 0
-IsNoPair source octets old = TakesPair old.role old.node.config (arrival_of source octets) (datagram_reading octets) → ⊥
+abbrev pub IsNoPair : Arrival → GatewayState → Type 0
+IsNoPair arrival old = TakesPair old.role old.node.config arrival (datagram_reading arrival.octets) → ⊥
 
 -- what is known of a datagram before it is read: it is no pair, was taken, and changed nothing; or it is from the peer, and no answer is held for it
-abbrev pub IsEntered : Endpoint → List ℕ → GatewayState → List HeldPair → BeforeReading → Type 0
-IsEntered source octets old pairs (Settled step) = IsNoPair source octets old × IsTaken source octets old step old
-IsEntered source octets old pairs New = IsUnheld source octets old pairs
+abbrev pub IsEntered : Arrival → GatewayState → List HeldPair → BeforeReading → Type 0
+IsEntered arrival old pairs (Settled step) = IsNoPair arrival old × IsTaken arrival old step old
+IsEntered arrival old pairs New = IsUnheld arrival old pairs
 
 -- an answer that is held for the request, as it is sent again
-pub record IsSentAgain (source : Endpoint) (octets : List ℕ) (node : Node) (sent : Sent) : Type 0 where
+pub record IsSentAgain (arrival : Arrival) (node : Node) (sent : Sent) : Type 0 where
   pub held : Held
   pub stands : Among held node.held
-  pub same : held.request ≡ arrival_of source octets
-  pub again : AreSent node.config (datagram_by sent ∷ []) (record { destination = source; messages = held.answer } ∷ [])
+  pub same : held.request ≡ arrival
+  pub again : AreSent node.config (datagram_by sent ∷ []) (record { destination = arrival.source; messages = held.answer } ∷ [])
 
 -- the report on two messages: on the first, with what the second came to, and whether a context was made for that
 abbrev pub followed_by : ControlStep → ControlStep → ControlStep

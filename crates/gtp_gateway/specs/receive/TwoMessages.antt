@@ -3,6 +3,7 @@ use Rattle.std.specs.Prelude.{◌≡◌, ℕ, ◌+◌, ◌*◌, List, ◌∷◌,
 use Rattle.gtp_v2.specs.Message.{MessageValue}
 use Rattle.gtp_v2.specs.Datagram.{IsMessage}
 use Rattle.gtp_v2.specs.Pair.{Announces}
+use Rattle.gtp_machine.specs.Node.{Arrival}
 
 -- the length of the first message, as its header states it
 abbrev pub first_length : List ℕ → ℕ
@@ -16,6 +17,13 @@ first_part octets = take (first_length octets) octets
 -- the octets after it, which are those of the second message
 abbrev pub second_part : List ℕ → List ℕ
 second_part octets = drop (first_length octets) octets
+
+-- the first message as it comes, by the octets in which it lies, and the second by its own
+abbrev pub first_arrival : Arrival → Arrival
+first_arrival arrival = record arrival { octets = first_part arrival.octets }
+
+abbrev pub second_arrival : Arrival → Arrival
+second_arrival arrival = record arrival { octets = second_part arrival.octets }
 
 -- the octets read as two messages, of which the second begins at this place
 pub record IsSecondAt (octets : List ℕ) (place : ℕ) : Type 0 where

@@ -10,7 +10,6 @@ ghost use Rattle.gtp_machine.specs.MessageType.{type_at};
 ghost use Rattle.gtp_machine.specs.declared.message_type.MessageType.TheVariants as types;
 ghost use Rattle.gtp_gateway.specs.receive.Choosing.{MakesLowestBearer};
 ghost use Rattle.gtp_gateway.specs.receive.CreateBearerRequest.{ReadsCreateBearer, SaysCreateBearer, HasFitCause, bearer_answer, TakesCreateBearerRequest};
-ghost use Rattle.gtp_machine.specs.Node.{Arrival};
 ghost use Rattle.gtp_machine.specs.Serving.{CreateBearerAsked};
 ghost use Rattle.gtp_gateway.specs.receive.Allocations.{AlwaysSendsOrOpens};
 ghost use Rattle.gtp_gateway.specs.messages.Own.{IsOwn};
@@ -22,13 +21,14 @@ use crate::messages::create_bearer::{create_bearer_response, no_resources_respon
 use crate::messages::elements::{own_end, plain_cause};
 use crate::messages::refusal::refusal;
 use crate::parts::Parts;
+use crate::receive::arrival::Arrival;
 use crate::receive::create_bearer_request::judge::{CreateBearerAnswer, CreateBearerVerdict};
 use crate::step::ControlStep;
 use gtp_machine::interface_types::S5S8_SGW_GTP_U;
 use gtp_machine::{DropReason, MessageType};
 use gtp_tables::View;
 use gtp_v2::{EbiValue, Message, MessageView};
-use gtp_values::{Below, Endpoint, FTeid, Memory, Seq, Teid};
+use gtp_values::{Below, FTeid, Memory, Seq, Teid};
 use std::alloc::Global;
 
 /// What a Create Bearer Request says, as far as the serving gateway looks at it.
@@ -115,21 +115,20 @@ impl Parts {
     pub fn take_create_bearer_request(
         &mut self,
         alloc: Global,
-        source: Endpoint,
-        octets: &[u8],
+        arrival: &Arrival<'_>,
         request: &BearerRequest,
     ) -> Result<ControlStep, Memory>
         requires whole { IsSoundState (state_of self.old) }
-        requires fresh { IsFresh source octets.now (state_of self.old) self.old.held.pairs }
-        ensures taken { IfOk result (λ step. TakesCreateBearerRequest source octets.now request.now
+        requires fresh { IsFresh arrival.now (state_of self.old) self.old.held.pairs }
+        ensures taken { IfOk result (λ step. TakesCreateBearerRequest arrival.now request.now
             (state_of self.old) step (state_of self.new)) }
         ensures goes { OnOk result
-            (QueuesAfterMessage source octets.now (state_of self.old) (state_of self.new)) }
+            (QueuesAfterMessage arrival.now (state_of self.old) (state_of self.new)) }
         ensures choices { IfOk result (λ step.
             step.report.made ≡ true → MakesLowestBearer (node_of self.old) (node_of self.new)) }
-        ensures memory { OnErr result ((arrival : Arrival) (q : messages.CreateBearerRequest)
+        ensures memory { OnErr result ((q : messages.CreateBearerRequest)
             → SaysCreateBearer request.now q
-            → AlwaysSendsOrOpens (CreateBearerAsked arrival q) (node_of self.old)) }
+            → AlwaysSendsOrOpens (CreateBearerAsked arrival.now q) (node_of self.old)) }
         ensures err { OnErr result (state_of self.new ≡ state_of self.old) }
     {
         if self.held.is_full() {
@@ -142,7 +141,7 @@ impl Parts {
         };
         let message = self.create_bearer_answer(alloc, request, &verdict)?;
         let answer = verdict.answer;
-        let out = self.answer(alloc, source, octets, &message, answer.change(request))?;
+        let out = self.answer(alloc, arrival, &message, answer.change(request))?;
         Ok(ControlStep::answered(out, answer.cause(), answer.is_granted()))
     }
 }

@@ -10,7 +10,6 @@ ghost use Rattle.gtp_gateway.specs.tables.Change.{changed_by};
 ghost use Rattle.gtp_gateway.specs.receive.Choosing.{MakesLowestSession};
 ghost use Rattle.gtp_gateway.specs.receive.CreateSessionRequest.{session_granted, bearer_granted, change_of, grants, CanGrant, IsRefusedSession, IsGrantedSession, TakesCreateSessionRequest};
 ghost use Rattle.gtp_machine.specs.Message as messages;
-ghost use Rattle.gtp_machine.specs.Node.{Arrival};
 ghost use Rattle.gtp_machine.specs.Packet.{CreateSessionAsked};
 ghost use Rattle.gtp_machine.specs.Reading.{control_message};
 ghost use Rattle.gtp_gateway.specs.messages.Own.{IsOwn};
@@ -27,6 +26,7 @@ use crate::messages::create_session::{create_session_response, session_cause};
 use crate::messages::elements::own_end;
 use crate::messages::refusal::refusal;
 use crate::parts::Parts;
+use crate::receive::arrival::Arrival;
 use crate::receive::create_session_request::judge::{CreateSessionVerdict, SessionGrant, refused};
 use crate::receive::create_session_request::read::SessionRequest;
 use crate::receive::restart_counter::Heard;
@@ -35,7 +35,7 @@ use gtp_machine::interface_types::{S5S8_PGW_GTP_C, S5S8_PGW_GTP_U};
 use gtp_machine::{DropReason, MessageType};
 use gtp_tables::{Bearer, Kind, Session, State, Subscriber};
 use gtp_v2::Message;
-use gtp_values::{Cause, Endpoint, Memory};
+use gtp_values::{Cause, Memory};
 use std::alloc::Global;
 
 /// The session that is granted, active at once.
@@ -126,8 +126,7 @@ impl Parts {
     fn refuse_session(
         &mut self,
         alloc: Global,
-        source: Endpoint,
-        octets: &[u8],
+        arrival: &Arrival<'_>,
         request: &SessionRequest,
         cause: Cause,
         heard: Heard,
@@ -135,11 +134,11 @@ impl Parts {
         requires weighed { IsHeard heard self.old.peer }
         requires refuses { is_accepting_value cause.value ≡ false }
         requires few { length self.old.held.pairs < 4096 }
-        requires fresh { IsFresh source octets.now (state_of self.old) self.old.held.pairs }
-        ensures refused { IfOk result (λ step. IsRefusedSession source octets.now request.now cause
+        requires fresh { IsFresh arrival.now (state_of self.old) self.old.held.pairs }
+        ensures refused { IfOk result (λ step. IsRefusedSession arrival.now request.now cause
             heard (state_of self.old) step (state_of self.new)) }
         ensures goes { OnOk result
-            (QueuesAfterMessage source octets.now (state_of self.old) (state_of self.new)) }
+            (QueuesAfterMessage arrival.now (state_of self.old) (state_of self.new)) }
         ensures err { OnErr result (state_of self.new ≡ state_of self.old) }
     {
         let number = cause.value;
@@ -153,9 +152,9 @@ impl Parts {
             cause,
             counter,
         )?;
-        let ready = self.ready_answer(alloc, octets, &message)?;
+        let ready = self.ready_answer(alloc, arrival, &message)?;
         self.hear(heard);
-        let out = self.send_answer(source, ready);
+        let out = self.send_answer(arrival, ready);
         Ok(ControlStep::answered(out, number, false))
     }
 
@@ -164,8 +163,7 @@ impl Parts {
     fn grant_session(
         &mut self,
         alloc: Global,
-        source: Endpoint,
-        octets: &[u8],
+        arrival: &Arrival<'_>,
         request: &SessionRequest,
         grant: &SessionGrant,
         heard: Heard,
@@ -173,18 +171,18 @@ impl Parts {
         requires weighed { IsHeard heard self.old.peer }
         requires can { CanGrant grant.now (node_of self.old) }
         requires few { length self.old.held.pairs < 4096 }
-        requires fresh { IsFresh source octets.now (state_of self.old) self.old.held.pairs }
+        requires fresh { IsFresh arrival.now (state_of self.old) self.old.held.pairs }
         ensures granted { IfOk result (λ step.
-            IsGrantedSession source octets.now request.now grant.now
+            IsGrantedSession arrival.now request.now grant.now
             heard (state_of self.old) step (state_of self.new)) }
         ensures goes { OnOk result
-            (QueuesAfterMessage source octets.now (state_of self.old) (state_of self.new)) }
+            (QueuesAfterMessage arrival.now (state_of self.old) (state_of self.new)) }
         ensures err { OnErr result (state_of self.new ≡ state_of self.old) }
     {
         let message = self.granting(alloc, request, grant)?;
-        let ready = self.ready_answer(alloc, octets, &message)?;
+        let ready = self.ready_answer(alloc, arrival, &message)?;
         self.make_granted(request, grant, heard)?;
-        let out = self.send_answer(source, ready);
+        let out = self.send_answer(arrival, ready);
         Ok(ControlStep::answered(out, session_cause(request.pdn, grant.address), true))
     }
 
@@ -193,22 +191,22 @@ impl Parts {
     pub fn take_create_session_request(
         &mut self,
         alloc: Global,
-        source: Endpoint,
-        octets: &[u8],
+        arrival: &Arrival<'_>,
         request: &SessionRequest,
         heard: Heard,
     ) -> Result<ControlStep, Memory>
         requires whole { IsSoundState (state_of self.old) }
         requires weighed { IsHeard heard self.old.peer }
-        requires fresh { IsFresh source octets.now (state_of self.old) self.old.held.pairs }
-        ensures taken { IfOk result (λ step. TakesCreateSessionRequest source octets.now request.now
+        requires fresh { IsFresh arrival.now (state_of self.old) self.old.held.pairs }
+        ensures taken { IfOk result (λ step. TakesCreateSessionRequest arrival.now request.now
             heard (state_of self.old) step (state_of self.new)) }
         ensures goes { OnOk result
-            (QueuesAfterMessage source octets.now (state_of self.old) (state_of self.new)) }
+            (QueuesAfterMessage arrival.now (state_of self.old) (state_of self.new)) }
         ensures choices { IfOk result (λ step.
             step.report.made ≡ true → MakesLowestSession (node_of self.old) (node_of self.new)) }
-        ensures memory { OnErr result ((arrival : Arrival) (q : messages.CreateSessionRequest)
-            → AlwaysSendsOrOpens (CreateSessionAsked arrival q) (node_heard heard (node_of self.old))) }
+        ensures memory { OnErr result ((q : messages.CreateSessionRequest)
+            → AlwaysSendsOrOpens (CreateSessionAsked arrival.now q)
+            (node_heard heard (node_of self.old))) }
         ensures err { OnErr result (state_of self.new ≡ state_of self.old) }
     {
         if self.held.is_full() {
@@ -217,13 +215,13 @@ impl Parts {
         }
         match self.judge_create_session(request, heard) {
             CreateSessionVerdict::Refused(cause) => {
-                self.refuse_session(alloc, source, octets, request, cause, heard)
+                self.refuse_session(alloc, arrival, request, cause, heard)
             }
             CreateSessionVerdict::Granted(grant) => {
-                self.grant_session(alloc, source, octets, request, &grant, heard)
+                self.grant_session(alloc, arrival, request, &grant, heard)
             }
             CreateSessionVerdict::GrantedWith { grant, added } => {
-                self.grant_with(alloc, source, octets, request, &grant, &added, heard)
+                self.grant_with(alloc, arrival, request, &grant, &added, heard)
             }
         }
     }

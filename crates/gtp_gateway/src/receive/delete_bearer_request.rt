@@ -6,7 +6,6 @@ pub mod identities;
 ghost use Rattle.gtp_gateway.specs.receive.Queues.{QueuesAfterMessage};
 ghost use Rattle.std.specs.Prelude.{◌≡◌, ℕ, ◌<◌, List, length, false, IfOk, OnOk, OnErr};
 ghost use Rattle.gtp_v2.specs.DeleteBearerRequest.{delete_bearer_request};
-ghost use Rattle.gtp_machine.specs.Node.{Arrival};
 ghost use Rattle.gtp_machine.specs.Serving.{DeleteBearerAsked};
 ghost use Rattle.gtp_gateway.specs.receive.DeleteBearerRequest.{delete_bearer_by, JudgesDeleteBearer, AnswersDeleteBearer, TakesDeleteBearerRequest};
 ghost use Rattle.gtp_gateway.specs.tables.Change.{CanChange};
@@ -18,12 +17,13 @@ ghost use Rattle.gtp_gateway.specs.receive.Taken.{IsFresh};
 use crate::messages::delete_bearer::delete_bearer_response;
 use crate::messages::elements::written_teid;
 use crate::parts::Parts;
+use crate::receive::arrival::Arrival;
 use crate::receive::delete_request::DeleteRequest;
 use crate::step::ControlStep;
 use crate::tables::change::Change;
 use gtp_machine::{DropReason, Outcome, causes};
 use gtp_v2::MessageView;
-use gtp_values::{Below, Endpoint, Memory, Seq, Teid};
+use gtp_values::{Below, Memory, Seq, Teid};
 use std::alloc::Global;
 
 /// An answer without bearer contexts, and what changes.
@@ -88,18 +88,17 @@ impl Parts {
     fn answer_delete_bearer(
         &mut self,
         alloc: Global,
-        source: Endpoint,
-        octets: &[u8],
+        arrival: &Arrival<'_>,
         seq: Seq,
         answer: &DeleteBearerAnswer,
     ) -> Result<ControlStep, Memory>
-        requires fresh { IsFresh source octets.now (state_of self.old) self.old.held.pairs }
+        requires fresh { IsFresh arrival.now (state_of self.old) self.old.held.pairs }
         requires few { length self.old.held.pairs < 4096 }
         requires can { CanChange answer.now.change (node_of self.old) }
-        ensures taken { IfOk result (λ step. AnswersDeleteBearer source octets.now seq answer.now
+        ensures taken { IfOk result (λ step. AnswersDeleteBearer arrival.now seq answer.now
             (state_of self.old) step (state_of self.new)) }
         ensures goes { OnOk result
-            (QueuesAfterMessage source octets.now (state_of self.old) (state_of self.new)) }
+            (QueuesAfterMessage arrival.now (state_of self.old) (state_of self.new)) }
         ensures unmade { IfOk result (λ step. step.report.made ≡ false) }
         ensures err { OnErr result (state_of self.new ≡ state_of self.old) }
     {
@@ -113,7 +112,7 @@ impl Parts {
             contexts,
             counter,
         );
-        let out = self.answer(alloc, source, octets, &message, answer.change)?;
+        let out = self.answer(alloc, arrival, &message, answer.change)?;
         Ok(ControlStep::sent(out, Outcome::Answered(answer.cause)))
     }
 
@@ -122,21 +121,20 @@ impl Parts {
     pub fn take_delete_bearer_request(
         &mut self,
         alloc: Global,
-        source: Endpoint,
-        octets: &[u8],
+        arrival: &Arrival<'_>,
         view: &MessageView<'_>,
         request: &DeleteRequest,
     ) -> Result<ControlStep, Memory>
         requires whole { IsSoundState (state_of self.old) }
-        requires fresh { IsFresh source octets.now (state_of self.old) self.old.held.pairs }
+        requires fresh { IsFresh arrival.now (state_of self.old) self.old.held.pairs }
         requires kind { view.now.message.kind ≡ delete_bearer_request.kind }
-        ensures taken { IfOk result (λ step. TakesDeleteBearerRequest source octets.now
+        ensures taken { IfOk result (λ step. TakesDeleteBearerRequest arrival.now
             view.now.message request.now (state_of self.old) step (state_of self.new)) }
         ensures goes { OnOk result
-            (QueuesAfterMessage source octets.now (state_of self.old) (state_of self.new)) }
+            (QueuesAfterMessage arrival.now (state_of self.old) (state_of self.new)) }
         ensures unmade { IfOk result (λ step. step.report.made ≡ false) }
-        ensures memory { OnErr result ((arrival : Arrival) (identities : List ℕ) → AlwaysSendsOrOpens
-            (DeleteBearerAsked arrival (delete_bearer_by request.now identities))
+        ensures memory { OnErr result ((identities : List ℕ) → AlwaysSendsOrOpens
+            (DeleteBearerAsked arrival.now (delete_bearer_by request.now identities))
             (node_of self.old)) }
         ensures err { OnErr result (state_of self.new ≡ state_of self.old) }
     {
@@ -148,10 +146,10 @@ impl Parts {
                 DropReason::ContextNotActive,
             )),
             DeleteBearerVerdict::Answered(answer) => {
-                self.answer_delete_bearer(alloc, source, octets, request.seq, &answer)
+                self.answer_delete_bearer(alloc, arrival, request.seq, &answer)
             }
             DeleteBearerVerdict::Bearers { header } => {
-                self.end_listed(alloc, source, octets, view, request, header)
+                self.end_listed(alloc, arrival, view, request, header)
             }
         }
     }

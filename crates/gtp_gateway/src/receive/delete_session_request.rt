@@ -2,7 +2,6 @@
 
 ghost use Rattle.gtp_gateway.specs.receive.Queues.{QueuesAfterMessage};
 ghost use Rattle.std.specs.Prelude.{◌≡◌, ◌↔◌, false, IsTrue, IfOk, OnOk, OnErr};
-ghost use Rattle.gtp_machine.specs.Node.{Arrival};
 ghost use Rattle.gtp_machine.specs.Packet.{IsLinkedTo, DeleteSessionAsked};
 ghost use Rattle.gtp_gateway.specs.receive.DeleteSessionRequest.{delete_session_by, JudgesDeleteSession, TakesDeleteSessionRequest};
 ghost use Rattle.gtp_gateway.specs.receive.Allocations.{AlwaysSendsOrOpens};
@@ -13,12 +12,13 @@ ghost use Rattle.gtp_gateway.specs.receive.Taken.{IsFresh};
 use crate::messages::delete_session::delete_session_response;
 use crate::messages::elements::{plain_cause, written_teid};
 use crate::parts::Parts;
+use crate::receive::arrival::Arrival;
 use crate::receive::delete_request::DeleteRequest;
 use crate::step::ControlStep;
 use crate::tables::change::Change;
 use gtp_machine::{DropReason, Outcome, causes};
 use gtp_tables::Session;
-use gtp_values::{Below, Endpoint, Memory, Teid};
+use gtp_values::{Below, Memory, Teid};
 use std::alloc::Global;
 
 /// What the request comes to: the header and the cause of its answer, and what changes.
@@ -71,19 +71,17 @@ impl Parts {
     pub fn take_delete_session_request(
         &mut self,
         alloc: Global,
-        source: Endpoint,
-        octets: &[u8],
+        arrival: &Arrival<'_>,
         request: &DeleteRequest,
     ) -> Result<ControlStep, Memory>
-        requires fresh { IsFresh source octets.now (state_of self.old) self.old.held.pairs }
-        ensures taken { IfOk result (λ step. TakesDeleteSessionRequest source octets.now request.now
+        requires fresh { IsFresh arrival.now (state_of self.old) self.old.held.pairs }
+        ensures taken { IfOk result (λ step. TakesDeleteSessionRequest arrival.now request.now
             (state_of self.old) step (state_of self.new)) }
         ensures goes { OnOk result
-            (QueuesAfterMessage source octets.now (state_of self.old) (state_of self.new)) }
+            (QueuesAfterMessage arrival.now (state_of self.old) (state_of self.new)) }
         ensures unmade { IfOk result (λ step. step.report.made ≡ false) }
-        ensures memory { OnErr result ((arrival : Arrival)
-            → AlwaysSendsOrOpens (DeleteSessionAsked arrival (delete_session_by request.now))
-            (node_of self.old)) }
+        ensures memory { OnErr result (AlwaysSendsOrOpens
+            (DeleteSessionAsked arrival.now (delete_session_by request.now)) (node_of self.old)) }
         ensures err { OnErr result (state_of self.new ≡ state_of self.old) }
     {
         if self.held.is_full() {
@@ -96,7 +94,7 @@ impl Parts {
             plain_cause(verdict.cause),
             self.draws.counter(),
         );
-        let out = self.answer(alloc, source, octets, &message, verdict.change)?;
+        let out = self.answer(alloc, arrival, &message, verdict.change)?;
         Ok(ControlStep::sent(out, Outcome::Answered(verdict.cause)))
     }
 }

@@ -9,10 +9,11 @@ ghost use Rattle.gtp_gateway.specs.receive.Echo.{AnswersEcho, TakesEchoResponse}
 use crate::command::purpose::Asked;
 use crate::messages::echo::echo_response;
 use crate::parts::Parts;
+use crate::receive::arrival::Arrival;
 use crate::receive::restart_counter::Heard;
 use crate::step::ControlStep;
 use gtp_machine::Outcome;
-use gtp_values::{Endpoint, Memory, Seq};
+use gtp_values::{Memory, Seq};
 use std::alloc::Global;
 
 impl Parts {
@@ -21,19 +22,19 @@ impl Parts {
     pub fn take_echo_request(
         &mut self,
         alloc: Global,
-        source: Endpoint,
+        arrival: &Arrival<'_>,
         seq: Seq,
         heard: Heard,
     ) -> Result<ControlStep, Memory>
         requires weighed { IsHeard heard self.old.peer }
-        ensures taken { IfOk result (λ step. AnswersEcho source seq heard
+        ensures taken { IfOk result (λ step. AnswersEcho arrival.now seq heard
             (state_of self.old) step (state_of self.new)) }
         ensures waits { OnOk result (RequestsWaitOn (state_of self.old) (state_of self.new)) }
         ensures unmade { IfOk result (λ step. step.report.made ≡ false) }
         ensures err { OnErr result (state_of self.new ≡ state_of self.old) }
     {
         let message = echo_response(seq, self.draws.counter());
-        let out = self.reply(alloc, source, &message)?;
+        let out = self.reply(alloc, arrival, &message)?;
         self.hear(heard);
         Ok(ControlStep::sent(out, Outcome::Echoed))
     }

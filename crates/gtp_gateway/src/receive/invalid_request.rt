@@ -13,11 +13,12 @@ ghost use Rattle.gtp_gateway.specs.declared.receive.invalid_request.Flaw.TheVari
 use crate::messages::elements::{fault_cause, written_teid};
 use crate::messages::refusal::refusal;
 use crate::parts::Parts;
+use crate::receive::arrival::Arrival;
 use crate::step::ControlStep;
 use gtp_machine::{DropReason, FaultName, MessageType, Outcome, Plane, causes};
 use gtp_tables::State;
 use gtp_v2::{BAD_ELEMENT, MISSING_ELEMENT};
-use gtp_values::{Below, Endpoint, FTeid, Memory, Seq, Teid};
+use gtp_values::{Below, FTeid, Memory, Seq, Teid};
 use std::alloc::Global;
 
 /// Why an element of a request cannot be taken (TS 29.274 7.7.6 to 7.7.8).
@@ -120,12 +121,12 @@ impl Parts {
     fn answer_fault(
         &self,
         alloc: Global,
-        source: Endpoint,
+        arrival: &Arrival<'_>,
         faulty: &FaultyRequest,
     ) -> Result<ControlStep, Memory>
         requires { answers_type self.now.role faulty.now.kind ≡ true }
         ensures taken { IfOk result (λ step.
-            IsFaultTaken source (reading_of (flaws.Faulty faulty.now))
+            IsFaultTaken arrival.now (reading_of (flaws.Faulty faulty.now))
             (state_of self.now) step) }
         ensures unmade { IfOk result (λ step. step.report.made ≡ false) }
     {
@@ -133,7 +134,7 @@ impl Parts {
         let header = self.faulty_header(faulty);
         let counter = self.draws.counter();
         let message = refusal(alloc, faulty.kind, header, faulty.seq, cause, counter)?;
-        let out = self.reply(alloc, source, &message)?;
+        let out = self.reply(alloc, arrival, &message)?;
         Ok(ControlStep::sent(out, Outcome::Answered(faulty.defect.cause())))
     }
 
@@ -142,20 +143,20 @@ impl Parts {
     pub fn take_flaw(
         &self,
         alloc: Global,
-        source: Endpoint,
+        arrival: &Arrival<'_>,
         flaw: &Flaw,
     ) -> Result<ControlStep, Memory>
         ensures taken { IfOk result (λ step.
-            IsFaultTaken source (reading_of flaw.now) (state_of self.now) step) }
+            IsFaultTaken arrival.now (reading_of flaw.now) (state_of self.now) step) }
         ensures unmade { IfOk result (λ step. step.report.made ≡ false) }
         ensures memory { OnErr result
-            (FaultSendsOrOpens source (reading_of flaw.now) (state_of self.now)) }
+            (FaultSendsOrOpens arrival.now (reading_of flaw.now) (state_of self.now)) }
     {
         match flaw {
             Flaw::Plain(number) => Ok(undecodable(*number)),
             Flaw::Faulty(faulty) => {
                 if faulty.kind.is_answered_by(self.role) {
-                    self.answer_fault(alloc, source, faulty)
+                    self.answer_fault(alloc, arrival, faulty)
                 } else {
                     Ok(undecodable(faulty.defect.number()))
                 }

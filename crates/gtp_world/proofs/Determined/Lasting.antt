@@ -9,7 +9,7 @@ use Rattle.gtp_machine.specs.Config.{Config}
 use Rattle.gtp_machine.specs.Message.{CreateSessionResponse, CreateBearerRequest, Plane, Control, User}
 use Rattle.gtp_machine.specs.declared.role.Role.{Role}
 use Rattle.gtp_machine.specs.declared.role.Role.TheVariants.{Serving, Packet}
-use Rattle.gtp_machine.specs.Node.{Node, fresh_node}
+use Rattle.gtp_machine.specs.Node.{Arrival, Node, fresh_node}
 use Rattle.gtp_machine.specs.Input.{Move, Input, Moves_on, Out, Effect}
 use Rattle.gtp_machine.specs.Move.{MoveStep}
 use Rattle.gtp_machine.specs.Spelling.{Datagram}
@@ -20,8 +20,8 @@ use Rattle.gtp_machine.specs.World.{EventOutcome, By, Event, Does, Tick, Deliver
 use Rattle.gtp_machine.proofs.Determined.Alike.{Fits}
 use Rattle.gtp_machine.proofs.Requests.ActsOnce.{reached_holds_once}
 use Rattle.gtp_gateway.specs.receive.Queues.{Beginning, begun_with, IsNext, waiting_on, QueuesAfterMessage}
-use Rattle.gtp_gateway.specs.receive.TwoMessages.{second_part}
-use Rattle.gtp_gateway.specs.Parts.{held_of, pending_in}
+use Rattle.gtp_gateway.specs.receive.TwoMessages.{second_arrival}
+use Rattle.gtp_gateway.specs.Parts.{arrival_of, held_of, pending_in}
 use Rattle.gtp_gateway.specs.receive.Received.{coming, first_comes, second_comes}
 use Rattle.gtp_gateway.specs.Settings.{Settings}
 use Rattle.gtp_gateway.specs.GatewayState.{Queues, GatewayState, starting, NodeMatchesQueues}
@@ -104,12 +104,12 @@ module _ (old new : GatewayState) (l : Lasts old) (stays : new.role ≡ old.role
 
 -- ---- what ticks go by
 
-pub keeps_goes : (plane : Plane) (source : Endpoint) (octets : List ℕ) (sent : List Datagram) (outcome : EventOutcome) (old new : GatewayState) → KeepsOn plane source octets sent outcome old new → QueuesAfterMessage source octets old new
+pub keeps_goes : (plane : Plane) (source : Endpoint) (octets : List ℕ) (sent : List Datagram) (outcome : EventOutcome) (old new : GatewayState) → KeepsOn plane source octets sent outcome old new → QueuesAfterMessage (arrival_of source octets) old new
 keeps_goes Control source octets sent outcome old new keeps = keeps
-keeps_goes User source octets sent outcome old new keeps = on_goes source octets old new keeps.1 keeps.2
+keeps_goes User source octets sent outcome old new keeps = on_goes (arrival_of source octets) old new keeps.1 keeps.2
 
-goes_apart : (source : Endpoint) (octets : List ℕ) (old new : GatewayState) → QueuesAfterMessage source octets old new → AreDistinct old.queues.waiting → AreDistinct new.queues.waiting
-goes_apart source octets old new goes apart = subst (λ (t : Queues). AreDistinct t.waiting) (sym goes.queues) (by goes.begun goes.next)
+goes_apart : (arrival : Arrival) (old new : GatewayState) → QueuesAfterMessage arrival old new → AreDistinct old.queues.waiting → AreDistinct new.queues.waiting
+goes_apart arrival old new goes apart = subst (λ (t : Queues). AreDistinct t.waiting) (sym goes.queues) (by goes.begun goes.next)
   where
     by : (begun : Option Beginning) → IsNext begun (waiting_on goes.stays old.queues) → AreDistinct (begun_with begun (waiting_on goes.stays old.queues)).waiting
     by None next = distinct_filter goes.stays old.queues.waiting apart
@@ -173,23 +173,23 @@ both_last : (v : WorldRecord) (role : Role) (state : GatewayState) (first second
 both_last v Serving state first second sent more late both l = record { serving = l; packet = both.packet }
 both_last v Packet state first second sent more late both l = record { serving = both.serving; packet = l }
 
-pair_last : (v : WorldRecord) (role : Role) (source : Endpoint) (octets : List ℕ) (answer : CreateSessionResponse) (asked : CreateBearerRequest) (late : Bool) (new : WorldRecord) → BothLast v → TakesBoth v role source octets answer asked late new → BothLast new
-pair_last v role source octets answer asked late new both t =
+pair_last : (v : WorldRecord) (role : Role) (arrival : Arrival) (answer : CreateSessionResponse) (asked : CreateBearerRequest) (late : Bool) (new : WorldRecord) → BothLast v → TakesBoth v role arrival answer asked late new → BothLast new
+pair_last v role arrival answer asked late new both t =
     let old = (gateway_in v role).state in
     let l = last_of v both role in
     subst (λ k. BothLast k) (sym t.becomes)
     (both_last v role t.state t.first t.second _ _ late both
-    (lasts_both old t.state l t.role_stays t.timed.tied (goes_apart source (second_part octets) old t.state t.timed l.apart) (first_comes source octets answer) (second_comes source octets asked) t.first t.second t.node t.step t.follows))
+    (lasts_both old t.state l t.role_stays t.timed.tied (goes_apart (second_arrival arrival) old t.state t.timed l.apart) (first_comes arrival answer) (second_comes arrival asked) t.first t.second t.node t.step t.follows))
 
 whole_last : (v : WorldRecord) (role : Role) (plane : Plane) (source : Endpoint) (octets : List ℕ) (late : Bool) (new : WorldRecord) → BothLast v → StepsOn v role (coming plane source octets) (KeepsOn plane source octets) late new → BothLast new
 whole_last v role plane source octets late new both t =
     let old = (gateway_in v role).state in
     let goes = keeps_goes plane source octets _ t.effect.outcome old t.state t.timed in
-    takes_last v role _ _ late new t both (goes.tied, goes_apart source octets old t.state goes (last_of v both role).apart)
+    takes_last v role _ _ late new t both (goes.tied, goes_apart (arrival_of source octets) old t.state goes (last_of v both role).apart)
 
 taken_last : (v : WorldRecord) (role : Role) (plane : Plane) (source : Endpoint) (octets : List ℕ) (late : Bool) (new : WorldRecord) → BothLast v → TakesOn v role plane source octets late new → BothLast new
 taken_last v role Control source octets late new both (inl (none, t)) = whole_last v role Control source octets late new both t
-taken_last v role Control source octets late new both (inr (pair, t)) = pair_last v role source octets pair.answer pair.asked late new both t
+taken_last v role Control source octets late new both (inr (pair, t)) = pair_last v role (arrival_of source octets) pair.answer pair.asked late new both t
 taken_last v role User source octets late new both t = whole_last v role User source octets late new both t
 
 brings_last : (v : WorldRecord) (sent : By Datagram) (octets : List ℕ) (late : Bool) (new : WorldRecord) → BothLast v → Brings v sent octets late new → BothLast new

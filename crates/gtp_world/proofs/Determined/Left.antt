@@ -15,7 +15,7 @@ use Rattle.gtp_reliable.specs.Waiting.{Waiting, Message, just_sent, next_tick, a
 use Rattle.gtp_reliable.specs.declared.waiting.NextTick.{NextTick}
 use Rattle.gtp_reliable.specs.declared.waiting.NextTick.TheVariants.{WaitsOn, SentAgain, GivenUp}
 use Rattle.gtp_machine.specs.Config.{control_end}
-use Rattle.gtp_machine.specs.Node.{PendingRequest, Node}
+use Rattle.gtp_machine.specs.Node.{Arrival, PendingRequest, Node}
 use Rattle.gtp_machine.specs.Spelling.{Datagram, spelled}
 use Rattle.gtp_machine.specs.Tick.{Due}
 use Rattle.gtp_machine.proofs.Basics.FiniteMaps.{found-insert, get-insert_same}
@@ -311,8 +311,8 @@ module _ (old : GatewayState) (brings : BringDrawn old.node) (tied : NodeMatches
   no_request : {new others : FiniteMap PendingRequest} (n : ℕ) (p : PendingRequest) (stays : Waiting Purpose → Bool) → WaitsBeside old.node.drawn new others n p → get (pending_in (filter stays old.queues.waiting)) n ≡ Some p → ⊥
   no_request n p stays waits found = waits.undrawn (brings n p waits.request (ap (λ (k : FiniteMap PendingRequest). get k n) tied.pending ∙ found_before stays old.queues.waiting n p apart found) waits.asked)
 
-  begun_among : (source : Endpoint) (octets : List ℕ) (new : GatewayState) (others : FiniteMap PendingRequest) (n : ℕ) (p : PendingRequest) → QueuesAfterMessage source octets old new → WaitsBeside old.node.drawn new.node.pending others n p → IsBegunAmong old others n
-  begun_among source octets new others n p goes waits = by goes.begun goes.next left
+  begun_among : (arrival : Arrival) (new : GatewayState) (others : FiniteMap PendingRequest) (n : ℕ) (p : PendingRequest) → QueuesAfterMessage arrival old new → WaitsBeside old.node.drawn new.node.pending others n p → IsBegunAmong old others n
+  begun_among arrival new others n p goes waits = by goes.begun goes.next left
     where
       left : pending_in (begun_with goes.begun (waiting_on goes.stays old.queues)).waiting ≡ insert others n p
       left = ap (λ (t : Queues). pending_in t.waiting) (sym goes.queues) ∙ (sym goes.tied.pending ∙ waits.is)
@@ -333,11 +333,11 @@ module _ (old : GatewayState) (brings : BringDrawn old.node) (tied : NodeMatches
           (found-insert stay b.number (pending_of (begins b)).1 n p (ap (λ (k : FiniteMap PendingRequest). get k n) both ∙ get-insert_same others n p))
 
 -- requests for bearers that two gateways begin that were alike have one number
-module _ (one other new left : GatewayState) (alike : AreLeftAlike one other) (apart : AreDistinct one.queues.waiting) (also : AreDistinct other.queues.waiting) (source : Endpoint) (octets : List ℕ) (m : QueuesAfterMessage source octets one new) (n : QueuesAfterMessage source octets other left) where
+module _ (one other new left : GatewayState) (alike : AreLeftAlike one other) (apart : AreDistinct one.queues.waiting) (also : AreDistinct other.queues.waiting) (arrival : Arrival) (m : QueuesAfterMessage arrival one new) (n : QueuesAfterMessage arrival other left) where
   pub number_begun : BringDrawn one.node → NodeMatchesQueues one → NodeMatchesQueues other → (others : FiniteMap PendingRequest) (x y : ℕ) (p q : PendingRequest) → WaitsBeside one.node.drawn new.node.pending others x p → WaitsBeside one.node.drawn left.node.pending others y q → x ≡ y
   number_begun brings tied tied_too others x y p q waits too =
-      let a = begun_among one brings tied apart source octets new others x p m waits in
-      let b = begun_among other (subst BringDrawn alike.node brings) tied_too also source octets left others y q n (subst (λ (k : Node). WaitsBeside k.drawn left.node.pending others y q) alike.node too) in
+      let a = begun_among one brings tied apart arrival new others x p m waits in
+      let b = begun_among other (subst BringDrawn alike.node brings) tied_too also arrival left others y q n (subst (λ (k : Node). WaitsBeside k.drawn left.node.pending others y q) alike.node too) in
       let same = same_filter a.stays b.stays one.queues.waiting other.queues.waiting alike.waiting apart also (a.beside ∙ sym b.beside) in
       one_next one.queues.next (filter a.stays one.queues.waiting) x y a.next (free_among one.queues.next (filter a.stays one.queues.waiting) (filter b.stays other.queues.waiting) same y (subst (λ k. IsNextFree k (filter b.stays other.queues.waiting) y) (sym alike.next) b.next))
 
@@ -373,17 +373,17 @@ module _ (one other new left : GatewayState) (alike : AreLeftAlike one other) (r
 
   module _ (apart : AreDistinct one.queues.waiting) (also : AreDistinct other.queues.waiting) where
     -- after a datagram
-    module _ (source : Endpoint) (octets : List ℕ) (m : QueuesAfterMessage source octets one new) (n : QueuesAfterMessage source octets other left) where
+    module _ (arrival : Arrival) (m : QueuesAfterMessage arrival one new) (n : QueuesAfterMessage arrival other left) where
       abbrev first : Option Beginning → Queues
-      first begun = record (begun_with begun (waiting_on m.stays one.queues)) { held = held_with source octets m.answer one.queues.held }
+      first begun = record (begun_with begun (waiting_on m.stays one.queues)) { held = held_with arrival.source arrival.octets m.answer one.queues.held }
 
       abbrev second : Option Beginning → Queues
-      second begun = record (begun_with begun (waiting_on n.stays other.queues)) { held = held_with source octets n.answer other.queues.held }
+      second begun = record (begun_with begun (waiting_on n.stays other.queues)) { held = held_with arrival.source arrival.octets n.answer other.queues.held }
 
       pending_alike : (x y : Option Beginning) → new.queues ≡ first x → left.queues ≡ second y → pending_in (first x).waiting ≡ pending_in (second y).waiting
       pending_alike x y p q = ap (λ (t : Queues). pending_in t.waiting) (sym p) ∙ (sym m.tied.pending ∙ (ap (λ (k : Node). k.pending) node ∙ (n.tied.pending ∙ ap (λ (t : Queues). pending_in t.waiting) q)))
 
-      held_alike : (x y : Option Beginning) → new.queues ≡ first x → left.queues ≡ second y → map held_of (held_with source octets m.answer one.queues.held) ≡ map held_of (held_with source octets n.answer other.queues.held)
+      held_alike : (x y : Option Beginning) → new.queues ≡ first x → left.queues ≡ second y → map held_of (held_with arrival.source arrival.octets m.answer one.queues.held) ≡ map held_of (held_with arrival.source arrival.octets n.answer other.queues.held)
       held_alike x y p q = ap (λ (t : Queues). map held_of t.held) (sym p) ∙ (sym m.tied.held ∙ (ap (λ (k : Node). k.held) node ∙ (n.tied.held ∙ ap (λ (t : Queues). map held_of t.held) q)))
 
       left_with : (x y : Option Beginning) → new.queues ≡ first x → left.queues ≡ second y → (first x).timers ≡ (second y).timers → (first x).next ≡ (second y).next → map waits_as (first x).waiting ≡ map waits_as (second y).waiting → AreLeftAlike new left
@@ -393,7 +393,7 @@ module _ (one other new left : GatewayState) (alike : AreLeftAlike one other) (r
         timers = ap (λ (t : Queues). t.timers) p ∙ (timers ∙ sym (ap (λ (t : Queues). t.timers) q));
         next = ap (λ (t : Queues). t.next) p ∙ (next ∙ sym (ap (λ (t : Queues). t.next) q));
         waiting = ap (λ (t : Queues). map waits_as t.waiting) p ∙ (waiting ∙ sym (ap (λ (t : Queues). map waits_as t.waiting) q));
-        held = ap (λ (t : Queues). map held_as t.held) p ∙ (same_held source octets m.answer n.answer one.queues.held other.queues.held alike.held (held_alike x y p q) ∙ sym (ap (λ (t : Queues). map held_as t.held) q));
+        held = ap (λ (t : Queues). map held_as t.held) p ∙ (same_held arrival.source arrival.octets m.answer n.answer one.queues.held other.queues.held alike.held (held_alike x y p q) ∙ sym (ap (λ (t : Queues). map held_as t.held) q));
       }
 
       by_begun : (x y : Option Beginning) → IsNext x (waiting_on m.stays one.queues) → IsNext y (waiting_on n.stays other.queues) → IsNew x one → IsNew y other → new.queues ≡ first x → left.queues ≡ second y → AreLeftAlike new left

@@ -30,7 +30,7 @@ use Rattle.gtp_gateway.specs.declared.command.purpose.Purpose.{Purpose}
 use Rattle.gtp_gateway.specs.receive.Choosing.{MakesLowestSession, MakesLowestBearer, MakesLowest}
 use Rattle.gtp_gateway.specs.Determined.{AreLeftAlike}
 use Rattle.gtp_gateway.specs.Parts.{arrival_of, pending_of, pending_in}
-use Rattle.gtp_gateway.specs.receive.TwoMessages.{first_part, second_part}
+use Rattle.gtp_gateway.specs.receive.TwoMessages.{second_arrival, first_arrival}
 use Rattle.gtp_gateway.specs.receive.Received.{coming, first_comes, second_comes}
 use Rattle.gtp_gateway.specs.Settings.{Settings}
 use Rattle.gtp_gateway.specs.GatewayState.{Queues, GatewayState, starting, NodeMatchesQueues}
@@ -238,19 +238,19 @@ module _ (u v : WorldRecord) (alike : WorldsAlike u v) (role : Role) (lasts : Bo
         one_effect one two stations l (coming plane source octets) t.effect s.effect t.step s.step t.state s.state t.node s.node t.role_stays s.role_stays
         goes.tied goes_too.tied t.lowest s.lowest (λ c is. absurd (no_command plane source octets c is))
         (λ request reading is others m n p q waits too.
-        number_begun one two t.state s.state stations l.apart k.apart source octets goes goes_too (lasts_bring one l) l.tied k.tied others m n p q
+        number_begun one two t.state s.state stations l.apart k.apart (arrival_of source octets) goes goes_too (lasts_bring one l) l.tied k.tied others m n p q
         (subst (λ (x : Node). WaitsBeside one.node.drawn x.pending others m p) (sym t.node) waits)
         (subst (λ (x : Node). WaitsBeside one.node.drawn x.pending others n q) (sym s.node) too)) in
         record {
           effect = same;
-          leaves = left_goes one two t.state s.state stations (t.role_stays ∙ (stations.role ∙ sym s.role_stays)) (t.node ∙ (ap (λ (x : Effect). x.node) same ∙ sym s.node)) l.apart k.apart source octets goes goes_too;
+          leaves = left_goes one two t.state s.state stations (t.role_stays ∙ (stations.role ∙ sym s.role_stays)) (t.node ∙ (ap (λ (x : Effect). x.node) same ∙ sym s.node)) l.apart k.apart (arrival_of source octets) goes goes_too;
         }
 
   -- ---- two messages of one datagram
 
-  module _ (source : Endpoint) (octets : List ℕ) (answer : CreateSessionResponse) (asked : CreateBearerRequest) (late : Bool) (new left : WorldRecord) (serves : one.role ≡ Serving) (t : TakesBoth u role source octets answer asked late new) (s : TakesBoth v role source octets answer asked late left) where
+  module _ (arrival : Arrival) (answer : CreateSessionResponse) (asked : CreateBearerRequest) (late : Bool) (new left : WorldRecord) (serves : one.role ≡ Serving) (t : TakesBoth u role arrival answer asked late new) (s : TakesBoth v role arrival answer asked late left) where
     abbrev lies : Arrival
-    lies = arrival_of source (first_part octets)
+    lies = first_arrival arrival
 
     not_packet : one.role ≡ Packet → ⊥
     not_packet packet = let apart : Serving ≡ Packet = sym serves ∙ packet in cc apart
@@ -261,7 +261,7 @@ module _ (u v : WorldRecord) (alike : WorldsAlike u v) (role : Role) (lasts : Bo
     -- the first chooses nothing
     first_one : t.first ≡ s.first
     first_one =
-        let input = first_comes source octets answer in
+        let input = first_comes arrival answer in
         let here = served input t.first t.step in
         let also = served input s.first (there one two stations (last_of u lasts role) input t.first s.first t.step s.step) in
         (both one two stations (last_of u lasts role) input t.first s.first t.step s.step).one (record {
@@ -276,11 +276,11 @@ module _ (u v : WorldRecord) (alike : WorldsAlike u v) (role : Role) (lasts : Bo
     mid = t.first.node
 
     -- the second finds one gateway
-    follows_too : Step one.role mid (second_comes source octets asked) s.second
-    follows_too = subst (λ (x : Effect). Step one.role x.node (second_comes source octets asked) s.second) (sym first_one) (subst (λ r. Step r s.first.node (second_comes source octets asked) s.second) (sym stations.role) s.follows)
+    follows_too : Step one.role mid (second_comes arrival asked) s.second
+    follows_too = subst (λ (x : Effect). Step one.role x.node (second_comes arrival asked) s.second) (sym first_one) (subst (λ r. Step r s.first.node (second_comes arrival asked) s.second) (sym stations.role) s.follows)
 
-    second_both : Alike one.role mid (second_comes source octets asked) t.second s.second
-    second_both = let m = mid_ready one (last_of u lasts role) (first_comes source octets answer) t.first t.step in step_done one.role mid (second_comes source octets asked) m.0 m.1 t.second s.second t.follows follows_too
+    second_both : Alike one.role mid (second_comes arrival asked) t.second s.second
+    second_both = let m = mid_ready one (last_of u lasts role) (first_comes arrival answer) t.first t.step in step_done one.role mid (second_comes arrival asked) m.0 m.1 t.second s.second t.follows follows_too
 
     -- what is the lowest beside what stood before the first is so beside what stands after it
     since : (new : Node) → MakesLowestBearer one.node new → MakesLowestBearer mid new
@@ -291,7 +291,7 @@ module _ (u v : WorldRecord) (alike : WorldsAlike u v) (role : Role) (lasts : Bo
       identity = l.identity;
       bearers = l.bearers;
       beside = l.beside;
-      before = none_from one.node mid (bearers_from lies answer one.node t.first (served (first_comes source octets answer) t.first t.step)) l.teid l.before;
+      before = none_from one.node mid (bearers_from lies answer one.node t.first (served (first_comes arrival answer) t.first t.step)) l.teid l.before;
       has = l.has;
       lowest = l.lowest;
     }
@@ -321,7 +321,7 @@ module _ (u v : WorldRecord) (alike : WorldsAlike u v) (role : Role) (lasts : Bo
     pair_left : AreLeftAlike t.state s.state
     pair_left =
         left_goes one two t.state s.state stations (t.role_stays ∙ (stations.role ∙ sym s.role_stays)) (t.node ∙ (ap (λ (x : Effect). x.node) second_one ∙ sym s.node))
-        (last_of u lasts role).apart (last_of v lasts_too role).apart source (second_part octets) t.timed s.timed
+        (last_of u lasts role).apart (last_of v lasts_too role).apart (second_arrival arrival) t.timed s.timed
 
     pair_becomes : kept_after_both v role s.state s.first s.second (sent_at (gateway_in v role) s.first.out) (sent_at (gateway_in v role) s.second.out) late ≡ kept_after_both v role s.state t.first t.second (sent_at (gateway_in u role) t.first.out) (sent_at (gateway_in u role) t.second.out) late
     pair_becomes = λ i. kept_after_both v role s.state (sym first_one i) (sym second_one i) (sym (same_sent t.first s.first first_one) i) (sym (same_sent t.second s.second second_one) i) late
@@ -415,13 +415,13 @@ module _ (u v : WorldRecord) (alike : WorldsAlike u v) (lasts : BothLast u) (las
     pair_here : Pairs v → Pairs u
     pair_here p = let s = (half_alike u v alike role).state in record { by = s.role ∙ p.by; peer = p.peer ∙ ap (λ (n : Node). n.config.peer.control) (sym s.node); answer = p.answer; asked = p.asked; is = p.is }
 
-    pairs_alike : (p : Pairs u) (q : Pairs v) → TakesBoth u role source octets p.answer p.asked late new → TakesBoth v role source octets q.answer q.asked late left → WorldsAlike new left
+    pairs_alike : (p : Pairs u) (q : Pairs v) → TakesBoth u role (arrival_of source octets) p.answer p.asked late new → TakesBoth v role (arrival_of source octets) q.answer q.asked late left → WorldsAlike new left
     pairs_alike p q t s =
         let both : Both (Create_session_response q.answer) (Create_bearer_request q.asked) ≡ Both (Create_session_response p.answer) (Create_bearer_request p.asked) = sym q.is ∙ p.is in
         let answer : q.answer ≡ p.answer = cc both in
         let asked : q.asked ≡ p.asked = cc both in
-        pair_alike u v alike role lasts lasts_too source octets p.answer p.asked late new left p.by t
-        (subst (λ k. TakesBoth v role source octets p.answer k late left) asked (subst (λ k. TakesBoth v role source octets k q.asked late left) answer s))
+        pair_alike u v alike role lasts lasts_too (arrival_of source octets) p.answer p.asked late new left p.by t
+        (subst (λ k. TakesBoth v role (arrival_of source octets) p.answer k late left) asked (subst (λ k. TakesBoth v role (arrival_of source octets) k q.asked late left) answer s))
 
     taken_alike : (plane : Plane) → TakesOn u role plane source octets late new → TakesOn v role plane source octets late left → WorldsAlike new left
     taken_alike Control (inl t) (inl s) = whole_alike Control t.1 s.1

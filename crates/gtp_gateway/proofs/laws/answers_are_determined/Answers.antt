@@ -1,5 +1,6 @@
 -- The laws are proved in `Determined`.
-use Rattle.gtp_gateway.proofs.Determined.{receives_one, begins_one, ticks_one}
+use Rattle.gtp_gateway.proofs.Determined.Pair.{receives_one}
+use Rattle.gtp_gateway.proofs.Determined.Command.{begins_one, ticks_one}
 use Rattle.gtp_gateway.proofs.laws.answers_are_determined.Goals as goal
 
 pub returns-clause-receive : goal.returns-clause-receive

@@ -24,6 +24,7 @@ use crate::messages::create_session::session_cause;
 use crate::messages::elements::{is_there, own_end};
 use crate::messages::encode::{EncodedPair, encode_both};
 use crate::parts::Parts;
+use crate::receive::arrival::Arrival;
 use crate::receive::create_session_request::judge::{AddedBearer, SessionGrant};
 use crate::receive::create_session_request::read::SessionRequest;
 use crate::receive::create_session_request::{granted_bearer, granted_session};
@@ -32,7 +33,7 @@ use crate::step::ControlStep;
 use crate::tables::contexts::pending_dedicated;
 use gtp_machine::interface_types::S5S8_PGW_GTP_U;
 use gtp_v2::Message;
-use gtp_values::{Endpoint, Memory};
+use gtp_values::Memory;
 use std::alloc::Global;
 
 impl Parts {
@@ -123,8 +124,7 @@ impl Parts {
     pub fn grant_with(
         &mut self,
         alloc: Global,
-        source: Endpoint,
-        octets: &[u8],
+        arrival: &Arrival<'_>,
         request: &SessionRequest,
         grant: &SessionGrant,
         added: &AddedBearer,
@@ -135,16 +135,16 @@ impl Parts {
         requires can { CanGrant grant.now (node_of self.old) }
         requires add { CanAdd grant.now.drawn added.now heard (state_of self.old) }
         requires few { length self.old.held.pairs < 4096 }
-        requires fresh { IsFresh source octets.now (state_of self.old) self.old.held.pairs }
+        requires fresh { IsFresh arrival.now (state_of self.old) self.old.held.pairs }
         ensures granted { IfOk result (λ step.
-            IsGrantedWith source octets.now request.now grant.now added.now
+            IsGrantedWith arrival.now request.now grant.now added.now
             heard (state_of self.old) step (state_of self.new)) }
         ensures goes { OnOk result
-            (QueuesAfterMessage source octets.now (state_of self.old) (state_of self.new)) }
+            (QueuesAfterMessage arrival.now (state_of self.old) (state_of self.new)) }
         ensures err { OnErr result (state_of self.new ≡ state_of self.old) }
     {
         let encoded = self.encode_granted(alloc, request, grant, added)?;
-        let ready = self.ready_octets(alloc, octets, encoded.both)?;
+        let ready = self.ready_octets(alloc, arrival, encoded.both)?;
         self.pending.reserve().map_err(|_| Memory)?;
         self.make_granted_with(request, grant, added, heard)?;
         let purpose = Purpose {
@@ -154,7 +154,7 @@ impl Parts {
             is_named: is_there(request.control.teid()),
         };
         self.begin_kept(added.seq, encoded.second, purpose);
-        let out = self.send_answer(source, ready);
+        let out = self.send_answer(arrival, ready);
         Ok(ControlStep::answered(out, session_cause(request.pdn, grant.address), true))
     }
 }

@@ -17,6 +17,7 @@ ghost use Rattle.gtp_gateway.specs.receive.Taken.{IsFresh};
 
 use crate::messages::delete_bearer::delete_bearer_response;
 use crate::parts::Parts;
+use crate::receive::arrival::Arrival;
 use crate::receive::delete_bearer_request::DeleteBearerAnswer;
 use crate::receive::delete_bearer_request::identities::{
     NamedBearer, cause_of_all, contexts_of, has_too_many, identities_in, is_named,
@@ -26,7 +27,7 @@ use crate::step::ControlStep;
 use crate::tables::change::Change;
 use gtp_machine::{Outcome, causes};
 use gtp_v2::{EbiValue, Message, MessageView};
-use gtp_values::{Ebi, Endpoint, Memory, Seq, Teid};
+use gtp_values::{Ebi, Memory, Seq, Teid};
 use std::alloc::Global;
 
 impl Parts {
@@ -117,31 +118,30 @@ impl Parts {
     fn end_named(
         &mut self,
         alloc: Global,
-        source: Endpoint,
-        octets: &[u8],
+        arrival: &Arrival<'_>,
         request: &DeleteRequest,
         header: Teid,
         identities: &[EbiValue],
     ) -> Result<ControlStep, Memory>
         requires whole { IsSoundState (state_of self.old) }
-        requires fresh { IsFresh source octets.now (state_of self.old) self.old.held.pairs }
+        requires fresh { IsFresh arrival.now (state_of self.old) self.old.held.pairs }
         requires few { length self.old.held.pairs < 4096 }
         requires asked { IsForBearers request.now header (node_of self.old) }
         requires short { length identities.now ≤ 11 }
-        ensures taken { IfOk result (λ step. EndsNamed source octets.now request.now identities.now
+        ensures taken { IfOk result (λ step. EndsNamed arrival.now request.now identities.now
             (state_of self.old) step (state_of self.new)) }
         ensures goes { OnOk result
-            (QueuesAfterMessage source octets.now (state_of self.old) (state_of self.new)) }
+            (QueuesAfterMessage arrival.now (state_of self.old) (state_of self.new)) }
         ensures unmade { IfOk result (λ step. step.report.made ≡ false) }
         ensures err { OnErr result (state_of self.new ≡ state_of self.old) }
     {
         let named = self.name_each(alloc, request.header, identities)?;
         let bearers = named.as_slice();
         let message = self.named_response(alloc, header, request.seq, bearers)?;
-        let ready = self.ready_answer(alloc, octets, &message)?;
+        let ready = self.ready_answer(alloc, arrival, &message)?;
         self.end_each(bearers);
         let outcome = Outcome::Answered(cause_of_all(bearers));
-        Ok(ControlStep::sent(self.send_answer(source, ready), outcome))
+        Ok(ControlStep::sent(self.send_answer(arrival, ready), outcome))
     }
 
     /// Takes a Delete Bearer Request for the bearers in its list, which is counted before memory is
@@ -150,21 +150,20 @@ impl Parts {
     pub fn end_listed(
         &mut self,
         alloc: Global,
-        source: Endpoint,
-        octets: &[u8],
+        arrival: &Arrival<'_>,
         view: &MessageView<'_>,
         request: &DeleteRequest,
         header: Teid,
     ) -> Result<ControlStep, Memory>
         requires whole { IsSoundState (state_of self.old) }
-        requires fresh { IsFresh source octets.now (state_of self.old) self.old.held.pairs }
+        requires fresh { IsFresh arrival.now (state_of self.old) self.old.held.pairs }
         requires few { length self.old.held.pairs < 4096 }
         requires asked { IsForBearers request.now header (node_of self.old) }
         requires kind { view.now.message.kind ≡ delete_bearer_request.kind }
-        ensures taken { IfOk result (λ step. TakesDeleteBearerRequest source octets.now
+        ensures taken { IfOk result (λ step. TakesDeleteBearerRequest arrival.now
             view.now.message request.now (state_of self.old) step (state_of self.new)) }
         ensures goes { OnOk result
-            (QueuesAfterMessage source octets.now (state_of self.old) (state_of self.new)) }
+            (QueuesAfterMessage arrival.now (state_of self.old) (state_of self.new)) }
         ensures unmade { IfOk result (λ step. step.report.made ≡ false) }
         ensures err { OnErr result (state_of self.new ≡ state_of self.old) }
     {
@@ -175,16 +174,9 @@ impl Parts {
                 linked: None,
                 change: Change::Stays,
             };
-            return self.answer_delete_bearer(alloc, source, octets, request.seq, &answer);
+            return self.answer_delete_bearer(alloc, arrival, request.seq, &answer);
         }
         let identities = identities_in(alloc, view)?;
-        self.end_named(
-            alloc,
-            source,
-            octets,
-            request,
-            header,
-            identities.as_slice(),
-        )
+        self.end_named(alloc, arrival, request, header, identities.as_slice())
     }
 }

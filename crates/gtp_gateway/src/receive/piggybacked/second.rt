@@ -19,6 +19,7 @@ ghost use Rattle.gtp_gateway.specs.receive.Taken.{IsFresh};
 ghost use Rattle.gtp_gateway.specs.user.Receive.{RequestsWaitOn};
 
 use crate::parts::Parts;
+use crate::receive::arrival::Arrival;
 use crate::receive::create_bearer_request::BearerRequest;
 use crate::receive::create_bearer_request::judge::{
     CreateBearerAnswer, CreateBearerVerdict, granted_bearer,
@@ -27,7 +28,7 @@ use crate::receive::restart_counter::Heard;
 use crate::step::ControlStep;
 use crate::tables::opening::ResponseVerdict;
 use gtp_tables::{Bearer, Draws, Session};
-use gtp_values::{Endpoint, Memory, Seq, Teid};
+use gtp_values::{Memory, Seq, Teid};
 use std::alloc::Global;
 
 /// The session under a TEID once a response is applied, by what was there before.
@@ -177,8 +178,7 @@ impl Parts {
     pub fn answer_second(
         &mut self,
         alloc: Global,
-        source: Endpoint,
-        octets: &[u8],
+        arrival: &Arrival<'_>,
         request: &BearerRequest,
         judged: &CreateBearerVerdict,
         seq: Seq,
@@ -190,27 +190,27 @@ impl Parts {
         requires of { IsOfSession verdict (node_heard heard (node_of self.old)) }
         requires serving { self.old.role ≡ Serving }
         requires few { length self.old.held.pairs < 4096 }
-        requires fresh { IsFresh source octets.now (state_of self.old) self.old.held.pairs }
+        requires fresh { IsFresh arrival.now (state_of self.old) self.old.held.pairs }
         requires judged { JudgesCreateBearer request.now
             (node_after_first heard verdict seq (node_of self.old)) (Some judged.now) }
         requires given { CanGive (map.get
             (node_after_first heard verdict seq (node_of self.old)).sessions
             request.now.header) judged.now.answer (node_of self.old) }
         requires fit { HasFitCause judged.now.answer }
-        ensures taken { IfOk result (λ step. IsSecondTaken source octets.now request.now
+        ensures taken { IfOk result (λ step. IsSecondTaken arrival.now request.now
             (state_after_first heard verdict seq (state_of self.old)) step (state_of self.new)) }
         ensures unheard { IfOk result (λ step.
             (step.report.heard ≡ None) × (step.report.restart ≡ None)) }
         ensures goes { OnOk result
-            (QueuesAfterMessage source octets.now (state_of self.old) (state_of self.new)) }
+            (QueuesAfterMessage arrival.now (state_of self.old) (state_of self.new)) }
         ensures choices { IfOk result (λ step.
             step.report.made ≡ true → MakesLowestBearer (node_of self.old) (node_of self.new)) }
         ensures err { OnErr result (state_of self.new ≡ state_of self.old) }
     {
         let message = self.create_bearer_answer(alloc, request, judged)?;
-        let ready = self.ready_answer(alloc, octets, &message)?;
+        let ready = self.ready_answer(alloc, arrival, &message)?;
         self.apply_both(seq, heard, verdict, request, &judged.answer)?;
-        let out = self.send_answer(source, ready);
+        let out = self.send_answer(arrival, ready);
         let answer = judged.answer;
         Ok(ControlStep::answered(out, answer.cause(), answer.is_granted()))
     }

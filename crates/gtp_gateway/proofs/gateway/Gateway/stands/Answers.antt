@@ -1,7 +1,7 @@
 use Rattle.std.proofs.Common.{subst}
 use Rattle.gtp_machine.specs.Determined.{OneAnswerPerRequest}
 use Rattle.gtp_gateway.specs.GatewayState.{GatewayState, NodeMatchesQueues, state_of}
-use Rattle.gtp_gateway.proofs.Determined.{held_once}
+use Rattle.gtp_gateway.proofs.Determined.Told.{held_once}
 use Rattle.gtp_gateway.proofs.QueuesAfter.{tied_of}
 use Rattle.gtp_gateway.proofs.gateway.Gateway.stands.Goals as goal
 

@@ -3,7 +3,7 @@ use Rattle.gtp_ie.specs.declared.value.ebi.EbiValue.{EbiValue}
 use Rattle.gtp_machine.specs.Message.{Delete_bearer_response}
 use Rattle.gtp_machine.specs.Reading.{removed_bearer}
 use Rattle.gtp_v2.specs.declared.body.delete_bearer_response.RemovalResponseContext.{RemovalResponseContext}
-use Rattle.gtp_gateway.proofs.DeleteBearerRequests.{delete_bearer_said, delete_bearer_own}
+use Rattle.gtp_gateway.proofs.DeleteBearerAnswers.{delete_bearer_said, delete_bearer_own}
 use Rattle.gtp_gateway.proofs.messages.delete_bearer.delete_bearer_response.Goals as goal
 
 pub returns-clause-own : goal.returns-clause-own

@@ -1,5 +1,4 @@
 use Rattle.std.proofs.Common.{◌≡◌, Some, refl, sym, ◌∙◌, ap, subst, [], ◌∷◌}
-use Rattle.gtp_values.specs.declared.address.Endpoint.{Endpoint}
 use Rattle.gtp_machine.specs.Answer.{faulted, refusing, faulty_header, defect_cause}
 use Rattle.gtp_machine.specs.Element.{cause_at}
 use Rattle.gtp_machine.specs.Input.{Faulty}
@@ -18,7 +17,7 @@ use Rattle.gtp_gateway.proofs.SentBack.{one_sent}
 use Rattle.gtp_gateway.proofs.parts.Parts.answer_fault.Goals as goal
 
 pub returns-clause-taken : goal.returns-clause-taken
-returns-clause-taken c = λ request from peer new.
+returns-clause-taken c = λ peer new.
     let old = state_of c.args.self.now in
     let node = node_of c.args.self.now in
     let f = c.args.faulty.now in
@@ -26,12 +25,12 @@ returns-clause-taken c = λ request from peer new.
     let cause = defect_cause (defect_of f.defect) in
     let m : Message = refusing f.kind (faulty_header node f.kind fault) f.seq (cause_at cause f.element f.instance) node.counter in
     let said : control_message c.in_ok-message.message ≡ m = c.in_ok-message.ensures.says ∙ (λ i. refusing f.kind (c.faulty_header-header.ensures i) f.seq ((c.fault_cause-cause.ensures ∙ ap (λ n. cause_at n f.element f.instance) c.cause.ensures) i) (c.counter-counter.ensures i)) in
-    let sent = c.in_ok-out.ensures.sent ∙ (λ i. datagram_of node.config (record { destination = sym from i; messages = said i ∷ [] })) in
+    let sent = c.in_ok-out.ensures.sent ∙ (λ i. datagram_of node.config (record { destination = c.args.arrival.now.source; messages = said i ∷ [] })) in
     let shown : c.sent.result ≡ record { out = Some c.in_ok-out.out; report = plain_report (Answered cause) } = c.sent.ensures ∙ ap (λ n. record { out = Some c.in_ok-out.out; report = plain_report (Answered n) }) c.cause-2.ensures in
-    subst (λ (s : ControlStep). IsFaultEffect request (Faulty fault) old s) (sym shown)
+    subst (λ (s : ControlStep). IsFaultEffect c.args.arrival.now (Faulty fault) old s) (sym shown)
     (record {
-      effect = faulted request fault node;
-      takes = fault_answered node request fault old.role c.requires (ap (λ (e : Endpoint). e.ip) from ∙ peer) new;
+      effect = faulted c.args.arrival.now fault node;
+      takes = fault_answered node c.args.arrival.now fault old.role c.requires peer new;
       tells = record { sent = one_sent node.config _ _ sent (subst (λ m. ReadsBack (m ∷ [])) said c.in_ok-out.ensures.back); outcome = refl; alone = refl; heard = refl; restart = refl; made = refl; all = refl };
       stays = refl;
     })

@@ -8,7 +8,8 @@ use Rattle.gtp_gateway.specs.receive.Piggybacked.{node_after_first}
 use Rattle.gtp_gateway.specs.Parts.{node_of}
 use Rattle.gtp_gateway.specs.tables.Opening.{CanApply}
 use Rattle.gtp_gateway.specs.GatewayState.{GatewayState}
-use Rattle.gtp_gateway.proofs.BeforeSecond.{settled_more, can_settle_more, settled_counter, settled_drawn}
+use Rattle.gtp_gateway.proofs.SecondGranted.{settled_more, can_settle_more}
+use Rattle.gtp_gateway.proofs.BeforeSecond.{settled_counter, settled_drawn}
 use Rattle.gtp_gateway.proofs.CreateSessionRequests.{none_above, taken_back}
 use Rattle.gtp_gateway.proofs.Opened.{succeeded, failed}
 use Rattle.gtp_gateway.proofs.parts.Parts.apply_and_make.Goals as goal

@@ -5,7 +5,7 @@ use Rattle.gtp_gateway.specs.declared.receive.create_bearer_request.judge.Create
 use Rattle.gtp_gateway.specs.receive.CreateBearerRequest.{CanGive, granted_to}
 use Rattle.gtp_gateway.specs.receive.Piggybacked.{node_after_first, MayStand}
 use Rattle.gtp_gateway.specs.Parts.{node_of}
-use Rattle.gtp_gateway.proofs.BeforeSecond.{may_stand}
+use Rattle.gtp_gateway.proofs.SecondGranted.{may_stand}
 use Rattle.gtp_gateway.proofs.parts.Parts.apply_both.Goals as goal
 
 pub apply_and_make-requires-clause-stands : goal.apply_and_make-requires-clause-stands

@@ -1,15 +1,20 @@
-use Rattle.std.proofs.Common.{inr, refl}
+use Rattle.std.proofs.Common.{inr, refl, ℕ}
 use Rattle.gtp_machine.specs.declared.role.Role.TheVariants.{Serving}
 use Rattle.gtp_machine.specs.Command.{ClosesSession}
-use Rattle.gtp_machine.specs.Input.{Delete_session}
+use Rattle.gtp_machine.specs.Input.{Delete_session, refused}
 use Rattle.gtp_gateway.specs.command.DeleteSession.{request_to_delete_session}
 use Rattle.gtp_gateway.specs.Parts.{node_of}
 use Rattle.gtp_gateway.specs.GatewayState.{state_of}
 use Rattle.gtp_gateway.proofs.ActiveSessions.{Asked, reaches, refused_first, last_refused}
 use Rattle.gtp_gateway.proofs.Commands.{done_by}
-use Rattle.gtp_gateway.proofs.Refusals.{delete_session_goes_on}
+use Rattle.gtp_gateway.proofs.Refusals.{asks_on}
 use Rattle.gtp_gateway.proofs.RequestsToSend.{as_err}
+use Rattle.gtp_machine.specs.Node.{Session, Node}
+use Rattle.gtp_machine.specs.declared.outcome.Refusal.{Refusal}
 use Rattle.gtp_gateway.proofs.parts.Parts.delete_session.Goals as goal
+
+delete_session_goes_on : (old : Node) (session : ℕ) (at : Session) (why : Refusal) → ClosesSession old session at (refused old why) → ⊥
+delete_session_goes_on old session at why closes = asks_on why closes.gives refl
 
 pub returns-in_err-at-clause-refused : goal.returns-in_err-at-clause-refused
 returns-in_err-at-clause-refused c =

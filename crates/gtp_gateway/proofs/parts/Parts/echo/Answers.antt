@@ -1,12 +1,17 @@
 use Rattle.std.proofs.Common.{inr, refl}
 use Rattle.gtp_machine.specs.Command.{SendsEcho}
-use Rattle.gtp_machine.specs.Input.{Send_echo}
+use Rattle.gtp_machine.specs.Input.{Send_echo, refused}
 use Rattle.gtp_gateway.specs.GatewayState.{state_of}
 use Rattle.gtp_gateway.specs.command.Echo.{request_to_echo}
 use Rattle.gtp_gateway.proofs.Commands.{done_by}
-use Rattle.gtp_gateway.proofs.Refusals.{echo_goes_on}
+use Rattle.gtp_gateway.proofs.Refusals.{asks_on}
 use Rattle.gtp_gateway.proofs.RequestsToSend.{as_err, last}
+use Rattle.gtp_machine.specs.Node.{Node}
+use Rattle.gtp_machine.specs.declared.outcome.Refusal.{Refusal}
 use Rattle.gtp_gateway.proofs.parts.Parts.echo.Goals as goal
+
+echo_goes_on : (old : Node) (why : Refusal) → SendsEcho old (refused old why) → ⊥
+echo_goes_on old why sends = asks_on why sends.gives refl
 
 pub returns-in_err-seq-clause-refused : goal.returns-in_err-seq-clause-refused
 returns-in_err-seq-clause-refused c = λ why.

@@ -9,7 +9,6 @@ use Rattle.gtp_machine.specs.Serving.{DeleteBearerJudged, delete_bearer_cause}
 use Rattle.gtp_machine.specs.Spelling.{spelled}
 use Rattle.gtp_gateway.specs.declared.receive.delete_bearer_request.identities.NamedBearer.{NamedBearer}
 use Rattle.gtp_gateway.specs.receive.DeleteBearerRequest.{delete_bearer_by, NamesEach, identity_named, number_in, removed_by, without_each}
-use Rattle.gtp_gateway.specs.Parts.{arrival_of}
 use Rattle.gtp_gateway.specs.messages.Sent.{ReadsBack}
 use Rattle.gtp_gateway.specs.GatewayState.{GatewayState, state_of}
 use Rattle.gtp_gateway.proofs.DeleteBearerRequests.{ends_judged}
@@ -20,7 +19,7 @@ use Rattle.gtp_gateway.proofs.parts.Parts.end_named.Goals as goal
 pub returns-clause-taken : goal.returns-clause-taken
 returns-clause-taken c =
     let old = state_of c.args.self.now in
-    let request = arrival_of c.args.source c.args.octets.now in
+    let arrival = c.args.arrival.now in
     let r = c.args.request.now in
     let header = c.args.header in
     let ids = c.args.identities.now in
@@ -33,13 +32,13 @@ returns-clause-taken c =
     let ready = c.in_ok-ready.ensures in
     let config = ap (λ s. s.config) c.end_each.ensures.only.config ∙ ap (λ (s : GatewayState). s.node.config) c.ready_answer.ensures.same in
     let left = c.end_each.ensures.node ∙ ap (λ (s : GatewayState). without_each ns s.node) c.ready_answer.ensures.same in
-    answers (DeleteBearerJudged request (delete_bearer_by r (map number_in ids))) request old (state_of c.send_answer.new.self) c.sent.result c.send_answer.result m c.cause_of_all.result (without_each ns old.node) c.sent.ensures
-    (c.send_answer.ensures.sent ∙ (λ i. record { plane = Control; from = control_end (config i).own.control; to = c.args.source; octets = (ready.octets ∙ ap spelled said) i }))
+    answers (DeleteBearerJudged arrival (delete_bearer_by r (map number_in ids))) arrival old (state_of c.send_answer.new.self) c.sent.result c.send_answer.result m c.cause_of_all.result (without_each ns old.node) c.sent.ensures
+    (c.send_answer.ensures.sent ∙ (λ i. record { plane = Control; from = control_end (config i).own.control; to = arrival.source; octets = (ready.octets ∙ ap spelled said) i }))
     (subst (λ m. ReadsBack (m ∷ [])) said ready.back)
-    (c.send_answer.ensures.node ∙ (λ i. holding (arrival_of c.args.source (ready.request i)) ((ready.read ∙ ap (λ m. m ∷ []) said) i) (left i)))
+    (c.send_answer.ensures.node ∙ (λ i. holding arrival ((ready.read ∙ ap (λ m. m ∷ []) said) i) (left i)))
     (c.send_answer.ensures.role ∙ (c.end_each.ensures.only.role ∙ ap (λ (s : GatewayState). s.role) c.ready_answer.ensures.same))
-    (subst (λ (cause : ℕ). DeleteBearerJudged request (delete_bearer_by r (map number_in ids)) old.node (answered request m cause (without_each ns old.node))) (sym c.cause_of_all.ensures)
-    (ends_judged request r old.node header ids ns c.requires.asked c.requires.short same names))
+    (subst (λ (cause : ℕ). DeleteBearerJudged arrival (delete_bearer_by r (map number_in ids)) old.node (answered arrival m cause (without_each ns old.node))) (sym c.cause_of_all.ensures)
+    (ends_judged arrival r old.node header ids ns c.requires.asked c.requires.short same names))
 
 pub returns-clause-goes : goal.returns-clause-goes
-returns-clause-goes c = readied_goes c.args.source c.args.octets.now (state_of c.args.self.now) _ (state_of c.end_each.new.self) c.send_answer.new.self _ c.in_ok-ready.ready.answer.items c.ready_answer.ensures.same c.in_ok-ready.ensures.request c.end_each.ensures.waits c.send_answer.ensures.queues
+returns-clause-goes c = readied_goes c.args.arrival.now (state_of c.args.self.now) _ (state_of c.end_each.new.self) c.send_answer.new.self c.in_ok-ready.ready.answer.items c.ready_answer.ensures.same c.end_each.ensures.waits c.send_answer.ensures.queues

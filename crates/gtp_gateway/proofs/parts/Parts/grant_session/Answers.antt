@@ -9,7 +9,6 @@ use Rattle.gtp_machine.specs.declared.outcome.Outcome.TheVariants.{Answered}
 use Rattle.gtp_gateway.specs.tables.Change.{changed_by}
 use Rattle.gtp_gateway.specs.receive.CreateSessionRequest.{change_of, grants}
 use Rattle.gtp_gateway.specs.receive.RestartCounter.{node_heard}
-use Rattle.gtp_gateway.specs.Parts.{arrival_of}
 use Rattle.gtp_gateway.specs.messages.Sent.{ReadsBack}
 use Rattle.gtp_gateway.specs.Settings.{Settings}
 use Rattle.gtp_gateway.specs.GatewayState.{GatewayState, state_of}
@@ -27,12 +26,12 @@ returns-clause-granted c =
     record {
       sent = c.send_answer-out.result;
       is = c.answered.ensures ∙ (λ i. record { out = Some c.send_answer-out.result; report = record (plain_report (Answered (c.session_cause.ensures i))) { made = true } });
-      goes = c.send_answer-out.ensures.sent ∙ (λ i. record { plane = Control; from = control_end (config i).own.control; to = c.args.source; octets = (ready.octets ∙ ap spelled said) i });
+      goes = c.send_answer-out.ensures.sent ∙ (λ i. record { plane = Control; from = control_end (config i).own.control; to = c.args.arrival.now.source; octets = (ready.octets ∙ ap spelled said) i });
       read = subst (λ m. ReadsBack (m ∷ [])) said ready.back;
       becomes = c.send_answer-out.ensures.node
-          ∙ (λ i. holding (arrival_of c.args.source (ready.request i)) ((ready.read ∙ ap (λ m. m ∷ []) said) i) ((c.in_ok-make_granted.ensures.node ∙ ap (λ (s : GatewayState). changed_by change (node_heard c.args.heard s.node)) same) i));
+          ∙ (λ i. holding c.args.arrival.now ((ready.read ∙ ap (λ m. m ∷ []) said) i) ((c.in_ok-make_granted.ensures.node ∙ ap (λ (s : GatewayState). changed_by change (node_heard c.args.heard s.node)) same) i));
       role = c.send_answer-out.ensures.role ∙ c.make_granted.ensures.only.role ∙ ap (λ (s : GatewayState). s.role) same;
     }
 
 pub returns-clause-goes : goal.returns-clause-goes
-returns-clause-goes c = readied_goes c.args.source c.args.octets.now (state_of c.args.self.now) _ (state_of c.make_granted.new.self) c.send_answer-out.new.self _ c.in_ok-ready.ready.answer.items c.ready_answer.ensures.same c.in_ok-ready.ensures.request c.make_granted.ensures.waits c.send_answer-out.ensures.queues
+returns-clause-goes c = readied_goes c.args.arrival.now (state_of c.args.self.now) _ (state_of c.make_granted.new.self) c.send_answer-out.new.self c.in_ok-ready.ready.answer.items c.ready_answer.ensures.same c.make_granted.ensures.waits c.send_answer-out.ensures.queues

@@ -8,12 +8,11 @@ use Rattle.gtp_machine.specs.Node.{holding}
 use Rattle.gtp_machine.specs.declared.outcome.Outcome.TheVariants.{Answered}
 use Rattle.gtp_gateway.specs.declared.command.purpose.Purpose.{Purpose}
 use Rattle.gtp_gateway.specs.declared.command.purpose.Asked.TheVariants.{CreateBearer}
-use Rattle.gtp_gateway.specs.receive.Answer.{after_held}
 use Rattle.gtp_gateway.specs.command.SendRequest.{about}
 use Rattle.gtp_gateway.specs.receive.CreateSessionRequest.{session_granted, asked_with, made_with}
 use Rattle.gtp_gateway.specs.receive.Queues.{IsNewFor}
 use Rattle.gtp_gateway.specs.receive.RestartCounter.{node_heard}
-use Rattle.gtp_gateway.specs.Parts.{arrival_of, node_of, pending_in}
+use Rattle.gtp_gateway.specs.Parts.{node_of, pending_in}
 use Rattle.gtp_gateway.specs.Settings.{Settings}
 use Rattle.gtp_gateway.specs.tables.Opening.{waiting_heard}
 use Rattle.gtp_gateway.specs.messages.Spelled.{messages_in}
@@ -65,9 +64,9 @@ returns-clause-granted c =
     record {
       sent = c.send_answer-out.result;
       is = c.answered.ensures ∙ (λ i. record { out = Some c.send_answer-out.result; report = record (plain_report (Answered (c.session_cause.ensures i))) { made = true } });
-      goes = c.send_answer-out.ensures.sent ∙ (λ i. record { plane = Control; from = control_end (config i).own.control; to = c.args.source; octets = (ready.octets ∙ encoded.spelled) i });
+      goes = c.send_answer-out.ensures.sent ∙ (λ i. record { plane = Control; from = control_end (config i).own.control; to = c.args.arrival.now.source; octets = (ready.octets ∙ encoded.spelled) i });
       read = encoded.back;
-      becomes = c.send_answer-out.ensures.node ∙ (λ i. holding (arrival_of c.args.source (ready.request i)) ((ap messages_in ready.answer ∙ encoded.read) i) (left i));
+      becomes = c.send_answer-out.ensures.node ∙ (λ i. holding c.args.arrival.now ((ap messages_in ready.answer ∙ encoded.read) i) (left i));
       role = c.send_answer-out.ensures.role ∙ c.begin_kept.ensures.only.role ∙ c.make_granted_with.ensures.only.role ∙ ap (λ (s : GatewayState). s.role) same;
     }
 
@@ -90,6 +89,6 @@ returns-clause-goes c =
       spelled = encoded.alone_kept;
       other = new_request old c.args.grant.now.drawn a c.args.heard c.requires.whole c.requires.add refl _ (asked_with (session_granted c.args.request.now c.args.grant.now) a old.node) refl encoded.alone;
     } in
-    begun_goes c.args.source c.args.octets.now old granted begun (state_of c.send_answer-out.new.self) a.seq _ _ _ c.in_ok-ready.ready.answer.items
+    begun_goes c.args.arrival.now old granted begun (state_of c.send_answer-out.new.self) a.seq _ _ _ c.in_ok-ready.ready.answer.items
     (subst (λ (s : GatewayState). RequestsWaitOn s granted) same c.make_granted_with.ensures.waits) free begun_new c.begin_kept.ensures.queues
-    (c.send_answer-out.ensures.queues ∙ (λ i. record begun.queues { held = after_held c.args.source (ready.request i) c.in_ok-ready.ready.answer.items begun.queues.held })) (tied_of c.send_answer-out.new.self)
+    c.send_answer-out.ensures.queues (tied_of c.send_answer-out.new.self)

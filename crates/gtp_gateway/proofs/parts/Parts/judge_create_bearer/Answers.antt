@@ -13,7 +13,7 @@ use Rattle.gtp_gateway.specs.Parts.{node_of}
 use Rattle.gtp_gateway.proofs.Rules.{meets, breaks}
 use Rattle.gtp_gateway.proofs.Columns.{yes, no}
 use Rattle.gtp_gateway.proofs.CreateBearerRequests.{none_free}
-use Rattle.gtp_gateway.proofs.BeforeSecond.{draws_there, all_there, granted_there}
+use Rattle.gtp_gateway.proofs.SecondGranted.{draws_there, all_there, granted_there}
 use Rattle.gtp_gateway.proofs.parts.Parts.judge_create_bearer.Goals as goal
 
 pub returns-then-not-is_active-clause-judged : goal.returns-then-not-is_active-clause-judged

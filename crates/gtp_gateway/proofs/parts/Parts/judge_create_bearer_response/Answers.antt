@@ -5,7 +5,7 @@ use Rattle.gtp_machine.specs.Node.{Session, Bearer}
 use Rattle.gtp_gateway.specs.receive.CreateBearerResponse.{JudgesCreateBearerResponse}
 use Rattle.gtp_gateway.specs.receive.RestartCounter.{node_heard}
 use Rattle.gtp_gateway.specs.Parts.{node_of}
-use Rattle.gtp_gateway.proofs.CreateResponses.{bearer_does_not_fit, bearer_is_refused, not_one, bearer_refused, not_returned, clashes, bearer_opens, bearer_stands, bearer_blank}
+use Rattle.gtp_gateway.proofs.CreateBearerResponses.{bearer_does_not_fit, bearer_is_refused, not_one, bearer_refused, not_returned, clashes, bearer_opens, bearer_stands, bearer_blank}
 use Rattle.gtp_gateway.proofs.Columns.{yes, no}
 use Rattle.gtp_gateway.proofs.parts.Parts.judge_create_bearer_response.Goals as goal
 

@@ -8,7 +8,7 @@ use Rattle.gtp_machine.proofs.Basics.Facts.{one_value}
 use Rattle.gtp_gateway.specs.Parts.{node_of}
 use Rattle.gtp_gateway.specs.receive.CreateSessionResponse.{JudgesCreateSessionResponse}
 use Rattle.gtp_gateway.proofs.Columns.{yes, no}
-use Rattle.gtp_gateway.proofs.CreateResponses.{of_session, does_not_fit, is_refused, not_described, default_refused, opens, default_stands, default_blank}
+use Rattle.gtp_gateway.proofs.CreateSessionResponses.{of_session, does_not_fit, is_refused, not_described, default_refused, opens, default_stands, default_blank}
 use Rattle.gtp_gateway.proofs.parts.Parts.judge_create_session_response.Goals as goal
 
 pub returns-in_default-fits_create_session : goal.returns-in_default-fits_create_session

@@ -1,5 +1,5 @@
 use Rattle.gtp_gateway.specs.Parts.{node_of}
-use Rattle.gtp_gateway.proofs.BeforeSecond.{settled_stands}
+use Rattle.gtp_gateway.proofs.SecondGranted.{settled_stands}
 use Rattle.gtp_gateway.proofs.parts.Parts.judge_second.Goals as goal
 
 pub returns-clause-judged : goal.returns-clause-judged

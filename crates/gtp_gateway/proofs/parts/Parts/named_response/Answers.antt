@@ -2,7 +2,7 @@ use Rattle.std.proofs.Common.{Some, None, map, ◌∙◌, ap}
 use Rattle.gtp_machine.specs.Element.{cause_of}
 use Rattle.gtp_machine.specs.Message.{Delete_bearer_response}
 use Rattle.gtp_machine.specs.Reading.{removed_bearer}
-use Rattle.gtp_gateway.proofs.DeleteBearerRequests.{contexts_said}
+use Rattle.gtp_gateway.proofs.DeleteBearerAnswers.{contexts_said}
 use Rattle.gtp_gateway.proofs.parts.Parts.named_response.Goals as goal
 
 pub returns-clause-says : goal.returns-clause-says

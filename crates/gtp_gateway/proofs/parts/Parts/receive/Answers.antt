@@ -6,7 +6,7 @@ use Rattle.gtp_machine.specs.Message.{Plane, Control}
 use Rattle.gtp_gateway.specs.declared.parts.Parts.{Parts}
 use Rattle.gtp_gateway.specs.declared.step.Step.{Step}
 use Rattle.gtp_gateway.specs.declared.user.reply.Reply.{Reply}
-use Rattle.gtp_gateway.specs.Parts.{node_of}
+use Rattle.gtp_gateway.specs.Parts.{arrival_of, node_of}
 use Rattle.gtp_gateway.specs.receive.Received.{IsReceived, MayRunOut}
 use Rattle.gtp_gateway.specs.user.Reply.{replied, IsReplyBy}
 use Rattle.gtp_gateway.specs.GatewayState.{state_of}
@@ -27,7 +27,7 @@ returns-in-Control-clause-received c =
     let octets = c.args.octets.now in
     subst (λ (p : Plane). IsReceived p c.args.source octets old c.from.result new) (sym c.in-Control.is)
     (subst (λ (r : Step). IsReceived Control c.args.source octets old r new) (sym c.from.ensures)
-    (control_received c.args.source octets old c.in_ok-step-in-Control.step new c.in_ok-step-in-Control.ensures.taken))
+    (control_received (arrival_of c.args.source octets) old c.in_ok-step-in-Control.step new c.in_ok-step-in-Control.ensures.taken))
 
 pub returns-in-Control-clause-packet : goal.returns-in-Control-clause-packet
 returns-in-Control-clause-packet c =

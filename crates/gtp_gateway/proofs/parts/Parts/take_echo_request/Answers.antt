@@ -13,16 +13,16 @@ use Rattle.gtp_gateway.proofs.RestartCounters.{counter_stays, config_stays}
 use Rattle.gtp_gateway.proofs.parts.Parts.take_echo_request.Goals as goal
 
 pub returns-clause-taken : goal.returns-clause-taken
-returns-clause-taken c = λ request q from number.
+returns-clause-taken c = λ q number.
     let old = state_of c.args.self.now in
     let heard = c.args.heard in
     let node = node_heard heard old.node in
     let says : control_message c.echo_response-message.result ≡ Echo_response (record { number = q.number; recovery = node.counter }) =
     c.echo_response-message.ensures.says ∙ (λ i. Echo_response (record { number = sym number i; recovery = (c.counter.ensures ∙ sym (counter_stays heard old.node)) i })) in
-    let sent = c.in_ok-out.ensures.sent ∙ (λ i. datagram_of (sym (config_stays heard old.node) i) (record { destination = sym from i; messages = says i ∷ [] })) in
-    subst (λ (s : ControlStep). IsRow (λ n e. e ≡ echoed request q n) request old.role node s (state_of c.hear.new.self)) (sym c.sent.ensures)
+    let sent = c.in_ok-out.ensures.sent ∙ (λ i. datagram_of (sym (config_stays heard old.node) i) (record { destination = c.args.arrival.now.source; messages = says i ∷ [] })) in
+    subst (λ (s : ControlStep). IsRow (λ n e. e ≡ echoed c.args.arrival.now q n) c.args.arrival.now old.role node s (state_of c.hear.new.self)) (sym c.sent.ensures)
     (record {
-      effect = echoed request q node;
+      effect = echoed c.args.arrival.now q node;
       takes = refl;
       tells = record { sent = one_sent node.config _ _ sent (subst (λ m. ReadsBack (m ∷ [])) says c.in_ok-out.ensures.back); outcome = refl; alone = refl; made = refl; heard = refl; learned = refl; untold = refl; unlearned = refl; all = refl };
       becomes = c.hear.ensures.node;

@@ -1,5 +1,4 @@
 use Rattle.std.proofs.Common.{sym, ◌∙◌, ap, subst}
-use Rattle.gtp_values.specs.declared.address.Endpoint.{Endpoint}
 use Rattle.gtp_machine.specs.Answer.{fault_number}
 use Rattle.gtp_gateway.specs.declared.receive.invalid_request.Flaw.{Flaw}
 use Rattle.gtp_gateway.specs.declared.step.ControlStep.{ControlStep}
@@ -11,22 +10,22 @@ use Rattle.gtp_gateway.specs.receive.Allocations.{StepSendsOrOpens}
 use Rattle.gtp_gateway.proofs.parts.Parts.take_flaw.Goals as goal
 
 pub returns-in-Plain-clause-taken : goal.returns-in-Plain-clause-taken
-returns-in-Plain-clause-taken c = λ request from peer new.
+returns-in-Plain-clause-taken c = λ peer new.
     let old = state_of c.args.self.now in
-    subst (λ (s : ControlStep). IsFaultEffect request (reading_of c.args.flaw.now) old s) (sym c.undecodable.ensures)
-    (subst (λ (f : Flaw). IsFaultEffect request (reading_of f) old (dropped_for c.in-Plain.number)) (sym c.in-Plain.is)
-    (drops_for request _ old c.in-Plain.number (fault_dropped old.role old.node request c.in-Plain.number (ap (λ (e : Endpoint). e.ip) from ∙ peer) new)))
+    subst (λ (s : ControlStep). IsFaultEffect c.args.arrival.now (reading_of c.args.flaw.now) old s) (sym c.undecodable.ensures)
+    (subst (λ (f : Flaw). IsFaultEffect c.args.arrival.now (reading_of f) old (dropped_for c.in-Plain.number)) (sym c.in-Plain.is)
+    (drops_for c.args.arrival.now _ old c.in-Plain.number (fault_dropped old.role old.node c.args.arrival.now c.in-Plain.number peer new)))
 
 pub returns-else-is_answered_by-clause-taken : goal.returns-else-is_answered_by-clause-taken
-returns-else-is_answered_by-clause-taken c = λ request from peer new.
+returns-else-is_answered_by-clause-taken c = λ peer new.
     let old = state_of c.args.self.now in
     let f = c.in-Faulty.faulty in
-    subst (λ (s : ControlStep). IsFaultEffect request (reading_of c.args.flaw.now) old s) (sym (c.undecodable-else-is_answered_by.ensures ∙ ap dropped_for c.number.ensures))
-    (subst (λ (g : Flaw). IsFaultEffect request (reading_of g) old (dropped_for (fault_number (defect_of f.defect)))) (sym c.in-Faulty.is)
-    (drops_for request _ old (fault_number (defect_of f.defect)) (fault_unanswered old.node request (fault_of f) old.role (sym c.is_answered_by.ensures ∙ c.if-is_answered_by.false) (ap (λ (e : Endpoint). e.ip) from ∙ peer) new)))
+    subst (λ (s : ControlStep). IsFaultEffect c.args.arrival.now (reading_of c.args.flaw.now) old s) (sym (c.undecodable-else-is_answered_by.ensures ∙ ap dropped_for c.number.ensures))
+    (subst (λ (g : Flaw). IsFaultEffect c.args.arrival.now (reading_of g) old (dropped_for (fault_number (defect_of f.defect)))) (sym c.in-Faulty.is)
+    (drops_for c.args.arrival.now _ old (fault_number (defect_of f.defect)) (fault_unanswered old.node c.args.arrival.now (fault_of f) old.role (sym c.is_answered_by.ensures ∙ c.if-is_answered_by.false) peer new)))
 
 pub returns-then-is_answered_by-clause-memory : goal.returns-then-is_answered_by-clause-memory
-returns-then-is_answered_by-clause-memory c = on_err c.answer_fault.result (λ request from peer.
+returns-then-is_answered_by-clause-memory c = on_err c.answer_fault.result (λ peer.
     let old = state_of c.args.self.now in
-    subst (λ (g : Flaw). StepSendsOrOpens request (reading_of g) old) (sym c.in-Faulty.is)
-    (fault_needs request (fault_of c.in-Faulty.faulty) old (ap (λ (e : Endpoint). e.ip) from ∙ peer) (sym c.is_answered_by.ensures ∙ c.if-is_answered_by.true)))
+    subst (λ (g : Flaw). StepSendsOrOpens c.args.arrival.now (reading_of g) old) (sym c.in-Faulty.is)
+    (fault_needs c.args.arrival.now (fault_of c.in-Faulty.faulty) old peer (sym c.is_answered_by.ensures ∙ c.if-is_answered_by.true)))

@@ -5,7 +5,7 @@ use Rattle.gtp_machine.specs.declared.message_type.MessageType.TheVariants as ty
 use Rattle.gtp_machine.proofs.Basics.Types.{type_kind}
 use Rattle.gtp_machine.proofs.Octets.Readings.{reads_as}
 use Rattle.gtp_gateway.specs.receive.ResponseContext.{ReadsOnly}
-use Rattle.gtp_gateway.proofs.CreateResponses.{given_only}
+use Rattle.gtp_gateway.proofs.CreateBearerResponses.{given_only}
 use Rattle.gtp_gateway.proofs.receive.create_bearer_response.create_bearer_response_in.Goals as goal
 
 pub returns : goal.returns

@@ -7,7 +7,7 @@ use Rattle.gtp_machine.specs.declared.message_type.MessageType.TheVariants as ty
 use Rattle.gtp_machine.proofs.Basics.Types.{type_kind}
 use Rattle.gtp_machine.proofs.Octets.Readings.{reads_as}
 use Rattle.gtp_gateway.specs.receive.ResponseContext.{ReadsOnly}
-use Rattle.gtp_gateway.proofs.CreateResponses.{created_only}
+use Rattle.gtp_gateway.proofs.CreateSessionResponses.{created_only}
 use Rattle.gtp_gateway.proofs.InPlace.{row_said}
 use Rattle.gtp_gateway.proofs.receive.create_session_response.create_session_response_in.Goals as goal
 

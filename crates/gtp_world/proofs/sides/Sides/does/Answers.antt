@@ -1,4 +1,4 @@
-use Rattle.std.proofs.Common.{false, subst}
+use Rattle.std.proofs.Common.{false}
 use Rattle.gtp_machine.specs.Input.{Commanded}
 use Rattle.gtp_world.specs.Commands.{command_of}
 use Rattle.gtp_world.specs.Stepped.{AsksFor}
