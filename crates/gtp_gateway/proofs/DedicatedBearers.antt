@@ -1,5 +1,5 @@
 -- The dedicated bearer that a command names.
-use Rattle.std.proofs.Common.{◌≡◌, ◌↔◌, ℕ, Bool, true, false, Some, refl, sym, ◌∙◌, ap, subst}
+use Rattle.std.proofs.Common.{◌≡◌, ◌↔◌, ℕ, Bool, true, false, Some, refl, sym, ◌∙◌, ap, subst, Result}
 use Rattle.std.specs.Prelude.{◌==◌}
 use Rattle.std.specs.FinMap.{get}
 use mathlib.Core.Logic.{∥∥₁_elim}
@@ -13,7 +13,6 @@ use Rattle.gtp_machine.specs.declared.outcome.Refusal.{Refusal}
 use Rattle.gtp_gateway.specs.declared.command.delete_bearer.Dedicated.{Dedicated}
 use Rattle.gtp_gateway.specs.declared.fault.CommandFault.{CommandFault}
 use Rattle.gtp_gateway.specs.declared.sent.Begun.{Begun}
-use Rattle.std.proofs.Common.{Result}
 use Rattle.gtp_values.proofs.Tests.{unequal, same_number}
 use Rattle.gtp_machine.proofs.Basics.Facts.{one_value}
 use Rattle.gtp_gateway.specs.command.DeleteBearer.{IsDedicated}

@@ -27,8 +27,7 @@ use Rattle.gtp_gateway.specs.declared.receive.delete_request.DeleteRequest.{Dele
 use Rattle.gtp_gateway.specs.declared.receive.delete_bearer_request.identities.NamedBearer.{NamedBearer}
 use Rattle.gtp_machine.specs.declared.message_type.MessageType.TheVariants as types
 use Rattle.gtp_gateway.specs.declared.step.ControlStep.{ControlStep}
-use Rattle.gtp_gateway.specs.receive.DeleteBearerRequest.{is_at, goes_for, is_found, was_named, NamesOne, NamesEach, identity_named, cause_named, removed_by, without_named, without_each}
-use Rattle.gtp_gateway.specs.receive.DeleteBearerRequest.{delete_bearer_by, identities_of, IsForBearers, number_in, delete_bearer_effect}
+use Rattle.gtp_gateway.specs.receive.DeleteBearerRequest.{is_at, goes_for, is_found, was_named, NamesOne, NamesEach, identity_named, cause_named, removed_by, without_named, without_each, delete_bearer_by, identities_of, IsForBearers, number_in, delete_bearer_effect}
 use Rattle.gtp_gateway.specs.receive.DeleteRequest.{ReadsDelete}
 use Rattle.gtp_machine.specs.MessageType.{type_at}
 use Rattle.gtp_gateway.specs.receive.Row.{IsRow}

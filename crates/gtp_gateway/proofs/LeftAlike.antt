@@ -18,7 +18,7 @@ use Rattle.gtp_gateway.specs.declared.command.purpose.Purpose.{Purpose}
 use Rattle.gtp_gateway.specs.Determined.{held_as, waits_as, AreLeftAlike, WaitsNext}
 use Rattle.gtp_gateway.specs.receive.Queues.{Beginning, held_with, begun_with, IsNext, IsNewFor, IsNew, waiting_on, QueuesAfterMessage}
 use Rattle.gtp_gateway.specs.Parts.{arrival_of, held_of, pending_of, pending_in}
-use Rattle.gtp_gateway.proofs.Requests.{none_pending, pending_push, found_before, of_found}
+use Rattle.gtp_gateway.proofs.Requests.{none_pending, pending_push, found_before, of_found, same_filter, same_staying}
 use Rattle.gtp_reliable.specs.declared.waiting.NextTick.{NextTick}
 use Rattle.gtp_reliable.specs.declared.waiting.NextTick.TheVariants.{WaitsOn}
 use Rattle.gtp_machine.specs.Message.{Plane, Control, User}
@@ -33,7 +33,6 @@ use Rattle.gtp_gateway.specs.GatewayState.{Queues, GatewayState, NodeMatchesQueu
 use Rattle.gtp_gateway.specs.Tick.{QueuesAfterTick}
 use Rattle.gtp_gateway.proofs.QueuesAfter.{on_goes}
 use Rattle.gtp_gateway.proofs.ChosenOnce.{same_beside, one_next}
-use Rattle.gtp_gateway.proofs.Filtered.{same_filter, same_staying}
 
 longer : (ps : List HeldPair) (p : HeldPair) → map held_of ps ≡ map held_of (ps ++ (p ∷ [])) → ⊥
 longer ps p e = omega (arith, ap length e, length-map ps held_of, length-map (ps ++ (p ∷ [])) held_of, length-append ps (p ∷ []))

@@ -17,7 +17,6 @@ pub mod Teids
 pub mod DedicatedBearers
 pub mod CreateBearerRequests
 pub mod DeleteBearerRequests
-pub mod DeleteBearerAnswers
 pub mod Answers
 pub mod Readings
 pub mod Taking
@@ -49,6 +48,5 @@ pub mod QueuesAfter
 pub mod Allocations
 pub mod Choosings
 pub mod ChosenOnce
-pub mod Filtered
 pub mod LeftAlike
 pub mod Determined

@@ -9,7 +9,7 @@ use Rattle.gtp_machine.specs.Answer.{IsNew, answered}
 use Rattle.gtp_machine.specs.Recovery.{Hears, learned_by}
 use Rattle.gtp_machine.specs.Reading.{datagram_reading, taken_as}
 use Rattle.gtp_machine.specs.Spelling.{datagram_of}
-use Rattle.gtp_machine.specs.Step.{Step as MachineStep}
+use Rattle.gtp_machine.specs.Step.{Step as MachineStep, TakesBy}
 use Rattle.gtp_machine.specs.Input.{Came_to, Effect, ControlReading, Control_message, Control_came, nothing, dropped}
 use Rattle.gtp_machine.specs.declared.outcome.DropReason.{DropReason}
 use Rattle.gtp_machine.specs.declared.outcome.DropReason.TheVariants.{OldCounter, Unexpected}
@@ -25,7 +25,6 @@ use Rattle.gtp_gateway.specs.GatewayState.{GatewayState}
 use Rattle.gtp_gateway.specs.receive.Taken.{plain_report, datagrams, Tells, IsTaken}
 use Rattle.gtp_gateway.specs.receive.RestartCounter.{weighed_by, node_heard, IsEarlier, report_heard, effect_heard}
 use Rattle.gtp_machine.specs.MessageType.{takes_message}
-use Rattle.gtp_machine.specs.Step.{TakesBy}
 use Rattle.gtp_gateway.proofs.SentBack.{none_sent, one_sent}
 use Rattle.gtp_gateway.proofs.RestartCounters.{told_is, later_is, hears_on, hears_old, config_stays}
 

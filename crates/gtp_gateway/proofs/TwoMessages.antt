@@ -10,10 +10,9 @@ use Rattle.gtp_values.specs.declared.address.Endpoint.{Endpoint}
 use Rattle.gtp_reliable.specs.Held.{HeldPair, IsHeld}
 use Rattle.gtp_v2.specs.Message.{MessageValue}
 use Rattle.gtp_v2.specs.Datagram.{IsMessage}
-use Rattle.gtp_v2.specs.Pair.{alone, both, paired, Announces, LieIn}
+use Rattle.gtp_v2.specs.Pair.{alone, both, paired, Announces, LieIn, IsDatagramFault}
 use Rattle.gtp_v2.specs.Viewed.{Viewed}
 use Rattle.gtp_v2.specs.declared.fault.V2Fault.{V2Fault}
-use Rattle.gtp_v2.specs.Pair.{IsDatagramFault}
 use Rattle.gtp_machine.specs.Answer.{IsNew}
 use Rattle.gtp_machine.specs.Decoded.{message_of}
 use Rattle.gtp_machine.specs.Input.{ControlReading, Control_message}

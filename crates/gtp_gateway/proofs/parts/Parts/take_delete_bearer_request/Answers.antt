@@ -12,10 +12,9 @@ use Rattle.gtp_gateway.specs.Parts.{node_of}
 use Rattle.gtp_gateway.specs.GatewayState.{state_of}
 use Rattle.gtp_gateway.proofs.Answers.{held_few, held_many}
 use Rattle.gtp_gateway.proofs.Columns.{yes, no}
-use Rattle.gtp_gateway.proofs.DeleteBearerRequests.{row_as}
+use Rattle.gtp_gateway.proofs.DeleteBearerRequests.{row_as, delete_bearer_opened, delete_bearer_asked}
 use Rattle.gtp_gateway.proofs.Rows.{drops}
 use Rattle.gtp_gateway.proofs.Allocations.{on_err}
-use Rattle.gtp_gateway.proofs.DeleteBearerRequests.{delete_bearer_opened, delete_bearer_asked}
 use Rattle.gtp_gateway.proofs.parts.Parts.take_delete_bearer_request.Goals as goal
 
 pub returns-then-is_full-clause-taken : goal.returns-then-is_full-clause-taken
