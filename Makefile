@@ -21,7 +21,7 @@ shell_files = \
 c_files = $(addprefix $(root)/lib/,libgtp_c.a liblibc_c.a pkgconfig/gtp.pc) $(root)/include/gtp.h
 rust = $(root)/share/gtp/rust
 # Pages that are not installed: where an installed page links to one of them, or to a source, the words of the link stay.
-left_out = DECISIONS|DEFINITIONS|PERFORMANCE|TESTING|WRONG-MACHINES
+left_out = \.\.\/crates|\.\.\/README|\.\.\/tests|ARCHITECTURE|CONTRIBUTING|DECISIONS|DEFINITIONS|PERFORMANCE|README|TESTING|WRONG-MACHINES
 
 .PHONY: all install uninstall
 
@@ -45,9 +45,9 @@ install: $(program) $(library)
 	$(INSTALL) -d $(root)/lib/pkgconfig
 	sed 's|@PREFIX@|$(or $(PREFIX),$${pcfiledir}/../..)|' share/gtp.pc > $(root)/lib/pkgconfig/gtp.pc
 	$(INSTALL) -d $(pages)/examples
-	$(INSTALL) -m 644 docs/PROTOCOL.md docs/FORMATS.md docs/JSON.md docs/C.md docs/PROVED.md docs/BELIEVE.md docs/CHANGELOG.md $(pages)
+	$(INSTALL) -m 644 docs/PROTOCOL.md docs/FORMATS.md docs/JSON.md docs/C.md docs/PROVED.md docs/BELIEVE.md docs/CHANGELOG.md docs/SECURITY.md $(pages)
 	sed -i 's|](../include/|](../../../include/|g; s|](../examples/|](examples/|g; s|](../rust/gtp)|](../../gtp/rust)|g' $(pages)/*.md
-	sed -i -E 's/\[([^]]*)\]\((\.\.\/crates|$(left_out))[^)]*\)/\1/g' $(pages)/*.md
+	sed -i -E 's/\[([^]]*)\]\(($(left_out))[^)]*\)/\1/g' $(pages)/*.md
 	cp -R examples/scenarios examples/captures examples/datagrams examples/bridge examples/c examples/rust $(pages)/examples
 	rm -rf $(pages)/examples/rust/target
 	sed -i 's|"../../rust/gtp"|"../../../../gtp/rust"|' $(pages)/examples/rust/Cargo.toml
