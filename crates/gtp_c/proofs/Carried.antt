@@ -76,6 +76,7 @@ module _ (command : Command) (Bad : Type 0) (good : ¬ Bad) (desk mid : Desk) (b
           timed = subst (λ (g : GatewayState). IsTimed command g b new.gateway) kept.0 (subst (λ (g : GatewayState). IsTimed command mid.gateway b g) (sym settled.gateway) timed);
           untold = untold;
           waiting = waits ∙ ap (λ (xs : List Sent). xs ++ b.out ∷ []) kept.1;
+          room = omega (arith, kept.2, settled.room);
           tells = tells;
         }
     has_begun (Err f) done timed untold waits tells = absurd waits
@@ -103,7 +104,7 @@ module _ (command : Command) (Bad : Type 0) (good : ¬ Bad) (desk mid : Desk) (b
     same (Err f) err none = err
 
     nothing_happened : OnErr r (after ≡ mid.gateway) → status ≢ 0 → Keeps desk new
-    nothing_happened err some = let still = settled.kept some in (settled.gateway ∙ (same r err still.0 ∙ kept.0), still.1 ∙ kept.1)
+    nothing_happened err some = let still = settled.kept some in (settled.gateway ∙ (same r err still.0 ∙ kept.0), still.1 ∙ kept.1, omega (arith, kept.2, settled.room))
 
     -- there was room, and the gateway answered
     pub carried_out : ¬ IsFull desk → IfOk r (λ b. IsCarriedOut command mid.gateway b after) → IfOk r (λ b. IsTimed command mid.gateway b after) → IfOk r (λ b. IsUntold command b)

@@ -9,7 +9,7 @@ use Rattle.gtp_gateway.specs.declared.sent.Begun.{Begun}
 use Rattle.gtp_c.specs.Common.{IsOneOf}
 use Rattle.gtp_c.specs.Handles.{Goes, Stays}
 use Rattle.gtp_c.specs.Statuses.{HasStatus, command_statuses, CommandMayRunOut}
-use Rattle.gtp_c.specs.Steps.{HasBegun, IsRefused}
+use Rattle.gtp_c.specs.Steps.{HasBegun, IsRefused, KeepsRoom}
 use Rattle.gtp_c.specs.Told.{begun_told, refused_told}
 use Rattle.gtp_c.specs.declared.desk.Desk.{Desk}
 use Rattle.gtp_c.specs.declared.told.Told.{Told}
@@ -33,4 +33,5 @@ pub record IsSettled (begun : Result Begun CommandFault) (number : ℕ) (before 
   pub kept : status ≢ 0 → OnOk begun ⊥ × (new.waiting.items ≡ old.waiting.items)
   pub untold : status ≡ 2 → told ≡ before
   pub memory : status ≡ 2 → begun ≡ Err Memory
+  pub room : KeepsRoom old new
   pub known : IsOneOf (0 ∷ 2 ∷ 6 ∷ []) status

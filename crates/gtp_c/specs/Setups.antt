@@ -1,5 +1,6 @@
 -- Which gateway C's setup is.
 use Rattle.std.specs.Prelude.{◌≡◌, ℕ, ◌≤◌, List, [], ◌∷◌, Some, IsSome, length, take}
+use Rattle.std.specs.VecDeque.{deque_capacity}
 use Rattle.gtp_machine.specs.declared.role.Role.{Role}
 use Rattle.gtp_machine.specs.declared.role.Role.TheVariants.{Serving, Packet}
 use Rattle.gtp_gateway.specs.Settings.{Settings, AreSettings, settings_of}
@@ -55,10 +56,12 @@ pub record IsStarted (s : Setup) (text : List ℕ) (g : GatewayState) : Type 0 w
   pub configured : IsConfigured s names settings
   pub started : g ≡ starting role (with_each (templates_in s) settings) s.counter
 
--- such a gateway, and no datagram waits
+-- Such a gateway. No datagram waits, and there is room for all that ever do: a step is refused while more than 4,096 wait, and a
+-- tick adds at most 256. So no later call asks for memory for what waits.
 pub record Starts (s : Setup) (text : List ℕ) (d : Desk) : Type 0 where
   pub gateway : IsStarted s text d.gateway
   pub waiting : d.waiting.items ≡ []
+  pub room : 4352 ≤ deque_capacity d.waiting
 
 -- C's addresses are addresses
 pub record HasAddresses (control user : Address) : Type 0 where

@@ -1,6 +1,6 @@
 -- What happens to a gateway and to the datagrams that wait to be taken.
 use Rattle.std.specs.Prelude.{◌≡◌, ℕ, List, [], ◌∷◌, ◌++◌, ◌<◌, ◌≤◌, IsSome, drop, length, Option, Some, None, slice_index_or, option_to_list}
-use Rattle.std.specs.VecDeque.{deque_len}
+use Rattle.std.specs.VecDeque.{deque_len, deque_capacity}
 use Rattle.gtp_values.specs.declared.address.Endpoint.{Endpoint}
 use Rattle.gtp_machine.specs.Input.{Command, Mark_end, Send_user, Commanded, refused}
 use Rattle.gtp_machine.specs.Message.{Plane, Control, User}
@@ -25,9 +25,13 @@ use Rattle.gtp_c.specs.declared.ends.End.{End}
 use Rattle.gtp_c.specs.declared.taken.Datagram.{Datagram}
 use Rattle.gtp_c.specs.declared.told.Told.{Told}
 
+-- there is room for as many datagrams as before
+abbrev pub KeepsRoom : Desk → Desk → Type 0
+KeepsRoom old new = deque_capacity old.waiting ≤ deque_capacity new.waiting
+
 -- nothing happened to the gateway, nor to what waits
 abbrev pub Keeps : Desk → Desk → Type 0
-Keeps old new = (new.gateway ≡ old.gateway) × (new.waiting.items ≡ old.waiting.items)
+Keeps old new = (new.gateway ≡ old.gateway) × (new.waiting.items ≡ old.waiting.items) × KeepsRoom old new
 
 -- the packet that was accepted is the last octets of the datagram
 abbrev pub IsPayload : Option Accepted → List ℕ → Type 0
@@ -49,6 +53,7 @@ pub record HasReceived (plane : Plane) (source : Endpoint) (octets : List ℕ) (
   pub payload : IsPayloadOf plane step.accepted octets
   pub packet : IsSome step.accepted → new.gateway ≡ old.gateway
   pub waiting : new.waiting.items ≡ old.waiting.items ++ option_to_list step.out
+  pub room : KeepsRoom old new
   pub tells : told ≡ step_told step (deque_len new.waiting)
 
 -- the same, from C's number of the plane and C's end
@@ -78,6 +83,7 @@ pub record HasBegun (command : Command) (told : Told) (old new : Desk) : Type 0 
   pub timed : IsTimed command old.gateway begun new.gateway
   pub untold : IsUntold command begun
   pub waiting : new.waiting.items ≡ old.waiting.items ++ begun.out ∷ []
+  pub room : KeepsRoom old new
   pub tells : told ≡ begun_told (begun_number command) begun (deque_len new.waiting)
 
 -- a command was refused, as the machine refuses it, and why is told
@@ -94,6 +100,7 @@ pub record HasTicked (told : Told) (old new : Desk) : Type 0 where
   pub few : length ticked.resent.items ≤ 256
   pub few_forgotten : length ticked.forgotten.items ≤ 4096
   pub waiting : new.waiting.items ≡ old.waiting.items ++ ticked.resent.items
+  pub room : KeepsRoom old new
   pub tells : told ≡ tick_told (length ticked.gave_up.items) (length ticked.forgotten.items) (deque_len new.waiting)
 
 -- no datagram waits
@@ -102,7 +109,7 @@ NothingWaits d = d.waiting.items ≡ []
 
 -- the datagram that waited longest waits no more
 abbrev pub HasTaken : Desk → Desk → Type 0
-HasTaken old new = (new.gateway ≡ old.gateway) × (new.waiting.items ≡ drop 1 old.waiting.items)
+HasTaken old new = (new.gateway ≡ old.gateway) × (new.waiting.items ≡ drop 1 old.waiting.items) × KeepsRoom old new
 
 -- C's datagram says what this one is: its plane, its ends and its length
 pub record Says (datagram : Datagram) (sent : Sent) : Type 0 where

@@ -1,16 +1,16 @@
 //! A gateway with the datagrams that it has to send and that nobody took yet.
 
-ghost use Rattle.std.specs.Prelude.{◌≡◌, ◌≢◌, ◌↔◌, ◌+◌, ◌≤◌, ◌++◌, [], ◌∷◌, length, option_to_list};
+ghost use Rattle.std.specs.Prelude.{◌≡◌, ◌≢◌, ◌↔◌, ◌+◌, ◌≤◌, ◌++◌, [], ◌∷◌, IfOk, length, option_to_list};
 ghost use Rattle.std.specs.VecDeque.{deque_len, deque_capacity};
 ghost use Rattle.gtp_c.specs.Commands.{IsSettled};
 ghost use Rattle.gtp_c.specs.Common.{IsOneOf};
 ghost use Rattle.gtp_c.specs.Statuses.{IsFull, LacksRoom, ReceiveMayRunOut, TickMayRunOut};
-ghost use Rattle.gtp_c.specs.Steps.{Keeps, HasReceived, HasTicked};
+ghost use Rattle.gtp_c.specs.Steps.{Keeps, KeepsRoom, HasReceived, HasTicked};
 
 use crate::status::{DONE, FULL, NO_MEMORY, REFUSED};
 use crate::told::Told;
 use gtp_gateway::{Begun, CommandFault, Endpoint, Gateway, Plane, Sent};
-use std::alloc::Global;
+use std::alloc::{AllocError, Global};
 use std::collections::VecDeque;
 
 /// So many datagrams may wait before a step is refused.
@@ -27,15 +27,16 @@ pub struct Desk {
 }
 
 impl Desk {
-    /// A gateway with nothing to send.
-    pub(crate) fn new(alloc: Global, gateway: Gateway) -> Desk
-        ensures gateway { result.gateway ≡ gateway }
-        ensures waiting { result.waiting.items ≡ [] }
+    /// A gateway with nothing to send, and room for all that may ever wait.
+    pub(crate) fn new(alloc: Global, gateway: Gateway) -> Result<Desk, AllocError>
+        ensures gateway { IfOk result (λ desk. desk.gateway ≡ gateway) }
+        ensures waiting { IfOk result (λ desk. desk.waiting.items ≡ []) }
+        ensures room { IfOk result (λ desk. 4352 ≤ deque_capacity desk.waiting) }
     {
-        Desk {
+        Ok(Desk {
             gateway,
-            waiting: VecDeque::new(alloc),
-        }
+            waiting: VecDeque::with_capacity(alloc, MOST_WAITING + MOST_RESENT)?,
+        })
     }
 
     /// Room for so many datagrams more: 0, or why a step has to wait.
@@ -62,6 +63,7 @@ impl Desk {
         ensures gateway { self.new.gateway ≡ self.old.gateway }
         ensures waiting { self.new.waiting.items
             ≡ self.old.waiting.items ++ option_to_list sent }
+        ensures room { KeepsRoom self.old self.new }
     {
         if let Some(sent) = sent {
             self.waiting.push_back_reserved(sent);
@@ -74,6 +76,7 @@ impl Desk {
         requires room { deque_len self.old.waiting + 256 ≤ deque_capacity self.old.waiting }
         ensures gateway { self.new.gateway ≡ self.old.gateway }
         ensures waiting { self.new.waiting.items ≡ self.old.waiting.items ++ sent.items }
+        ensures room { KeepsRoom self.old self.new }
     {
         let mut sent = VecDeque::from_vec(sent);
         if self.waiting.append(&mut sent).is_err() {

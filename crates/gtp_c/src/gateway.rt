@@ -1,6 +1,7 @@
 //! A gateway behind a handle.
 
-ghost use Rattle.std.specs.Prelude.{◌≡◌, ◌≢◌, ◌↔◌, [], ◌∷◌, None, IsSome, IsSomeAnd, length};
+ghost use Rattle.std.specs.Prelude.{◌≡◌, ◌≢◌, ◌↔◌, ◌≤◌, [], ◌∷◌, None, IsSome, IsSomeAnd, length};
+ghost use Rattle.std.specs.VecDeque.{deque_capacity};
 ghost use Rattle.gtp_c.specs.Handles.{Goes, Stays};
 ghost use Rattle.gtp_c.specs.Setups.{Starts, IsGoodSetup, new_statuses};
 ghost use Rattle.gtp_c.specs.Common.{IsOneOf};
@@ -24,12 +25,15 @@ use std::mem::replace;
 /// Puts a gateway behind an empty handle.
 fn fill(alloc: Global, gateway: Gateway, handle: &mut Handle) -> u8
     requires { handle.old.hidden.value ≡ None }
-    ensures done { result ≡ 0 →
-        IsSomeAnd handle.new.hidden.value (λ d. (d.gateway ≡ gateway) × (d.waiting.items ≡ [])) }
+    ensures done { result ≡ 0 → IsSomeAnd handle.new.hidden.value (λ d.
+        (d.gateway ≡ gateway) × (d.waiting.items ≡ []) × (4352 ≤ deque_capacity d.waiting)) }
     ensures kept { result ≢ 0 → handle.new.hidden.value ≡ None }
     ensures known { result ≢ 0 → result ≡ 2 }
 {
-    match Box::new(alloc, Desk::new(alloc, gateway)) {
+    let Ok(desk) = Desk::new(alloc, gateway) else {
+        return NO_MEMORY;
+    };
+    match Box::new(alloc, desk) {
         Ok(desk) => {
             replace(&mut handle.hidden, Place::of(Loose::of(desk))).end();
             handle.count = 1;

@@ -5,6 +5,8 @@ ghost use Rattle.std.specs.FinMap as map;
 ghost use Rattle.gtp_gateway.specs.receive.Choosing.{ChoosesLowest};
 ghost use Rattle.gtp_reliable.specs.Pending.{AreDistinct};
 ghost use Rattle.gtp_machine.specs.Determined.{OneAnswerPerRequest};
+ghost use Rattle.gtp_machine.specs.Node.{Packet};
+ghost use Rattle.gtp_machine.specs.Sound.{AreAddressesApart};
 ghost use Rattle.gtp_gateway.specs.GatewayState.{GatewayState, starting, NodeMatchesQueues, IsSoundState};
 ghost use Rattle.gtp_gateway.specs.Tick.{IsIdle, ForgetsNone, IsTicked, QueuesAfterTick, arrivals_of, due_in};
 ghost use Rattle.gtp_gateway.specs.receive.Received.{IsReceived, QueuesAfterReceive, MayRunOut};
@@ -92,6 +94,8 @@ impl Gateway {
     /// The sessions, in order of the gateway's own TEIDs. Allocates nothing.
     pub fn sessions(&self) -> SessionList<'_>
         ensures sessions { result ≡ map.entries self.now.node.sessions }
+        // Of a packet gateway no two have one address of either version.
+        ensures addresses { self.now.role ≡ Packet → AreAddressesApart self.now.node.sessions }
         // What holds of a gateway at all times.
         ensures always { NodeMatchesQueues self.now }
     {

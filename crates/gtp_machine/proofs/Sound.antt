@@ -1,5 +1,6 @@
 -- A gateway alone stays sound, whatever comes to it, and has an effect.
 pub mod Parts
+pub mod Addresses
 pub mod Changes
 pub mod Rows
 pub mod Free

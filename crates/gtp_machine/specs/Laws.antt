@@ -216,6 +216,11 @@ pub record EachResponseAnswers (first : World) (events : List Event) (last : Wor
       slice_get last.datagrams number ≡ Some (record { role = Serving; what = datagram }) →
       Among (Create_bearer_response x) datagram → AnswersBearerRequest first events last number x
 
+-- only the packet gateway sends Create Session Responses, and only the serving gateway Create Bearer Responses
+pub record AnsweredByTaker (w : World) : Type 0 where
+  pub sessions : (a : CreateSessionResponse) → HasSent w.history Serving (Create_session_response a) → ⊥
+  pub bearers : (x : CreateBearerResponse) → HasSent w.history Packet (Create_bearer_response x) → ⊥
+
 -- the counter of some start of the gateway up to now
 pub record IsOfStart (side : Side) (counter : ℕ) : Type 0 where
   pub start : ℕ

@@ -17,6 +17,7 @@ pub mod Command
 pub mod Answer
 pub mod Decoded
 pub mod Reading
+pub mod Named
 pub mod Spelling
 pub mod Serving
 pub mod Packet
@@ -28,3 +29,4 @@ pub mod Laws
 pub mod Sound
 pub mod Determined
 pub mod Exchange
+pub mod Numbers

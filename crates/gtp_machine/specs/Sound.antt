@@ -2,6 +2,8 @@
 use Rattle.std.specs.Prelude.{◌≡◌, ◌≢◌, ◌⊎◌, ◌↔◌, ℕ, ◌≤◌, true, List, [], ◌∷◌, Option, Some, None, length}
 use Rattle.std.specs.FinMap.{get, len}
 use Rattle.gtp_values.specs.FiniteMap.{FiniteMap, Each, Among}
+use Rattle.gtp_tables.specs.declared.pool.IpVersion.{IpVersion}
+use Rattle.gtp_tables.specs.Part.{part_of}
 use Rattle.gtp_machine.specs.Step.{Step, Done, Steps}
 use Rattle.gtp_machine.specs.Element.{IsAccepting, teid_in}
 use Rattle.gtp_machine.specs.Message.{Echo, CreateSessionRequest, DeleteSessionRequest, CreateBearerRequest, DeleteBearerRequest, Message}
@@ -157,11 +159,18 @@ pub record AreSoundRequests
   pub each : Each (IsAbout role sessions bearers) pending
   pub lone : AreLone pending
 
--- A gateway that is sound.
+-- no two sessions have one address of either version
+abbrev pub AreAddressesApart : FiniteMap Session → Type 0
+AreAddressesApart sessions =
+    (version : IpVersion) (s t : ℕ) (a b : Session) (address : List ℕ) → get sessions s ≡ Some a → get sessions t ≡ Some b →
+    part_of version a.address ≡ Some address → part_of version b.address ≡ Some address → s ≡ t
+
+-- A gateway that is sound. A packet gateway gives each address to one session; a serving gateway takes those that it is told.
 pub record IsSound (role : Role) (node : Node) : Type 0 where
   pub contexts : AreSoundContexts node.drawn node.sessions node.bearers
   pub requests : AreSoundRequests role node.sessions node.bearers node.pending
   pub within : IsWithin node.sessions node.pending node.held node.drawn
+  pub addresses : role ≡ Packet → AreAddressesApart node.sessions
 
 -- a response that accepts names the F-TEIDs that its table asks for then
 abbrev pub NamesItsEnds : Message → Type 0
@@ -253,6 +262,12 @@ abbrev pub ReachedIsSound : Type 0
 ReachedIsSound =
     (role : Role) (config : Config) (counter : ℕ) (log : List Done) (node : Node) →
     Steps role (fresh_node config counter) log node → AreWellFormed log → IsSound role node
+
+-- Whatever came to a packet gateway since its start, no two of its sessions have one address of either version.
+abbrev pub GivesEachAddressOnce : Type 0
+GivesEachAddressOnce =
+    (config : Config) (counter : ℕ) (log : List Done) (node : Node) →
+    Steps Packet (fresh_node config counter) log node → AreWellFormed log → AreAddressesApart node.sessions
 
 -- What is read from octets is whole.
 abbrev pub ReadsWhole : Type 0

@@ -4,6 +4,7 @@ ghost use Rattle.gtp_machine.specs.Laws.{
   ARunIsPossible,
   ATemplateIsPossible,
   Always,
+  AnsweredByTaker,
   OneResponsePerBearerRequest,
   EachRequestActsOnce,
   EachClosesWhole,
@@ -38,6 +39,8 @@ ghost use Rattle.gtp_machine.specs.Reading.{
   UserCutsRead,
   UserDecodedReads,
 };
+ghost use Rattle.gtp_machine.specs.Named.{ControlByName};
+ghost use Rattle.gtp_machine.specs.Numbers.{CauseValues, ElementTypes, InterfaceTypes};
 ghost use Rattle.gtp_machine.specs.Spelling.{PairSpelledReads, SpelledApart, SpelledReads};
 ghost use Rattle.gtp_machine.specs.Determined.{
   OneAnswer,
@@ -57,6 +60,7 @@ ghost use Rattle.gtp_machine.specs.Sound.{
   AlwaysSteps,
   AlwaysTicks,
   BreaksByDefault,
+  GivesEachAddressOnce,
   GivesUpDue,
   PairReadsWhole,
   ReachedIsSound,
@@ -108,6 +112,9 @@ pub fn foundations()
     // Each Create Session Response of the packet gateway and each Create Bearer Response of the
     // serving gateway goes back to that request of the other for which it made or refused a context.
     ensures responses { OfEachRun EachResponseAnswers }
+
+    // And only these gateways send such responses.
+    ensures answerers { Always AnsweredByTaker }
 
     // No counter in a message is ahead of its sender.
     ensures none_ahead { Always NoneAhead }
@@ -171,6 +178,10 @@ pub fn sound_nodes()
     // So a gateway that well-formed inputs reach from a start is sound.
     ensures reached { ReachedIsSound }
 
+    // Whatever came to a packet gateway since its start, no two of its sessions have one address of
+    // either version.
+    ensures addresses { GivesEachAddressOnce }
+
     // For a sound gateway no input is without an effect, but for a move of what is not there.
     ensures steps { AlwaysSteps }
 
@@ -218,6 +229,18 @@ pub fn determined()
     ensures reached { ReachedHoldsOneAnswer }
 {}
 
+/// The numbers of the standard that the definitions name by constants.
+pub fn numbers()
+    // The cause values that gateways send, and look at (TS 29.274, table 8.4-1).
+    ensures causes { CauseValues }
+
+    // The interface types of the F-TEIDs that they send (TS 29.274, table 8.22-1).
+    ensures interfaces { InterfaceTypes }
+
+    // The type of an EPS bearer identity, which they name at fault (TS 29.274, table 8.1-1).
+    ensures elements { ElementTypes }
+{}
+
 /// How datagrams read.
 pub fn readings()
     // Octets of the control plane read as the message that they spell, or as their first fault.
@@ -232,6 +255,9 @@ pub fn readings()
 
     // Octets of the user plane read as the message that they spell, or as their first fault.
     ensures user_grammar { UserByGrammar }
+
+    // What a decoded message of the control plane reads as is what its fields say, each by its name.
+    ensures named { ControlByName }
 
     // What a decoded message of the user plane reads as is what it carries.
     ensures user_named { UserByName }

@@ -2,12 +2,13 @@
 //! nothing: each contract is a law.
 
 ghost use Rattle.gtp_world.specs.Determined.{EventsLeaveOneWorld};
+ghost use Rattle.gtp_world.specs.Last.{LastIsSecond, LastIsWhole};
 ghost use Rattle.gtp_world.specs.Record.{WorldRecord};
 ghost use Rattle.gtp_world.specs.Repeated.{IsAnsweredAgainAlike};
 
 pub use gtp_machine::laws::{
-    a_run_is_possible, acts_once, determined, fair_exchange, foundations, readings, sound_nodes,
-    tunnel_safety,
+    a_run_is_possible, acts_once, determined, fair_exchange, foundations, numbers, readings,
+    sound_nodes, tunnel_safety,
 };
 
 /// What a run leaves is determined by the clause `comes` of `World::run`: two worlds that meet it, for the same setup
@@ -27,4 +28,14 @@ pub fn worlds_are_determined()
 pub fn repeats_are_answered_alike()
     // At each time in a run.
     ensures { (first : WorldRecord) → IsAnsweredAgainAlike first }
+{}
+
+/// Which octets of a delivered datagram count as a request: those of its last message (TS 29.274 5.5.1). What is late, and
+/// what was made for a request, goes by these octets.
+pub fn last_messages()
+    // Of two messages they begin where `gtp_gateway::second_at` answers.
+    ensures second { LastIsSecond }
+
+    // Of one message they are all octets.
+    ensures alone { LastIsWhole }
 {}

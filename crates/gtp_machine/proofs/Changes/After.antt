@@ -186,7 +186,7 @@ module _ (role : Role) (history : List Sent) (taken : Arrival → Message → Ty
   stays outcome = shrunk old (Shrunk-itself old) [] outcome
 
   -- a step that only shrinks, and sends a message that is made now
-  pub speaks : (destination : Endpoint) (m : Message) (outcome : EventOutcome) (new : Node) → Shrunk old new → IsPlain m → IsMadeNow history old new m → After role history taken old (record { out = says destination m; outcome = outcome; node = new })
+  pub speaks : (destination : Endpoint) (m : Message) (outcome : EventOutcome) (new : Node) → Shrunk old new → IsPlain m → IsMadeNow history role old new m → After role history taken old (record { out = says destination m; outcome = outcome; node = new })
   speaks destination m outcome new s plain made = record {
     knows = knows_shrunk (m ∷ []) new s;
     known = s.known;
@@ -206,7 +206,7 @@ module _ (role : Role) (history : List Sent) (taken : Arrival → Message → Ty
           (Among-one_more h (record { request = request; answer = answer }) new.held among)
 
   -- a step that only shrinks, and gives an answer, which is held
-  pub answers : (request : Arrival) (m : Message) (cause : ℕ) (new : Node) → Shrunk old new → IsPlain m → IsMadeNow history old (holding request (m ∷ []) new) m → After role history taken old (answered request m cause new)
+  pub answers : (request : Arrival) (m : Message) (cause : ℕ) (new : Node) → Shrunk old new → IsPlain m → IsMadeNow history role old (holding request (m ∷ []) new) m → After role history taken old (answered request m cause new)
   answers request m cause new s plain made = record {
     knows = held_now request (m ∷ []) new tt (knows_shrunk (m ∷ []) new s);
     known = s.known;
@@ -217,7 +217,7 @@ module _ (role : Role) (history : List Sent) (taken : Arrival → Message → Ty
   }
 
   -- a pending request is added to what only shrinks
-  pub asks_plain : (number : ℕ) (p : PendingRequest) (teid : Option ℕ) (new : Node) → Shrunk old new → IsPlain p.request → IsMadeNow history old (record new { pending = insert old.pending number p }) p.request → IsMatched new.sessions new.bearers number p → ((q : CreateSessionRequest) → p.request ≡ Create_session_request q → p.session ≡ Some q.control.teid) → is_create_answer p.request ≡ false → After role history taken old (asks old number p teid new)
+  pub asks_plain : (number : ℕ) (p : PendingRequest) (teid : Option ℕ) (new : Node) → Shrunk old new → IsPlain p.request → IsMadeNow history role old (record new { pending = insert old.pending number p }) p.request → IsMatched new.sessions new.bearers number p → ((q : CreateSessionRequest) → p.request ≡ Create_session_request q → p.session ≡ Some q.control.teid) → is_create_answer p.request ≡ false → After role history taken old (asks old number p teid new)
   asks_plain number p teid new s plain made matched names asked =
       let m = p.request in
       let after = history ++ signed role (m ∷ []) in

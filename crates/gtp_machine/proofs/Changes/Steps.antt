@@ -130,7 +130,7 @@ Draws-from history role old mid new sent from d = record {
   one = d.one;
 }
   where
-    made : (m : Message) → IsMadeNow history mid new m → IsMadeNow history old new m
+    made : (m : Message) → IsMadeNow history role mid new m → IsMadeNow history role old new m
     made m is = record {
       free = λ t owns. let f = is.free t owns in record { counted = f.counted ∙ from.counter; numbered = f.numbered; undrawn = λ was. f.undrawn (subst (Among t) (sym from.drawn) was) };
       drawn = is.drawn;

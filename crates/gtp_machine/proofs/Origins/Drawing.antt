@@ -38,11 +38,11 @@ pub record ProperBearer (x : CreateBearerResponse) : Type 0 where
   pub user : (c : GivenBearer) → x.contexts ≡ c ∷ [] → IsAccepting x.cause → IsAccepting c.cause → (t : ℕ) × (first_given x.contexts ≡ Some t)
 
 -- what holds of each request for a session and of each response that a gateway makes
-abbrev pub IsProper : Message → Type 0
-IsProper (Create_session_request q) = q.control.teid ≢ q.context.user.teid
-IsProper (Create_session_response a) = ProperSession a
-IsProper (Create_bearer_response x) = ProperBearer x
-IsProper _ = Unit {0}
+abbrev pub IsProper : Role → Message → Type 0
+IsProper role (Create_session_request q) = q.control.teid ≢ q.context.user.teid
+IsProper role (Create_session_response a) = (role ≡ Packet) × ProperSession a
+IsProper role (Create_bearer_response x) = (role ≡ Serving) × ProperBearer x
+IsProper role _ = Unit {0}
 
 -- what holds of a gateway's draws and of the counters that it tells
 pub record Drawing (side : Side) (role : Role) (history : List Sent) : Type 0 where
@@ -53,15 +53,15 @@ pub record Drawing (side : Side) (role : Role) (history : List Sent) : Type 0 wh
   pub once : (m n : Message) (t : ℕ) → HasSent history role m → HasSent history role n → Owns m t → Owns n t → m ≡ n
   pub told : (m : Message) (r : ℕ) → HasSent history role m → recovery_of m ≡ Some r → IsOfStart side r
   pub dated : (m : Message) (t : ℕ) → HasSent history role m → TellsStart m → Owns m t → recovery_of m ≡ Some (counter_of t)
-  pub proper : (m : Message) → HasSent history role m → IsProper m
+  pub proper : (m : Message) → HasSent history role m → IsProper role m
 
 -- a message that is made in this step: its own TEIDs are drawn now, it tells the present counter, and it is proper
-pub record IsMadeNow (history : List Sent) (old new : Node) (m : Message) : Type 0 where
+pub record IsMadeNow (history : List Sent) (role : Role) (old new : Node) (m : Message) : Type 0 where
   pub free : (t : ℕ) → Owns m t → IsFree old t
   pub drawn : (t : ℕ) → Owns m t → Among t new.drawn
   pub told : (r : ℕ) → recovery_of m ≡ Some r → r ≡ old.counter
   pub tells : (t : ℕ) → TellsStart m → Owns m t → recovery_of m ≡ Some old.counter
-  pub proper : IsProper m
+  pub proper : IsProper role m
 
 -- two messages of one step: they own no TEID in common, and the first gives no bearer
 pub record AreApart (m n : Message) : Type 0 where
@@ -74,7 +74,7 @@ pub record Draws (history : List Sent) (role : Role) (old new : Node) (sent : Li
   pub counter : new.counter ≡ old.counter
   pub extends : (t : ℕ) → Among t old.drawn → Among t new.drawn
   pub present : (t : ℕ) → Among t new.drawn → Among t old.drawn ⊎ (counter_of t ≡ old.counter)
-  pub each : (m : Message) → Among m sent → HasSent history role m ⊎ IsMadeNow history old new m
+  pub each : (m : Message) → Among m sent → HasSent history role m ⊎ IsMadeNow history role old new m
   pub one : (m n : Message) → Among m sent → Among n sent → (m ≡ n) ⊎ AreApart m n
 
 -- of one TEID more, or of two, each is of this start where those drawn now are
@@ -141,13 +141,13 @@ module _ (side : Side) (role : Role) (history : List Sent) (drawing : Drawing si
       before : (m : Message) (t : ℕ) → HasSent history role m → Owns m t → Among t e.node.drawn ⊎ IsEarlier (stepped side e) (counter_of t)
       before m t was owns = ⊎_elim (λ drawn. inl (draws.extends t drawn)) (λ earlier. inr (record { start = earlier.start; before = earlier.before; is = earlier.is })) (drawing.drawn m t was owns)
 
-      cases : (m : Message) → HasSent (history ++ signed role (messages e.out.sent)) role m → HasSent history role m ⊎ (Among m (messages e.out.sent) × IsMadeNow history side.node e.node m)
+      cases : (m : Message) → HasSent (history ++ signed role (messages e.out.sent)) role m → HasSent history role m ⊎ (Among m (messages e.out.sent) × IsMadeNow history role side.node e.node m)
       cases m has = elim (by_cases history role role (messages e.out.sent) m has) [
         | inl was ↦ inl was
         | inr now ↦ ⊎_elim (λ was. inl was) (λ fresh. inr (now.1, fresh)) (draws.each m now.1)
       ]
 
-      same : (m n : Message) (t : ℕ) → Owns m t → Owns n t → HasSent history role m ⊎ (Among m (messages e.out.sent) × IsMadeNow history side.node e.node m) → HasSent history role n ⊎ (Among n (messages e.out.sent) × IsMadeNow history side.node e.node n) → m ≡ n
+      same : (m n : Message) (t : ℕ) → Owns m t → Owns n t → HasSent history role m ⊎ (Among m (messages e.out.sent) × IsMadeNow history role side.node e.node m) → HasSent history role n ⊎ (Among n (messages e.out.sent) × IsMadeNow history role side.node e.node n) → m ≡ n
       same m n t m_owns n_owns (inl m_was) (inl n_was) = drawing.once m n t m_was n_was m_owns n_owns
       same m n t m_owns n_owns (inl m_was) (inr n_now) = absurd (unowned m t m_was m_owns (n_now.1.free t n_owns))
       same m n t m_owns n_owns (inr m_now) (inl n_was) = absurd (unowned n t n_was n_owns (m_now.1.free t m_owns))
@@ -230,7 +230,7 @@ pair_apart m n pair none = two_apart m n
 -- a step that draws some TEIDs and sends one message, which was sent before, or is made now and owns no other
 pub Draws-new : (history : List Sent) (role : Role) (old new : Node) (m : Message) → new.config ≡ old.config → new.counter ≡ old.counter → ((t : ℕ) → Among t old.drawn → Among t new.drawn)
     → ((t : ℕ) → Among t new.drawn → Among t old.drawn ⊎ (counter_of t ≡ old.counter))
-    → HasSent history role m ⊎ IsMadeNow history old new m → Draws history role old new (m ∷ [])
+    → HasSent history role m ⊎ IsMadeNow history role old new m → Draws history role old new (m ∷ [])
 Draws-new history role old new m config counter extends present is = record {
   config = config;
   counter = counter;
@@ -240,14 +240,14 @@ Draws-new history role old new m config counter extends present is = record {
   one = λ a b a_in b_in. inl (only_one m a b a_in b_in);
 }
   where
-    only : (n : Message) → Among n (m ∷ []) → HasSent history role n ⊎ IsMadeNow history old new n
-    only n (inl e) = subst (λ k. HasSent history role k ⊎ IsMadeNow history old new k) (sym e) is
+    only : (n : Message) → Among n (m ∷ []) → HasSent history role n ⊎ IsMadeNow history role old new n
+    only n (inl e) = subst (λ k. HasSent history role k ⊎ IsMadeNow history role old new k) (sym e) is
     only n (inr none) = absurd none
 
 -- a step that draws nothing, and sends one message
-pub Draws-one : (history : List Sent) (role : Role) (old new : Node) (m : Message) → new.config ≡ old.config → new.counter ≡ old.counter → new.drawn ≡ old.drawn → HasSent history role m ⊎ IsMadeNow history old new m → Draws history role old new (m ∷ [])
+pub Draws-one : (history : List Sent) (role : Role) (old new : Node) (m : Message) → new.config ≡ old.config → new.counter ≡ old.counter → new.drawn ≡ old.drawn → HasSent history role m ⊎ IsMadeNow history role old new m → Draws history role old new (m ∷ [])
 Draws-one history role old new m config counter same = Draws-new history role old new m config counter (λ t was. subst (Among t) (sym same) was) (λ t now. inl (subst (Among t) same now))
 
 -- a message that owns no TEID and tells the present counter, if any
-pub Made-plain : (history : List Sent) (old new : Node) (m : Message) → ((t : ℕ) → Owns m t → ⊥) → ((r : ℕ) → recovery_of m ≡ Some r → r ≡ old.counter) → IsProper m → IsMadeNow history old new m
-Made-plain history old new m none told proper = record { free = λ t owns. absurd (none t owns); drawn = λ t owns. absurd (none t owns); told = told; tells = λ t is owns. absurd (none t owns); proper = proper }
+pub Made-plain : (history : List Sent) (role : Role) (old new : Node) (m : Message) → ((t : ℕ) → Owns m t → ⊥) → ((r : ℕ) → recovery_of m ≡ Some r → r ≡ old.counter) → IsProper role m → IsMadeNow history role old new m
+Made-plain history role old new m none told proper = record { free = λ t owns. absurd (none t owns); drawn = λ t owns. absurd (none t owns); told = told; tells = λ t is owns. absurd (none t owns); proper = proper }

@@ -39,13 +39,13 @@ record IsLesser (counter : ℕ) (m : Message) : Type 0 where
   no_answer : is_create_answer m ≡ false
   none : (t : ℕ) → Owns m t → ⊥
   told : (r : ℕ) → recovery_of m ≡ Some r → r ≡ counter
-  proper : IsProper m
+  proper : (role : Role) → IsProper role m
 
 deletes_session : (counter : ℕ) (d : DeleteSessionRequest) → IsLesser counter (Delete_session_request d)
-deletes_session counter d = record { plain = tt; no_session = λ q e. cc e; no_bearer = λ r e. cc e; no_answer = refl; none = λ t none. none; told = λ r e. absurd (cc e); proper = tt }
+deletes_session counter d = record { plain = tt; no_session = λ q e. cc e; no_bearer = λ r e. cc e; no_answer = refl; none = λ t none. none; told = λ r e. absurd (cc e); proper = λ role. tt }
 
 deletes_bearer : (counter : ℕ) (d : DeleteBearerRequest) → IsLesser counter (Delete_bearer_request d)
-deletes_bearer counter d = record { plain = tt; no_session = λ q e. cc e; no_bearer = λ r e. cc e; no_answer = refl; none = λ t none. none; told = λ r e. absurd (cc e); proper = tt }
+deletes_bearer counter d = record { plain = tt; no_session = λ q e. cc e; no_bearer = λ r e. cc e; no_answer = refl; none = λ t none. none; told = λ r e. absurd (cc e); proper = λ role. tt }
 
 -- what was read on the user plane was sent
 abbrev pub UserCarried : Role → List Sent → UserReading → Type 0
@@ -59,12 +59,12 @@ module _ (role : Role) (history : List Sent) (taken : Arrival → Message → Ty
   unchanged outcome e gives = at_result (After role history taken old) e _ gives (stays role history taken old knows outcome)
 
   -- a message that is made now, owns no TEID and changes nothing
-  tells_plain : (destination : Endpoint) (m : Message) (outcome : EventOutcome) (new : Node) → Shrunk old new → IsPlain m → ((t : ℕ) → Owns m t → ⊥) → ((r : ℕ) → recovery_of m ≡ Some r → r ≡ old.counter) → IsProper m → After role history taken old (record { out = says destination m; outcome = outcome; node = new })
-  tells_plain destination m outcome new s plain none told proper = speaks role history taken old knows destination m outcome new s plain (Made-plain history old new m none told proper)
+  tells_plain : (destination : Endpoint) (m : Message) (outcome : EventOutcome) (new : Node) → Shrunk old new → IsPlain m → ((t : ℕ) → Owns m t → ⊥) → ((r : ℕ) → recovery_of m ≡ Some r → r ≡ old.counter) → IsProper role m → After role history taken old (record { out = says destination m; outcome = outcome; node = new })
+  tells_plain destination m outcome new s plain none told proper = speaks role history taken old knows destination m outcome new s plain (Made-plain history role old new m none told proper)
 
   -- a request that makes nothing is sent, and what it is about closes or stays
   asks_lesser : (number : ℕ) (p : PendingRequest) (teid : Option ℕ) (new : Node) → Shrunk old new → IsLesser old.counter p.request → (e : Effect) → e ≡ asks old number p teid new → After role history taken old e
-  asks_lesser number p teid new s is e gives = at_result (After role history taken old) e _ gives (asks_plain role history taken old knows number p teid new s is.plain (Made-plain history old (record new { pending = insert old.pending number p }) p.request is.none is.told is.proper)
+  asks_lesser number p teid new s is e gives = at_result (After role history taken old) e _ gives (asks_plain role history taken old knows number p teid new s is.plain (Made-plain history role old (record new { pending = insert old.pending number p }) p.request is.none is.told (is.proper role))
       (record { waits = λ q e. absurd (is.no_session q e); numbered = λ q e. absurd (is.no_session q e); names_bearer = λ r e. absurd (is.no_bearer r e); of_session = λ r e. absurd (is.no_bearer r e) })
       (λ q e. absurd (is.no_session q e))
       is.no_answer)
@@ -80,7 +80,7 @@ module _ (role : Role) (history : List Sent) (taken : Arrival → Message → Ty
         knows = later role history taken old knows (m ∷ []);
         known = refl;
         told = nothing_told history (other role);
-        draws = Draws-one history role old old m refl refl refl (inr (Made-plain history old old m (λ t none. none) (λ c e. absurd (cc e)) tt));
+        draws = Draws-one history role old old m refl refl refl (inr (Made-plain history role old old m (λ t none. none) (λ c e. absurd (cc e)) tt));
         logs = record {
           held_stays = λ h was. inl was;
           packets = packets entry refl refl;
@@ -127,7 +127,7 @@ module _ (role : Role) (history : List Sent) (taken : Arrival → Message → Ty
       r
   commanded by Send_echo e sessions bearers r =
       on_echo_begun old e (λ outcome f. unchanged outcome e f)
-      (λ few r. asks_lesser r.number _ _ old (Shrunk-itself old) (record { plain = tt; no_session = λ q e. cc e; no_bearer = λ r e. cc e; no_answer = refl; none = λ t none. none; told = λ r e. cc e; proper = tt }) e r.gives)
+      (λ few r. asks_lesser r.number _ _ old (Shrunk-itself old) (record { plain = tt; no_session = λ q e. cc e; no_bearer = λ r e. cc e; no_answer = refl; none = λ t none. none; told = λ r e. cc e; proper = λ role. tt }) e r.gives)
       r
   commanded by (Send_user bearer payload) e sessions bearers r = on_packet_sent old e (λ outcome f. unchanged outcome e f) by bearer payload (λ at active r. sends bearer payload at.bearer e at.stands active r) r
 

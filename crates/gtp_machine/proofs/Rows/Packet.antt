@@ -42,7 +42,7 @@ stands_active sessions key at at_stands active s s_stands closing =
     active_not_closing at.state active (ap (λ (k : Session). k.state) is ∙ closing)
 
 -- the request for a bearer that is begun is made now
-begun_now : (history : List Sent) (old new : Node) (session : ℕ) (at : Session) (tft : List ℕ) (qos : Qos) (user number : ℕ) → IsFree old user → Among user new.drawn → IsMadeNow history old new (Create_bearer_request (bearer_request old at tft qos user number))
+begun_now : (history : List Sent) (old new : Node) (session : ℕ) (at : Session) (tft : List ℕ) (qos : Qos) (user number : ℕ) → IsFree old user → Among user new.drawn → IsMadeNow history Packet old new (Create_bearer_request (bearer_request old at tft qos user number))
 begun_now history old new session at tft qos user number free drawn = record { free = λ t is. subst (IsFree old) (sym is) free; drawn = λ t is. subst (λ k. Among k new.drawn) (sym is) drawn; told = λ c e. absurd (none_some c e); tells = λ t none. absurd none; proper = tt }
 
 -- what is known once a bearer was begun and its request was sent
@@ -103,7 +103,7 @@ module _ (history : List Sent) (taken : Arrival → Message → Type 0) (serving
       (λ at active draws few r. begins unowned session at.session tft qos e at.stands active r)
       r
 
-  module _ (dated : (m : Message) (t : ℕ) → HasSent history Serving m → TellsStart m → Owns m t → recovery_of m ≡ Some (counter_of t)) (proper : (m : Message) → HasSent history Serving m → IsProper m) where
+  module _ (dated : (m : Message) (t : ℕ) → HasSent history Serving m → TellsStart m → Owns m t → recovery_of m ≡ Some (counter_of t)) (proper : (m : Message) → HasSent history Serving m → IsProper Serving m) where
     module _ (unowned : NothingOwns history Packet old) (request : Arrival) (q : CreateSessionRequest) (e : Effect) (came : HasSent history Serving (Create_session_request q)) (is_taken : taken request (Create_session_request q)) (told : (c : ℕ) → q.recovery ≡ Some c → old.known ≡ Some c) (r : MakesSession request old q e) where
       abbrev answer : CreateSessionResponse
       answer = session_response old q r.control r.user r.address
@@ -144,13 +144,13 @@ module _ (history : List Sent) (taken : Arrival → Message → Type 0) (serving
       owned P control user t (inl is) = subst P (same_Some r.control t is) control
       owned P control user t (inr is) = subst P (same_Some r.user t is) user
 
-      answer_now : (new : Node) → Among r.control new.drawn → Among r.user new.drawn → IsMadeNow history old new (Create_session_response answer)
+      answer_now : (new : Node) → Among r.control new.drawn → Among r.user new.drawn → IsMadeNow history Packet old new (Create_session_response answer)
       answer_now new control user = record {
         free = owned (IsFree old) r.control_free r.user_free;
         drawn = owned (λ t. Among t new.drawn) control user;
         told = λ c e. cc e;
         tells = λ t is owns. refl;
-        proper = record { control = λ accepts. (r.control, refl); user = λ accepts. (r.user, refl); apart = λ t control user. r.apart (same_Some r.control t control ∙ sym (same_Some r.user t user)) };
+        proper = (refl, record { control = λ accepts. (r.control, refl); user = λ accepts. (r.user, refl); apart = λ t control user. r.apart (same_Some r.control t control ∙ sym (same_Some r.user t user)) });
       }
 
       -- the answer goes alone
@@ -199,9 +199,9 @@ module _ (history : List Sent) (taken : Arrival → Message → Type 0) (serving
         present t (inl is) = inr (ap counter_of is ∙ x.adds.user_free.counted)
         present t (inr others) = two_more_drawn old.counter r.user r.control old.drawn r.user_free.counted r.control_free.counted t others
 
-        each : (m : Message) → Among m sent_together → HasSent history Packet m ⊎ IsMadeNow history old left m
-        each m (inl is) = inr (subst (IsMadeNow history old left) (sym is) (answer_now left (inr (inr (inl refl))) (inr (inl refl))))
-        each m (inr (inl is)) = inr (subst (IsMadeNow history old left) (sym is) (record { free = λ t is. subst (IsFree old) (sym is) free_before; drawn = λ t is. inl is; told = λ c e. absurd (none_some c e); tells = λ t none. absurd none; proper = tt }))
+        each : (m : Message) → Among m sent_together → HasSent history Packet m ⊎ IsMadeNow history Packet old left m
+        each m (inl is) = inr (subst (IsMadeNow history Packet old left) (sym is) (answer_now left (inr (inr (inl refl))) (inr (inl refl))))
+        each m (inr (inl is)) = inr (subst (IsMadeNow history Packet old left) (sym is) (record { free = λ t is. subst (IsFree old) (sym is) free_before; drawn = λ t is. inl is; told = λ c e. absurd (none_some c e); tells = λ t none. absurd none; proper = tt }))
         each m (inr (inr none)) = absurd none
 
         plain : (m : Message) → Among m sent_together → IsPlain m
@@ -238,7 +238,7 @@ module _ (history : List Sent) (taken : Arrival → Message → Type 0) (serving
 
     refuses : (request : Arrival) (q : CreateSessionRequest) (cause : Cause) (e : Effect) → 64 ≤ cause.value → e ≡ session_refused request q cause old → Took Packet history taken old e
     refuses request q cause e high gives = gives_answer Packet history taken old knows request _ cause.value old e gives (Shrunk-itself old) tt none (λ c e. cc e)
-        (record { control = λ accepts. absurd (omega (arith, high, accepts.high)); user = λ accepts. absurd (omega (arith, high, accepts.high)); apart = λ t control user. none_some t control })
+        (refl, record { control = λ accepts. absurd (omega (arith, high, accepts.high)); user = λ accepts. absurd (omega (arith, high, accepts.high)); apart = λ t control user. none_some t control })
       where
         none : (t : ℕ) → (None ≡ Some t) ⊎ (None ≡ Some t) → ⊥
         none t (inl e) = none_some t e
@@ -298,7 +298,7 @@ module _ (history : List Sent) (taken : Arrival → Message → Type 0) (serving
               };
               drawn = knows.drawn;
               standing = knows.standing;
-              ready = Each-insert IsReady old.bearers fits.bearer opened (λ active. (proper (Create_bearer_response x) came).user new.context new.alone accepts both) knows.ready;
+              ready = Each-insert IsReady old.bearers fits.bearer opened (λ active. (proper (Create_bearer_response x) came).1.user new.context new.alone accepts both) knows.ready;
               closed = closes-bearer old.sessions old.bearers fits.bearer opened not_closing knows.closed;
               matched = matched;
               pending = Each-remove (IsPending after Packet) old.pending x.number was.pending;

@@ -103,7 +103,7 @@ module _ (history : List Sent) (taken : Arrival → Message → Type 0) (serving
       (λ room draws few r. begins unowned spec e r)
       r
 
-  module _ (dated : (m : Message) (t : ℕ) → HasSent history Packet m → TellsStart m → Owns m t → recovery_of m ≡ Some (counter_of t)) (proper : (m : Message) → HasSent history Packet m → IsProper m) where
+  module _ (dated : (m : Message) (t : ℕ) → HasSent history Packet m → TellsStart m → Owns m t → recovery_of m ≡ Some (counter_of t)) (proper : (m : Message) → HasSent history Packet m → IsProper Packet m) where
     module _ (a : CreateSessionResponse) (came : HasSent history Packet (Create_session_response a)) (told : (c : ℕ) → a.recovery ≡ Some c → old.known ≡ Some c) (at : HasPending old a.number) (fits : FitsCreateSession at.pending a) (accepts : IsAccepting a.cause) (new : DescribesSession old fits.session a) where
       q_sent : HasSent history Serving (Create_session_request fits.request)
       q_sent = subst (λ m. HasSent history Serving m) fits.asked (knows.pending a.number at.pending at.waits).sent
@@ -162,8 +162,8 @@ module _ (history : List Sent) (taken : Arrival → Message → Type 0) (serving
               };
               matched = matched;
               drawn = Each-insert (λ t (s : Session). Among t old.drawn) old.sessions fits.session now (knows.drawn fits.session new.at.session new.at.stands) knows.drawn;
-              standing = Each-insert (IsStanding old.known) old.sessions fits.session now (record { current = λ x is. told (counter_of x) (dated (Create_session_response a) x came tt (inl is)); blank = λ w. absurd (active_not_pending w); named = λ h. (proper (Create_session_response a) came).control accepts }) knows.standing;
-              ready = Each-insert IsReady old.bearers q.context.user.teid opened (λ active. (proper (Create_session_response a) came).user accepts) knows.ready;
+              standing = Each-insert (IsStanding old.known) old.sessions fits.session now (record { current = λ x is. told (counter_of x) (dated (Create_session_response a) x came tt (inl is)); blank = λ w. absurd (active_not_pending w); named = λ h. (proper (Create_session_response a) came).1.control accepts }) knows.standing;
+              ready = Each-insert IsReady old.bearers q.context.user.teid opened (λ active. (proper (Create_session_response a) came).1.user accepts) knows.ready;
               closed = closes-bearer (insert old.sessions fits.session now) old.bearers q.context.user.teid opened not_closing (closes-session old.sessions old.bearers fits.session now (active_not_closing Active refl) knows.closed);
               pending = Each-remove (IsPending after Serving) old.pending a.number was.pending;
               held = was.held;
@@ -283,7 +283,7 @@ module _ (history : List Sent) (taken : Arrival → Message → Type 0) (serving
             drawn = λ t is. inl (let same : t ≡ r.user = cc is in same);
             told = λ c e. cc e;
             tells = λ t none. absurd none;
-            proper = record { user = λ c is low high. (r.user, refl) };
+            proper = (refl, record { user = λ c is low high. (r.user, refl) });
           }));
           logs = Logs-made history Serving taken old request (m ∷ []) 16 new (Create_bearer_request q) refl is_taken refl (λ t p among. cc (Among-only _ m among))
               (answers x (holding request (m ∷ []) new) (record { request = q; sent = came; echoed = refl; arrival = request; came = is_taken; session = at.session; stands = at.stands; held = Among-last {X = Held} (record { request = request; answer = m ∷ [] }) old.held }));
@@ -302,11 +302,11 @@ module _ (history : List Sent) (taken : Arrival → Message → Type 0) (serving
     -- a refusal of a Create Bearer Request with no bearer context
     refuses : (request : Arrival) (q : CreateBearerRequest) (header cause : ℕ) (e : Effect) → e ≡ bearer_refused request q header cause old → Took Serving history taken old e
     refuses request q header cause e gives = gives_answer Serving history taken old knows request _ cause old e gives (Shrunk-itself old) refl (λ t none. none_some t none) (λ c e. cc e)
-        (record { user = λ c is low high. absurd (cc is) })
+        (refl, record { user = λ c is low high. absurd (cc is) })
 
     lacks : (request : Arrival) (q : CreateBearerRequest) (header : ℕ) (e : Effect) → e ≡ answered request (Create_bearer_response (no_resources old q header)) 73 old → Took Serving history taken old e
     lacks request q header e gives = gives_answer Serving history taken old knows request _ 73 old e gives (Shrunk-itself old) refl (λ t none. none_some t none) (λ c e. cc e)
-        (record { user = λ c is both all. absurd (omega (arith, both.high)) })
+        (refl, record { user = λ c is both all. absurd (omega (arith, both.high)) })
 
     create_bearer_asked : (unowned : NothingOwns history Serving old) (request : Arrival) (q : CreateBearerRequest) (e : Effect) → HasSent history Packet (Create_bearer_request q) → taken request (Create_bearer_request q) → CreateBearerAsked request q old e → Took Serving history taken old e
     create_bearer_asked unowned request q e came is (inl f) = drops Serving history taken old knows _ e f.1

@@ -48,12 +48,12 @@ module _ (history : List Sent) (serving_once : Once history Serving) (packet_onc
     reading_came : (e : Effect) → ControlCarried role history old reading → ControlStep (TakesReading role Takes reading) request old e → After role history (Taken old (Control_came request reading)) old e
     reading_came e came r = control_came role history (Taken old (Control_came request reading)) serving_once packet_once old knows Takes request (λ m came is mid from mid_knows told e r. rows mid mid_knows (NothingOwns-from history role old mid from unowned) m e came is told r) reading e came (λ new m is. (ap (λ k. Control_came request k) is, new)) r
 
-  control_taken : (role : Role) → NothingOwns history role old → ((m : Message) (t : ℕ) → HasSent history (other role) m → TellsStart m → Owns m t → recovery_of m ≡ Some (counter_of t)) → ((m : Message) → HasSent history (other role) m → IsProper m) → Knows role history old
+  control_taken : (role : Role) → NothingOwns history role old → ((m : Message) (t : ℕ) → HasSent history (other role) m → TellsStart m → Owns m t → recovery_of m ≡ Some (counter_of t)) → ((m : Message) → HasSent history (other role) m → IsProper (other role) m) → Knows role history old
       → (request : Arrival) (reading : ControlReading) (e : Effect) → ControlCarried role history old reading → Step role old (Control_came request reading) e → After role history (Taken old (Control_came request reading)) old e
   control_taken Serving unowned dated proper knows request reading e came r = reading_came Serving unowned knows ServingTakes request reading (λ mid mid_knows mid_unowned. serving_taken history (Taken old (Control_came request reading)) serving_once packet_once mid mid_knows dated proper mid_unowned request) e came r
   control_taken Packet unowned dated proper knows request reading e came r = reading_came Packet unowned knows PacketTakes request reading (λ mid mid_knows mid_unowned. packet_taken history (Taken old (Control_came request reading)) serving_once packet_once mid mid_knows dated proper mid_unowned request) e came r
 
-  module _ (role : Role) (unowned : NothingOwns history role old) (dated : (m : Message) (t : ℕ) → HasSent history (other role) m → TellsStart m → Owns m t → recovery_of m ≡ Some (counter_of t)) (proper : (m : Message) → HasSent history (other role) m → IsProper m) (knows : Knows role history old) where
+  module _ (role : Role) (unowned : NothingOwns history role old) (dated : (m : Message) (t : ℕ) → HasSent history (other role) m → TellsStart m → Owns m t → recovery_of m ≡ Some (counter_of t)) (proper : (m : Message) → HasSent history (other role) m → IsProper (other role) m) (knows : Knows role history old) where
     pub step_after : (input : Input) (e : Effect) → Carried role history old input → Step role old input e → After role history (Taken old input) old e
     step_after (Commanded command) e came r =
         commanded role history (Taken old (Commanded command)) serving_once packet_once old knows role command e (session_begun_by role unowned knows (Taken old (Commanded command)) e) (bearer_begun_by role unowned knows (Taken old (Commanded command)) e) r

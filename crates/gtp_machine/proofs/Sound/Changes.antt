@@ -5,10 +5,11 @@ use Rattle.std.specs.FinMap.{get, insert, remove, len, gets}
 use Rattle.gtp_values.specs.FiniteMap.{FiniteMap, Among, kept, changed}
 use Rattle.gtp_machine.specs.Config.{Config}
 use Rattle.gtp_machine.specs.Message.{Message, Create_session_request, Create_bearer_request, CreateSessionRequest, CreateBearerRequest}
-use Rattle.gtp_machine.specs.Node.{Role, State, Pending, Active, Closing, Kind, Default, Dedicated, Session, Bearer, PendingRequest, Arrival, Node, holding, fresh_node}
+use Rattle.gtp_machine.specs.Node.{Role, Packet, State, Pending, Active, Closing, Kind, Default, Dedicated, Session, Bearer, PendingRequest, Arrival, Node, holding, fresh_node}
 use Rattle.gtp_machine.specs.Removal.{on, without, without_session, without_bearer, finished_about, finished, closing_session, closing_bearer, session_closing}
 use Rattle.gtp_machine.specs.Choice.{IsFree, IsIdentity}
 use Rattle.gtp_machine.specs.Sound.{At, IsInState, IsBearerOf, IsSoundSession, IsSoundBearer, AsksSession, AsksBearer, IsAbout, opened_by, AreSoundRequests, IsSound, IsWithin}
+use Rattle.gtp_machine.proofs.Sound.Addresses.{HasNewAddress, apart_session, apart_same, serving_not_packet}
 use Rattle.gtp_machine.proofs.Basics.FiniteMaps.{found-remove, found-empty, found-kept, found-changed, get-changed_some, get-kept, Each-insert}
 use Rattle.gtp_machine.proofs.Basics.Counting.{len-insert_most, len-insert_same, len-remove_most, len-kept_most}
 use Rattle.gtp_machine.proofs.Sound.Parts.{about_opening, default_dedicated, at_here, at_insert, there_insert, Follows, follows_all, requests_follow, requests_fewer, requests_add, opened_drawn, contexts_drawn, contexts_session, contexts_bearer, contexts_same}
@@ -20,6 +21,7 @@ module _ (role : Role) where
     contexts = record { each_session = λ t s e. absurd (found-empty t s e); each_bearer = λ t s e. absurd (found-empty t s e); apart = λ s t a b i e. absurd (found-empty s a e) };
     requests = record { each = λ t s e. absurd (found-empty t s e); lone = λ m n p q t e. absurd (found-empty m p e) };
     within = record { sessions_few = grind (arith, gets); pending_few = grind (arith, gets); numbers = λ t s e. absurd (found-empty t s e); held_few = omega arith; drawn_few = omega arith };
+    addresses = λ packet version s t a b address e. absurd (found-empty s a e);
   }
 
   not_or_left : (a b : Bool) → not (a || b) ≡ true → a ≡ false
@@ -51,6 +53,7 @@ module _ (role : Role) where
       };
       requests = requests_follow role old.sessions (kept stays_session old.sessions) old.bearers (kept stays_bearer old.bearers) (kept stays_pending old.pending) follows (requests_fewer role old.sessions old.bearers old.pending (kept stays_pending old.pending) (λ m q e. (found-kept stays_pending old.pending m q e).1) sound.requests);
       within = within_pending (kept stays_session old.sessions) (kept stays_pending old.pending) (len-kept_most stays_session old.sessions) (len-kept_most stays_pending old.pending) (λ m q e. (found-kept stays_pending old.pending m q e).1);
+      addresses = λ packet version s t a b address x y. sound.addresses packet version s t a b address (found-kept stays_session old.sessions s a x).1 (found-kept stays_session old.sessions t b y).1;
     }
       where
         stays_session : ℕ → Session → Bool
@@ -94,6 +97,7 @@ module _ (role : Role) where
       contexts = sound.contexts;
       requests = requests_fewer role old.sessions old.bearers old.pending (remove old.pending number) (λ m q e. (found-remove old.pending number m q e).1) sound.requests;
       within = removed_within number;
+      addresses = sound.addresses;
     }
 
     -- a pending request is finished, and what it was about goes
@@ -119,10 +123,11 @@ module _ (role : Role) where
       contexts = sound.contexts;
       requests = sound.requests;
       within = record { sessions_few = sound.within.sessions_few; pending_few = sound.within.pending_few; numbers = sound.within.numbers; held_few = omega (arith, length-append old.held (record { request = request; answer = answer } ∷ []), room); drawn_few = sound.within.drawn_few };
+      addresses = sound.addresses;
     }
 
     pub known_sound : (counter : Option ℕ) → IsSound role (record old { known = counter })
-    known_sound counter = record { contexts = sound.contexts; requests = sound.requests; within = sound.within }
+    known_sound counter = record { contexts = sound.contexts; requests = sound.requests; within = sound.within; addresses = sound.addresses }
 
     -- a request is added to a node that is sound with the requests that wait
     pub asks_sound : (new : Node) (number : ℕ) (p : PendingRequest) → IsSound role new → new.pending ≡ old.pending → len old.pending < 256 → number ≤ 8388607 → IsAbout role new.sessions new.bearers number p → ((m : ℕ) (q : PendingRequest) (t : ℕ) → get old.pending m ≡ Some q → opened_by q.request ≡ Some t → opened_by p.request ≡ Some t → ⊥) → IsSound role (record new { pending = insert old.pending number p })
@@ -136,6 +141,7 @@ module _ (role : Role) where
         held_few = s.within.held_few;
         drawn_few = s.within.drawn_few;
       };
+      addresses = s.addresses;
     }
 
     -- what is free is neither a context's nor opened by a pending request
@@ -149,13 +155,14 @@ module _ (role : Role) where
     free_opened key m q t free e o same = free.undrawn (subst (λ k. Among k old.drawn) same (opened_drawn role old.drawn old.sessions old.bearers m q t sound.contexts (sound.requests.each m q e) o))
 
     -- a session comes with its default bearer, under free TEIDs
-    pub session_comes : (control user : ℕ) (s : Session) (b : Bearer) → IsFree old control → IsFree old user → b.session ≡ control → len old.sessions < 1000 → length old.drawn + 2 ≤ 16777215 → IsSoundSession (user ∷ control ∷ old.drawn) control s → IsSoundBearer (user ∷ control ∷ old.drawn) (insert old.sessions control s) user b → IsSound role (record old { drawn = user ∷ control ∷ old.drawn; sessions = insert old.sessions control s; bearers = insert old.bearers user b })
-    session_comes control user s b control_free user_free of room draws at_session at_bearer = record {
+    pub session_comes : (control user : ℕ) (s : Session) (b : Bearer) → IsFree old control → IsFree old user → b.session ≡ control → len old.sessions < 1000 → length old.drawn + 2 ≤ 16777215 → IsSoundSession (user ∷ control ∷ old.drawn) control s → IsSoundBearer (user ∷ control ∷ old.drawn) (insert old.sessions control s) user b → (role ≡ Packet → HasNewAddress old.sessions s) → IsSound role (record old { drawn = user ∷ control ∷ old.drawn; sessions = insert old.sessions control s; bearers = insert old.bearers user b })
+    session_comes control user s b control_free user_free of room draws at_session at_bearer new = record {
       contexts = contexts_bearer (user ∷ control ∷ old.drawn) (insert old.sessions control s) old.bearers user b at_bearer (λ t a i e other same ia ib. free_session control a.session (sound.contexts.each_bearer t a e).of.0 control_free (sound.contexts.each_bearer t a e).of.1 (same ∙ of)) (contexts_session (user ∷ control ∷ old.drawn) old.sessions old.bearers control s at_session (contexts_drawn old.drawn (user ∷ control ∷ old.drawn) old.sessions old.bearers (λ t was. inr (inr was)) sound.contexts));
       requests = requests_follow role old.sessions (insert old.sessions control s) old.bearers (insert old.bearers user b) old.pending (λ m q e. follows_all old.sessions (insert old.sessions control s) old.bearers (insert old.bearers user b) q
           (λ t st n at. at_insert old.sessions control s (IsInState st) t (λ y same e is. absurd (free_session control t y control_free e same)) at)
           (λ t c k st n at. at_insert old.bearers user b (IsBearerOf c k st) t (λ y same e is. absurd (free_bearer user t y user_free e same)) at)) sound.requests;
       within = within_sessions (insert old.sessions control s) (user ∷ control ∷ old.drawn) (omega (arith, len-insert_most old.sessions control s, room)) (omega (arith, draws));
+      addresses = λ packet. apart_session old.sessions control s (new packet) (sound.addresses packet);
     }
 
     -- a dedicated bearer comes under a free TEID
@@ -166,6 +173,7 @@ module _ (role : Role) where
           (λ t st n at. at)
           (λ t c k st n at. at_insert old.bearers user b (IsBearerOf c k st) t (λ y same e is. absurd (free_bearer user t y free e same)) at)) sound.requests;
       within = within_sessions old.sessions (user ∷ old.drawn) sound.within.sessions_few (omega (arith, draws));
+      addresses = sound.addresses;
     }
 
     -- an active bearer is replaced by one of its session, kind and identity, with its remote, in any state but pending
@@ -184,6 +192,7 @@ module _ (role : Role) where
               (λ t st no at. at)
               (λ t c k st no at. at_insert old.bearers key n (IsBearerOf c k st) t (λ y same e is. absurd (no (sym is.in_state ∙ (ap (λ (k : Bearer). k.state) (one_value (get old.bearers key) y b (ap (λ k. get old.bearers k) (sym same) ∙ e) stands) ∙ active)))) at)) sound.requests;
           within = sound.within;
+          addresses = sound.addresses;
         }
 
     -- an active session and its bearers are closing
@@ -206,6 +215,7 @@ module _ (role : Role) where
       };
       requests = requests_follow role old.sessions (insert old.sessions session (closing_session s)) old.bearers (changed (closing_bearer session) old.bearers) old.pending (λ m q e. follows q) sound.requests;
       within = within_sessions (insert old.sessions session (closing_session s)) old.drawn (omega (arith, len-insert_same old.sessions session (closing_session s) s stands, sound.within.sessions_few)) sound.within.drawn_few;
+      addresses = λ packet. apart_same old.sessions session s (closing_session s) stands refl (sound.addresses packet);
     }
       where
         closed_session : IsSoundSession old.drawn session (closing_session s)
@@ -277,6 +287,7 @@ module _ (role : Role) where
               (contexts_session old.drawn old.sessions old.bearers c now (record { own = (sound.contexts.each_session c a.waits.0 a.waits.1).own; named = λ n. remote; blank = λ w. absurd (pending_active now.state w active) }) sound.contexts);
           requests = requests_follow role old.sessions (insert old.sessions c now) old.bearers (insert old.bearers u opened) (remove old.pending number) (λ m q e. follows m q (found-remove old.pending number m q e)) (requests_fewer role old.sessions old.bearers old.pending (remove old.pending number) (λ m q e. (found-remove old.pending number m q e).1) sound.requests);
           within = within_pending (insert old.sessions c now) (remove old.pending number) (omega (arith, len-insert_same old.sessions c now a.waits.0 a.waits.1)) (len-remove_most old.pending number) (λ m q e. (found-remove old.pending number m q e).1);
+          addresses = λ packet. absurd (serving_not_packet (sym a.by ∙ packet));
         }
       where
         follows : (m : ℕ) (q : PendingRequest) → (m ≢ number) × (get old.pending m ≡ Some q) → Follows old.sessions (insert old.sessions a.request.control.teid now) old.bearers (insert old.bearers a.request.context.user.teid opened) q
@@ -306,6 +317,7 @@ module _ (role : Role) where
           }) (λ t a i e other. unused t a i e) sound.contexts;
           requests = requests_follow role old.sessions old.sessions old.bearers (insert old.bearers u n) (remove old.pending number) (λ m q e. follows m q (found-remove old.pending number m q e)) (requests_fewer role old.sessions old.bearers old.pending (remove old.pending number) (λ m q e. (found-remove old.pending number m q e).1) sound.requests);
           within = removed_within number;
+          addresses = sound.addresses;
         }
       where
         is_it : (t : ℕ) (y : Bearer) → t ≡ r.context.user.teid → get old.bearers t ≡ Some y → y ≡ b

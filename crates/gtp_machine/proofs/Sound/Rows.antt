@@ -24,10 +24,11 @@ use Rattle.gtp_machine.specs.Config.{control_end, template_for}
 use Rattle.gtp_machine.proofs.Basics.Finishing.{quietly, on_session_begun, on_session_deleted, on_bearer_begun, on_bearer_deleted, on_session_released, on_end_marked, on_echo_begun, on_packet_sent, on_packet_came, on_end_came, on_error_came, on_user_step, on_finish, on_session_answered, on_bearer_answered, on_bearer_asked, on_session_asked, on_hears, on_control, on_read}
 use Rattle.gtp_machine.proofs.Basics.Templates.{goes}
 use Rattle.gtp_machine.specs.Packet.{session_cause, session_response, made_session, made_bearer, session_made, MakesSession, CreateSessionAsked, DeleteSessionAsked, FitsCreateBearer, DescribesBearer, CanOpen, opened_dedicated, OpensBearer, CreateBearerAnswered, PacketTakes}
-use Rattle.gtp_machine.specs.Sound.{At, IsInState, IsBearerOf, DeletesSession, IsSound, NamesItsEnds, IsWellFormed, AreWellFormed, StaysSound, ReachedIsSound}
+use Rattle.gtp_machine.specs.Sound.{At, IsInState, IsBearerOf, DeletesSession, IsSound, NamesItsEnds, IsWellFormed, AreWellFormed, StaysSound, ReachedIsSound, GivesEachAddressOnce}
 use Rattle.gtp_machine.proofs.Basics.FiniteMaps.{get-insert_same}
 use Rattle.gtp_machine.proofs.Sound.Parts.{at_here, no_delete_session}
 use Rattle.gtp_machine.proofs.Sound.Changes.{fresh, without_sound, without_session_sound, without_bearer_sound, finished_sound, holding_sound, known_sound, asks_sound, free_opened, session_comes, bearer_comes, bearer_changes, closing_sound, is_session, is_bearer, session_opens, bearer_opens}
+use Rattle.gtp_machine.proofs.Sound.Addresses.{serving_not_packet, given_is_new}
 use Rattle.gtp_machine.proofs.Changes.Forgetting.{leaves}
 use Rattle.std.proofs.lemmas.Option.{same_Some as some_is}
 use Rattle.gtp_values.proofs.Outcomes.{none_some}
@@ -69,7 +70,8 @@ module _ (old : Node) where
       by_row Serving e _ r.gives (asks_sound Serving old sound (session_begun old r.control r.user q) r.number _
       (session_comes Serving old sound r.control r.user (pending_session q) (pending_bearer r.control q) r.control_free r.user_free refl room draws
       (record { own = inr (inl refl); named = λ n. absurd (n refl); blank = λ w. refl })
-      (record { own = inl refl; of = (pending_session q, get-insert_same old.sessions r.control (pending_session q)); named = λ a. absurd (cc a); blank = λ w. refl; range = λ i e. subst IsIdentity (some_is spec.subscriber.identity i e) identity }))
+      (record { own = inl refl; of = (pending_session q, get-insert_same old.sessions r.control (pending_session q)); named = λ a. absurd (cc a); blank = λ w. refl; range = λ i e. subst IsIdentity (some_is spec.subscriber.identity i e) identity })
+      (λ packet. absurd (serving_not_packet packet)))
       refl few r.number_free.small
       (inr (inl (record {
         by = refl;
@@ -168,6 +170,7 @@ module _ (old : Node) where
     contexts = sound.contexts;
     requests = sound.requests;
     within = record { sessions_few = sound.within.sessions_few; pending_few = sound.within.pending_few; numbers = sound.within.numbers; held_few = omega (arith, (leaves request old.held r.rest r.left).fewer, sound.within.held_few); drawn_few = sound.within.drawn_few };
+    addresses = sound.addresses;
   })
 
   pub restarted_sound : (role : Role) → IsSound role old → (counter : ℕ) → IsSound role (peer_restarted old counter)
@@ -257,7 +260,8 @@ module _ (old : Node) where
         let made_sound : IsSound Packet made =
         session_comes Packet old sound r.control r.user (made_session q r.address) (made_bearer q r.control) r.control_free r.user_free refl few.few draws.left
         (record { own = inr (inl refl); named = λ n. (q.control.teid, refl); blank = λ w. absurd (cc w) })
-        (record { own = inl refl; of = (made_session q r.address, get-insert_same old.sessions r.control (made_session q r.address)); named = λ a. (q.context.user.teid, refl); blank = λ w. absurd (cc w); range = λ i e. subst IsIdentity (some_is q.context.identity i e) identity }) in
+        (record { own = inl refl; of = (made_session q r.address, get-insert_same old.sessions r.control (made_session q r.address)); named = λ a. (q.context.user.teid, refl); blank = λ w. absurd (cc w); range = λ i e. subst IsIdentity (some_is q.context.identity i e) identity })
+        (λ packet. given_is_new old q.pdn (made_session q r.address) r.address refl r.given) in
         ⊎_elim
         (λ alone. by_row Packet e _ alone (holding_sound Packet made made_sound request _ room.few))
         (λ x.
@@ -350,3 +354,6 @@ reached_from role old (done ∷ log) node sound steps read = reached_from role d
 
 pub reached_sound : ReachedIsSound
 reached_sound role config counter log node steps read = reached_from role (fresh_node config counter) log node (fresh role config counter) steps read
+
+pub gives_each_address_once : GivesEachAddressOnce
+gives_each_address_once config counter log node steps read = (reached_sound Packet config counter log node steps read).addresses refl

@@ -2,13 +2,13 @@
 use Rattle.std.proofs.Common.{◌≡◌, ⊎_elim, ℕ, ◌≤◌, List, Option, Some, sym, ◌∙◌, ap, arith}
 use Rattle.std.specs.FinMap.{get}
 use Rattle.gtp_machine.specs.Element.{Subscriber, address_of, teid_in}
-use Rattle.gtp_machine.specs.Message.{Control, User, CreateSessionRequest, CreateSessionResponse, CreateBearerResponse, Message, Create_session_request, Create_session_response, Owns, subscriber_of, first_identity}
+use Rattle.gtp_machine.specs.Message.{Control, User, CreateSessionRequest, CreateSessionResponse, CreateBearerResponse, Message, Create_session_request, Create_session_response, Create_bearer_response, Owns, subscriber_of, first_identity}
 use Rattle.gtp_machine.specs.Node.{Role, Serving, Packet, Session, Bearer}
 use Rattle.gtp_machine.specs.Config.{Addresses}
 use Rattle.gtp_machine.specs.Choice.{counter_of}
 use Rattle.gtp_machine.specs.World.{World, Side, Sent, HasSent, side_of, other}
 use Rattle.gtp_machine.specs.Safety.{Agree, SessionsAgree, MutualBearers, AgreeBearers, BearersAgree, OutlivesRestart, NoneOutlivesRestart, EachOwed}
-use Rattle.gtp_machine.specs.Laws.{Always, MessagesOfDatagrams, OneMessage, OwnsOn, PlanesApart, ContextTeidsWereDrawn, NamedTeidsWereDrawn, IsOfStart, NoneAhead, IsLatestHeard, KnownIsLatest, OneResponsePerBearerRequest, EachOpened, EachClosesWhole, OneContextPerRequest}
+use Rattle.gtp_machine.specs.Laws.{Always, MessagesOfDatagrams, OneMessage, OwnsOn, PlanesApart, ContextTeidsWereDrawn, NamedTeidsWereDrawn, IsOfStart, NoneAhead, IsLatestHeard, KnownIsLatest, OneResponsePerBearerRequest, EachOpened, EachClosesWhole, OneContextPerRequest, AnsweredByTaker}
 use Rattle.gtp_machine.proofs.Origins.Drawing.{Drawing}
 use Rattle.gtp_machine.proofs.Origins.Contexts.{IsAskedWith, IsGranted, IsMadeWith, IsWanted}
 use Rattle.gtp_machine.proofs.Origins.Entries.{Once, same_request, same_user_request, same_answer, same_user_answer, same_bearer_answer, answer_not_request}
@@ -129,11 +129,19 @@ always_names_back serving packet sc pc events w r = (always serving packet sc pc
 -- what a gateway draws for the control plane it does not draw for the user plane
 planes_apart : (side : Side) (role : Role) (history : List Sent) → Drawing side role history → (m : Message) (t : ℕ) → HasSent history role m → OwnsOn Control m t → OwnsOn User m t → ⊥
 planes_apart side role history drawing (Create_session_request q) t has control user = drawing.proper (Create_session_request q) has (sym control ∙ user)
-planes_apart side role history drawing (Create_session_response a) t has control user = (drawing.proper (Create_session_response a) has).apart t control user
+planes_apart side role history drawing (Create_session_response a) t has control user = (drawing.proper (Create_session_response a) has).1.apart t control user
 planes_apart side role history drawing _ t has control user = control
 
 pub always_planes_apart : Always PlanesApart
 always_planes_apart serving packet sc pc events w r role = planes_apart (side_of w role) role w.history (side_in w (always serving packet sc pc events w r) role).draws
+
+pub always_answered_by_taker : Always AnsweredByTaker
+always_answered_by_taker serving packet sc pc events w r =
+    let inv = always serving packet sc pc events w r in
+    record {
+      sessions = λ a has. let by = (inv.serving.draws.proper (Create_session_response a) has).0 in cc by;
+      bearers = λ x has. let by = (inv.packet.draws.proper (Create_bearer_response x) has).0 in cc by;
+    }
 
 pub always_goes_back : Always ContextTeidsWereDrawn
 always_goes_back serving packet sc pc events w r = let inv = always serving packet sc pc events w r in record { sessions = λ role. session_goes_back w.history role (side_of w role).node (side_in w inv role).knows; bearers = λ role. bearer_goes_back w.history role (side_of w role).node (side_in w inv role).knows }

@@ -13,6 +13,7 @@ returns c = record {
   datagrams = datagram_by_grammar;
   alone = message_reads_alone;
   user_grammar = grammar.user_by_grammar;
+  named = named.control_by_name;
   user_named = named.user_by_name;
   decoded = grammar.decoded_reads;
   user_decoded = grammar.user_decoded_reads;

@@ -1,5 +1,5 @@
 -- The laws are proved in `Sound`.
-use Rattle.gtp_machine.proofs.Sound.Rows.{stays_sound, reached_sound}
+use Rattle.gtp_machine.proofs.Sound.Rows.{stays_sound, reached_sound, gives_each_address_once}
 use Rattle.gtp_machine.proofs.Sound.Steps.{always_steps}
 use Rattle.gtp_machine.proofs.Sound.Ticks.{tick_stays_sound, always_ticks, gives_up_due}
 use Rattle.gtp_machine.proofs.Sound.Broken.{breaks_by_default}
@@ -12,6 +12,7 @@ returns c = record {
   starts = λ role config counter. fresh role config counter;
   stays = stays_sound;
   reached = reached_sound;
+  addresses = gives_each_address_once;
   steps = always_steps;
   ticks = tick_stays_sound;
   always_ticks = always_ticks;

@@ -7,7 +7,7 @@ returns-then-status-eq-DONE-clause-taken c =
       sent = c.in-Some.sent.now;
       shows = record { waited = search rules; first = c.in-Some.ensures.lookup; says = c.of.ensures };
       written = search rules;
-      taken = (refl, search rules);
+      taken = (refl, search rules, search rules);
     }
 
 pub returns-else-status-eq-DONE-clause-small : goal.returns-else-status-eq-DONE-clause-small

@@ -1,4 +1,4 @@
-use Rattle.std.proofs.Common.{rules, ◌++◌, List, ap, ◌∙◌, sym, subst}
+use Rattle.std.proofs.Common.{rules, arith, ◌++◌, List, ap, ◌∙◌, sym, subst}
 use Rattle.gtp_gateway.specs.GatewayState.{GatewayState}
 use Rattle.gtp_gateway.specs.Tick.{IsTicked, QueuesAfterTick}
 use Rattle.gtp_gateway.specs.declared.sent.Sent.{Sent}
@@ -14,6 +14,7 @@ returns-in-Ok-clause-done c =
       counts = subst (λ (g : GatewayState). QueuesAfterTick old g) (sym c.put_all.ensures.gateway) (subst (λ (g : GatewayState). QueuesAfterTick g c.tick.new.self) k.0 c.in-Ok.ensures.counts);
       few = c.in-Ok.ensures.few;
       few_forgotten = c.in-Ok.ensures.few_forgotten;
+      room = omega (arith, k.2, c.put_all.ensures.room);
       waiting = c.put_all.ensures.waiting ∙ ap (λ (xs : List Sent). xs ++ c.in-Ok.ticked.resent.items) k.1;
       tells = search rules;
     }
