@@ -67,7 +67,8 @@ static struct input on_the_way(gtp_gateway gateways[2], uint8_t *room) {
         s.peer_control = s.peer_user = ends[1 - role];
         gtp_gateway_new(&gateways[role], &s, (const uint8_t *)"internet", 8);
     }
-    gtp_gateway_create_session(&gateways[0], &wish, (const uint8_t *)"001010123456789", 15, (const uint8_t *)"internet", 8, &told);
+    struct gtp_imsi subscriber = gtp_imsi_of("001010123456789");
+    gtp_gateway_create_session(&gateways[0], &wish, &subscriber, (const uint8_t *)"internet", 8, &told);
     for (int from = 0; from < 2; from++)
         while (gtp_gateway_take(&gateways[from], room, 2048, &d) == GTP_DONE) gtp_gateway_receive(&gateways[1 - from], &d.from, d.plane, room, d.len, &told);
     gtp_gateway_bearer_at(&gateways[0], 0, &bearer);

@@ -216,7 +216,8 @@ struct gtp_setup {
                                            the datagram that answers for the session (TS 29.274 5.5.1) */
 };
 /* Opens a gateway in `gateway`, which is empty. access_points: names with commas between them, as "internet,ims", at most 16.
- * A setup is looked at before memory is taken: one that is bad is always GTP_BAD_VALUE. */
+ * A setup is looked at before memory is taken: one that is bad is always GTP_BAD_VALUE. The room for all datagrams that may ever wait
+ * is taken now, some 300 KB, so no later call lacks it. */
 uint8_t gtp_gateway_new(gtp_gateway *gateway, const struct gtp_setup *setup, const uint8_t *access_points, size_t len);
 /* Closes it, with its sessions and all that waits, without a word to the peer. It is empty then, and may be opened again. */
 uint8_t gtp_gateway_free(gtp_gateway *gateway);
@@ -270,8 +271,18 @@ struct gtp_session {                    /* with what a session is asked for (TS 
     uint8_t identity;                   /* EPS bearer identity of the default bearer, 5 to 15 */
     uint8_t rat, selection, pdn;        /* 8.17; 8.58, below 4; 8.34, below 8: 1 IPv4, 2 IPv6, 3 both */
 };
-/* Commands of the serving gateway. imsi: 6 to 15 digits; access_point: a name, as "internet". */
-uint8_t gtp_gateway_create_session(gtp_gateway *gateway, const struct gtp_session *session, const uint8_t *imsi, size_t imsi_len,
+/* The IMSI that a text of 6 to 15 decimal digits writes. Of any other text: one that no call takes. */
+static inline struct gtp_imsi gtp_imsi_of(const char *text) {
+    struct gtp_imsi imsi = { 0, { 0 } };
+    while (imsi.count < 15 && text[imsi.count] >= '0' && text[imsi.count] <= '9') {
+        imsi.digits[imsi.count] = (uint8_t)(text[imsi.count] - '0');
+        imsi.count++;
+    }
+    if (text[imsi.count] != '\0') imsi.count = 0;
+    return imsi;
+}
+/* Commands of the serving gateway. access_point: a name, as "internet". */
+uint8_t gtp_gateway_create_session(gtp_gateway *gateway, const struct gtp_session *session, const struct gtp_imsi *imsi,
                                    const uint8_t *access_point, size_t access_point_len, struct gtp_told *told);
 uint8_t gtp_gateway_delete_session(gtp_gateway *gateway, uint32_t session, struct gtp_told *told);
 /* Commands of the packet gateway. tft: a traffic flow template of at most 255 octets; identity: 5 to 15. */

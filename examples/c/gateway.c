@@ -71,8 +71,8 @@ static void create(gtp_gateway *gateway, const char *imsi, const char *name) {
     struct gtp_session wish = { .quality = { .pl = 8, .qci = 9 }, .ambr_up = 1000, .ambr_down = 1000,
         .network = { 0, 0, 1, 0, 1, 15 }, .identity = 5, .rat = 6, .pdn = 1 };
     memset(&told, 0, sizeof told);
-    say("create", gtp_gateway_create_session(gateway, &wish, (const uint8_t *)imsi, strlen(imsi), (const uint8_t *)name,
-        strlen(name), &told), &told);
+    struct gtp_imsi subscriber = gtp_imsi_of(imsi);
+    say("create", gtp_gateway_create_session(gateway, &wish, &subscriber, (const uint8_t *)name, strlen(name), &told), &told);
 }
 
 static void each_session(gtp_gateway *gateway, bool ends) {

@@ -45,6 +45,7 @@ static inline struct gtp_session wish(uint8_t pdn) {
 
 static inline uint8_t create(gtp_gateway *g, const char *imsi, uint8_t pdn, struct gtp_told *told) {
     struct gtp_session s = wish(pdn);
-    return gtp_gateway_create_session(g, &s, text(imsi), strlen(imsi), text("internet"), 8, told);
+    struct gtp_imsi subscriber = gtp_imsi_of(imsi);
+    return gtp_gateway_create_session(g, &s, &subscriber, text("internet"), 8, told);
 }
 #endif

@@ -93,10 +93,10 @@ static void step(struct talk *t) {
         uint32_t teid = octet(t);
         struct gtp_session s = wish((uint8_t)(1 + teid % 3));
         struct gtp_quality q = s.quality;
-        char imsi[] = "001010123456780";
-        imsi[14] = (char)('0' + teid % 10);
+        struct gtp_imsi imsi = gtp_imsi_of("001010123456780");
+        imsi.digits[14] = (uint8_t)(teid % 10);
         switch (call) {
-            case 4: status = gtp_gateway_create_session(&t->gateway, &s, text(imsi), 15, text("internet"), 8, &told); break;
+            case 4: status = gtp_gateway_create_session(&t->gateway, &s, &imsi, text("internet"), 8, &told); break;
             case 5: status = gtp_gateway_delete_session(&t->gateway, teid, &told); break;
             case 6: status = gtp_gateway_create_bearer(&t->gateway, teid, &q, text("\x21\x10"), 2, &told); break;
             case 7: status = gtp_gateway_delete_bearer(&t->gateway, teid, octet(t) % 16, &told); break;

@@ -159,7 +159,8 @@ static void templates(void) {
     CHECK(bearers(&serving, &here) == 2 && bearers(&packet, &there) == 2 && here.state == 1 && there.state == 1);
     CHECK(here.dedicated && there.dedicated && here.remote == there.teid && there.remote == here.teid && here.identity == there.identity);
     struct gtp_session wanted = wish(1);
-    CHECK(gtp_gateway_create_session(&serving, &wanted, text("001010123456780"), 15, text("ims"), 3, &told) == GTP_DONE);
+    struct gtp_imsi subscriber = gtp_imsi_of("001010123456780");
+    CHECK(gtp_gateway_create_session(&serving, &wanted, &subscriber, text("ims"), 3, &told) == GTP_DONE);
     CHECK(carry(&serving, &packet, &told) == 1 && carry(&packet, &serving, &told) == 1 && told.outcome.kind == GTP_OPENED);
     CHECK(told.second.kind == 0 && told.waiting == 0 && bearers(&serving, &here) == 3);
     CHECK(gtp_gateway_free(&serving) == GTP_DONE && gtp_gateway_free(&packet) == GTP_DONE);
@@ -323,6 +324,11 @@ static void bodies(void) {
     imsi.count = 16; CHECK(gtp_imsi_write(room, sizeof room, &imsi, &size) == GTP_BAD_VALUE);
     imsi.count = 5; CHECK(gtp_imsi_write(room, sizeof room, &imsi, &size) == GTP_BAD_VALUE);
     imsi.count = 6; imsi.digits[5] = 10; CHECK(gtp_imsi_write(room, sizeof room, &imsi, &size) == GTP_BAD_VALUE);
+    imsi = gtp_imsi_of("001010123456789"); CHECK(gtp_imsi_write(room, sizeof room, &imsi, &size) == GTP_DONE && size == 8);
+    const char *none[] = { "", "00101", "0010101234567890", "00101x", "-00101", "001 01" };
+    for (int k = 0; k < 6; k++) {
+        imsi = gtp_imsi_of(none[k]); CHECK(gtp_imsi_write(room, sizeof room, &imsi, &size) == GTP_BAD_VALUE);
+    }
     apn.len = 101; CHECK(gtp_apn_write(room, sizeof room, &apn, &size) == GTP_BAD_VALUE);
     apn.len = 8; CHECK(gtp_apn_write(room, sizeof room, &apn, &size) == GTP_BAD_VALUE);
     network.digits[0] = 10; CHECK(gtp_network_write(room, sizeof room, &network, &size) == GTP_BAD_VALUE);

@@ -64,7 +64,8 @@ static void run(void) {
         pass(&serving, &packet);
         pass(&packet, &serving);
     }
-    TWICE(gtp_gateway_create_session(&serving, &wanted, text("001010123456780"), 15, text("ims"), 3, &told));
+    struct gtp_imsi subscriber = gtp_imsi_of("001010123456780");
+    TWICE(gtp_gateway_create_session(&serving, &wanted, &subscriber, text("ims"), 3, &told));
     pass(&serving, &packet);
     pass(&packet, &serving);
     CHECK(told.outcome.kind == GTP_OPENED && told.second.kind == GTP_ANSWERED);

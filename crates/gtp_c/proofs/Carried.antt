@@ -19,6 +19,7 @@ use Rattle.gtp_c.specs.Sessions.{IsSpecified, IsGoodSession, IsSessionAsked}
 use Rattle.gtp_c.specs.Statuses.{HasStatus, command_statuses, IsFull, LacksRoom, CommandMayRunOut}
 use Rattle.gtp_c.specs.Steps.{Keeps, HasBegun, IsRefused, IsUntold, begun_number}
 use Rattle.gtp_c.specs.Told.{begun_told}
+use Rattle.gtp_c.specs.declared.values.Identity.{Identity}
 use Rattle.gtp_c.specs.declared.desk.Desk.{Desk}
 use Rattle.gtp_c.specs.declared.session.Session.{Session}
 use Rattle.gtp_c.specs.declared.told.Told.{Told}
@@ -139,7 +140,7 @@ pub as_command : {command other : Command} {Bad : Type 0} {before told : Told} {
 as_command {command} {other} {Bad} {before} {told} {old} {new} {status} is said = subst (λ (c : Command). IsCommanded c Bad before told old new status) is said
 
 -- a session with C's values
-pub asked : {c : Session} {imsi access_point : List ℕ} {before told : Told} {desk new : Desk} {old : Option Desk} {status : ℕ} (spec : SessionSpec) → IsSpecified c imsi access_point spec → Some desk ≡ old
+pub asked : {c : Session} {imsi : Identity} {access_point : List ℕ} {before told : Told} {desk new : Desk} {old : Option Desk} {status : ℕ} (spec : SessionSpec) → IsSpecified c imsi access_point spec → Some desk ≡ old
     → IsCommanded (Create_session (specification spec)) (¬ IsGoodSession c imsi access_point) before told (Some desk) (Some new) status
     → IsSessionAsked c imsi access_point before told old (Some new) status
 asked {c} {imsi} {access_point} {before} {told} {desk} {new} {old} {status} spec is there said =

@@ -1,4 +1,4 @@
--- Texts of IMSIs and of access points are ASCII.
+-- Texts of access points are ASCII.
 use Rattle.std.proofs.Common.{◌≡◌, ℕ, ◌<◌, List, [], ◌∷◌, ◌++◌, IsUtf8, subst, sym, ap, ◌∙◌, arith}
 use Rattle.std.specs.Prelude.{IsTrue}
 use Rattle.std.specs.List.{AllByRecursion}
@@ -6,16 +6,11 @@ use Rattle.std.proofs.lemmas.Bool.Decides.{nat_tests}
 use Rattle.std.proofs.lemmas.List.Elements.{All-from_recursion}
 use Rattle.std.proofs.lemmas.Str.{IsUtf8-from_ascii}
 use Rattle.std.proofs.lemmas.Str.Ascii.{IsAscii-from_all}
-use Rattle.gtp_values.specs.Imsi.{IsImsiText}
 use Rattle.gtp_values.specs.Apn.{is_label_octet, IsLabel, IsApnText, after_dots, apn_text, joined}
 use Rattle.gtp_values.proofs.NamesAsText.{text_of_labels}
 
 abbrev Small : ℕ → Type 0
 Small octet = octet < 128
-
-pub imsi_is_text : (octets : List ℕ) → IsImsiText octets → IsUtf8 octets
-imsi_is_text octets is =
-    IsUtf8-from_ascii octets (IsAscii-from_all octets (λ k d within. let most = (is.decimal k d within).most in omega arith))
 
 both : (xs ys : List ℕ) → AllByRecursion Small xs → AllByRecursion Small ys → AllByRecursion Small (xs ++ ys)
 both [] ys one other = other

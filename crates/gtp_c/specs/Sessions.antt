@@ -1,8 +1,7 @@
 -- Which session or bearer C's values ask for.
-use Rattle.std.specs.Prelude.{◌≡◌, ◌≢◌, ℕ, ◌==◌, ◌<◌, ◌^◌, List, Option, IsSomeAnd, if◌then◌else◌, drop, get_or, map, take}
+use Rattle.std.specs.Prelude.{◌≡◌, ◌≢◌, ℕ, ◌==◌, ◌<◌, ◌^◌, List, Option, IsSomeAnd, if◌then◌else◌, drop, get_or, take}
 use Rattle.gtp_values.specs.Apn.{apn_text, IsApnText}
 use Rattle.gtp_values.specs.Ebi.{IsEbi}
-use Rattle.gtp_values.specs.Imsi.{value_of_digit, IsImsiText}
 use Rattle.gtp_values.specs.Plmn.{Network, IsNetwork}
 use Rattle.gtp_values.specs.declared.qos.Qos.{Qos}
 use Rattle.gtp_values.specs.declared.qos.Rates.{Rates}
@@ -10,6 +9,8 @@ use Rattle.gtp_tables.specs.declared.context.Subscriber.{Subscriber}
 use Rattle.gtp_gateway.specs.declared.command.create_session.SessionSpec.{SessionSpec}
 use Rattle.gtp_machine.specs.Input.{Create_session}
 use Rattle.gtp_gateway.specs.command.CreateSession.{specification}
+use Rattle.gtp_c.specs.Bodies.{digits_at, IsGoodIdentity}
+use Rattle.gtp_c.specs.declared.values.Identity.{Identity}
 use Rattle.gtp_c.specs.Handles.{Goes, Stays}
 use Rattle.gtp_c.specs.Statuses.{HasStatus, command_statuses, CommandMayRunOut}
 use Rattle.gtp_c.specs.Steps.{HasBegun, IsRefused}
@@ -40,9 +41,9 @@ pub record IsGoodQuality (q : Quality) : Type 0 where
   pub gbr_down : q.gbr_down < 2 ^ 40
   pub pl : q.pl < 16
 
--- the texts are those of an IMSI and of an access point, and each number is in its range
-pub record IsGoodSession (c : Session) (imsi access_point : List ℕ) : Type 0 where
-  pub imsi_is : IsImsiText imsi
+-- the digits are those of an IMSI, the text is that of an access point, and each number is in its range
+pub record IsGoodSession (c : Session) (imsi : Identity) (access_point : List ℕ) : Type 0 where
+  pub imsi_is : IsGoodIdentity imsi
   pub access_point_is : IsApnText access_point
   pub identity : IsEbi c.identity
   pub network : IsNetwork (network_in c.network)
@@ -50,14 +51,14 @@ pub record IsGoodSession (c : Session) (imsi access_point : List ℕ) : Type 0 w
   pub selection : c.selection < 4
   pub pdn : c.pdn < 8
 
--- the identity is this number, and the texts write the IMSI and the access point
-pub record IsSubscriber (identity : ℕ) (imsi access_point : List ℕ) (s : Subscriber) : Type 0 where
+-- the identity is this number, the IMSI has these digits, and the text writes the access point
+pub record IsSubscriber (identity : ℕ) (imsi : Identity) (access_point : List ℕ) (s : Subscriber) : Type 0 where
   pub identity_is : s.identity ≡ identity
-  pub imsi_reads : s.imsi ≡ map value_of_digit imsi
+  pub imsi_reads : s.imsi ≡ digits_at imsi
   pub access_point_reads : apn_text s.access_point ≡ access_point
 
 -- the session is asked for with C's values
-pub record IsSpecified (c : Session) (imsi access_point : List ℕ) (s : SessionSpec) : Type 0 where
+pub record IsSpecified (c : Session) (imsi : Identity) (access_point : List ℕ) (s : SessionSpec) : Type 0 where
   pub subscriber : IsSubscriber c.identity imsi access_point s.subscriber
   pub network : s.plmn ≡ network_in c.network
   pub rat : s.rat.0 ≡ c.rat
@@ -68,25 +69,25 @@ pub record IsSpecified (c : Session) (imsi access_point : List ℕ) (s : Session
   pub quality : s.qos ≡ quality_at c.quality
 
 -- a session was begun, as C's values ask
-pub record Creates (c : Session) (imsi access_point : List ℕ) (told : Told) (old new : Desk) : Type 0 where
+pub record Creates (c : Session) (imsi : Identity) (access_point : List ℕ) (told : Told) (old new : Desk) : Type 0 where
   pub spec : SessionSpec
   pub is : IsSpecified c imsi access_point spec
   pub begun : HasBegun (Create_session (specification spec)) told old new
 
 -- a session that C's values ask for was refused
-pub record IsCreationRefused (c : Session) (imsi access_point : List ℕ) (told : Told) (old new : Desk) : Type 0 where
+pub record IsCreationRefused (c : Session) (imsi : Identity) (access_point : List ℕ) (told : Told) (old new : Desk) : Type 0 where
   pub spec : SessionSpec
   pub is : IsSpecified c imsi access_point spec
   pub refused : IsRefused (Create_session (specification spec)) told old new
 
 -- memory may run out over a session that C's values ask for
-pub record CreationMayRunOut (c : Session) (imsi access_point : List ℕ) (d : Desk) : Type 0 where
+pub record CreationMayRunOut (c : Session) (imsi : Identity) (access_point : List ℕ) (d : Desk) : Type 0 where
   pub spec : SessionSpec
   pub is : IsSpecified c imsi access_point spec
   pub may : CommandMayRunOut (Create_session (specification spec)) d
 
 -- A session is asked for with C's values, which may be bad: as of any command (`IsCommanded`).
-pub record IsSessionAsked (c : Session) (imsi access_point : List ℕ) (before told : Told) (old new : Option Desk) (status : ℕ) : Type 0 where
+pub record IsSessionAsked (c : Session) (imsi : Identity) (access_point : List ℕ) (before told : Told) (old new : Option Desk) (status : ℕ) : Type 0 where
   pub done : status ≡ 0 → Goes (Creates c imsi access_point told) old new
   pub refused : status ≡ 6 → Goes (IsCreationRefused c imsi access_point told) old new
   pub kept : status ≢ 0 → Stays old new

@@ -12,6 +12,7 @@ use crate::handle::Handle;
 use crate::session::{Quality, Session};
 use crate::status::{BAD_VALUE, DONE, EMPTY};
 use crate::told::Told;
+use crate::values::Identity;
 use gtp_gateway::{Ebi, Teid, Tft};
 use std::alloc::Global;
 
@@ -42,7 +43,7 @@ pub extern "C" fn gtp_gateway_create_session(
     alloc: Global,
     handle: &mut Handle,
     session: &Session,
-    imsi: &[u8],
+    imsi: &Identity,
     access_point: &[u8],
     told: &mut Told,
 ) -> u8

@@ -1,15 +1,16 @@
 //! With what a session or a bearer is asked for, as C says it.
 
-ghost use Rattle.std.specs.Prelude.{◌≡◌, ◌↔◌, ◌<◌, ◌^◌, IsSome, IfSome, map};
+ghost use Rattle.std.specs.Prelude.{◌≡◌, ◌↔◌, ◌<◌, ◌^◌, IsSome, IfSome};
 ghost use Rattle.gtp_values.specs.Apn.{apn_text, IsApnText};
 ghost use Rattle.gtp_values.specs.Ebi.{IsEbi};
-ghost use Rattle.gtp_values.specs.Imsi.{value_of_digit, IsImsiText};
 ghost use Rattle.gtp_values.specs.Plmn.{IsNetwork};
+ghost use Rattle.gtp_c.specs.Bodies.{IsGoodIdentity};
 ghost use Rattle.gtp_c.specs.Sessions.{rates_at, quality_at, network_in, IsSubscriber, IsSpecified};
 ghost use Rattle.gtp_c.specs.Sessions.{IsGoodQuality, IsGoodSession};
 
+use crate::values::Identity;
 use gtp_gateway::{Ambr, Apn, Ebi, PdnType, Plmn, Qos, Rat, Selection, SessionSpec, Subscriber};
-use gtp_values::{Below, Imsi, Rate, Rates};
+use gtp_values::{Below, Rate, Rates};
 
 /// The quality of service of a bearer (TS 29.274 8.15). Rates are in kilobits a second.
 #[repr(C)]
@@ -89,20 +90,6 @@ pub(crate) fn network_of(digits: &[u8; 6]) -> Option<Plmn>
     }
 }
 
-/// The digits that a text writes.
-fn imsi_of(octets: &[u8]) -> Option<Imsi>
-    ensures some { IsSome result ↔ IsImsiText octets.now }
-    ensures value { IfSome result (λ imsi. imsi ≡ map value_of_digit octets.now) }
-{
-    let Ok(text) = std::str::from_utf8(octets) else {
-        return None;
-    };
-    match Imsi::from_text(text) {
-        Ok(imsi) => Some(imsi),
-        Err(_) => None,
-    }
-}
-
 /// The name that a text writes.
 pub(crate) fn access_point_of(octets: &[u8]) -> Option<Apn>
     ensures some { IsSome result ↔ IsApnText octets.now }
@@ -118,13 +105,12 @@ pub(crate) fn access_point_of(octets: &[u8]) -> Option<Apn>
 }
 
 /// Who asks.
-fn subscriber_of(identity: u8, imsi: &[u8], access_point: &[u8]) -> Option<Subscriber>
-    ensures some { IsSome result ↔ (IsImsiText imsi.now × IsApnText access_point.now × IsEbi identity) }
+fn subscriber_of(identity: u8, imsi: &Identity, access_point: &[u8]) -> Option<Subscriber>
+    ensures some { IsSome result
+        ↔ (IsGoodIdentity imsi.now × IsApnText access_point.now × IsEbi identity) }
     ensures value { IfSome result (IsSubscriber identity imsi.now access_point.now) }
 {
-    let Some(imsi) = imsi_of(imsi) else {
-        return None;
-    };
+    let imsi = imsi.imsi()?;
     let Some(access_point) = access_point_of(access_point) else {
         return None;
     };
@@ -140,7 +126,7 @@ fn subscriber_of(identity: u8, imsi: &[u8], access_point: &[u8]) -> Option<Subsc
 
 impl Session {
     /// The session that is asked for.
-    pub(crate) fn specification(&self, imsi: &[u8], access_point: &[u8]) -> Option<SessionSpec>
+    pub(crate) fn specification(&self, imsi: &Identity, access_point: &[u8]) -> Option<SessionSpec>
         ensures some { IsSome result ↔ IsGoodSession self.now imsi.now access_point.now }
         ensures value { IfSome result (IsSpecified self.now imsi.now access_point.now) }
     {

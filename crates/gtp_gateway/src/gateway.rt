@@ -5,7 +5,7 @@ ghost use Rattle.std.specs.FinMap as map;
 ghost use Rattle.gtp_gateway.specs.receive.Choosing.{ChoosesLowest};
 ghost use Rattle.gtp_reliable.specs.Pending.{AreDistinct};
 ghost use Rattle.gtp_machine.specs.Determined.{OneAnswerPerRequest};
-ghost use Rattle.gtp_machine.specs.Node.{Packet};
+ghost use Rattle.gtp_machine.specs.declared.role.Role.TheVariants.{Packet};
 ghost use Rattle.gtp_machine.specs.Sound.{AreAddressesApart};
 ghost use Rattle.gtp_gateway.specs.GatewayState.{GatewayState, starting, NodeMatchesQueues, IsSoundState};
 ghost use Rattle.gtp_gateway.specs.Tick.{IsIdle, ForgetsNone, IsTicked, QueuesAfterTick, arrivals_of, due_in};

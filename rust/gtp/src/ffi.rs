@@ -378,8 +378,7 @@ extern "C" {
     pub fn gtp_gateway_create_session(
         gateway: *mut Gateway,
         session: *const Session,
-        imsi: *const u8,
-        imsi_len: usize,
+        imsi: *const Imsi,
         access_point: *const u8,
         access_point_len: usize,
         told: *mut Told,

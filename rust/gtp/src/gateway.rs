@@ -1,6 +1,7 @@
 //! A gateway.
 
 use crate::ffi;
+use crate::value::digits_of;
 use crate::{Bearer, CommandError, Error, Plane, Quality, Received, Session, SessionRequest, Setup, Ticked, TooSmall};
 use std::cell::UnsafeCell;
 use std::net::SocketAddr;
@@ -113,10 +114,10 @@ impl Gateway {
     /// # Errors
     /// Nothing has happened. [`CommandError`] says why.
     pub fn create_session(&mut self, request: &SessionRequest<'_>) -> Result<u32, CommandError> {
-        let (session, imsi, name) = (request.raw(), request.imsi, request.access_point);
-        // SAFETY: the gateway is one that the library made, and the pointers are to structs and to slices of these lengths.
+        let (session, imsi, name) = (request.raw(), digits_of(request.imsi), request.access_point);
+        // SAFETY: the gateway is one that the library made, and the pointers are to structs and to a slice of this length.
         self.command(|gateway, told| unsafe {
-            ffi::gtp_gateway_create_session(gateway, &session, imsi.as_ptr(), imsi.len(), name.as_ptr(), name.len(), told)
+            ffi::gtp_gateway_create_session(gateway, &session, &imsi, name.as_ptr(), name.len(), told)
         })
     }
 

@@ -169,7 +169,7 @@ impl Room<'_> {
 }
 
 /// The digits of an IMSI. A text that is none has a count of 0, which no IMSI has.
-fn digits_of(text: &str) -> ffi::Imsi {
+pub(crate) fn digits_of(text: &str) -> ffi::Imsi {
     let mut imsi = ffi::Imsi::default();
     if text.len() <= imsi.digits.len() && text.bytes().all(|octet| octet.is_ascii_digit()) {
         imsi.count = text.len() as u8;

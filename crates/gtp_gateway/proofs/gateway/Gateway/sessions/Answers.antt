@@ -1,7 +1,7 @@
 use mathlib.Core.Logic.{∥∥₁_elim}
 use Rattle.std.proofs.Common.{◌≡◌, ◌≢◌, ◌⊎◌, inl, inr, ℕ, subst}
 use Rattle.std.proofs.lemmas.Bool.{cases_eq}
-use Rattle.gtp_machine.specs.Node.{Packet}
+use Rattle.gtp_machine.specs.declared.role.Role.TheVariants.{Packet}
 use Rattle.gtp_machine.specs.Sound.{AreAddressesApart}
 use Rattle.gtp_gateway.specs.GatewayState.{GatewayState, NodeMatchesQueues, IsSoundState, state_of}
 use Rattle.gtp_gateway.proofs.QueuesAfter.{tied_of}
