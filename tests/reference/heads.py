@@ -1,9 +1,12 @@
 """What can be said of a datagram beside the values of its elements: names, TEIDs and sequence numbers of its messages, the types
-and instances of their elements, octets that are left, and the code of its first fault. Of any octets, from anywhere: written
-after the standard and docs/FORMATS.md and not after the program."""
+and instances of their elements, the words of what these say, octets that are left, and the code of its first fault. Of any octets,
+from anywhere: written after the standard and docs/FORMATS.md and not after the program."""
+
+import re
 
 from diagram import NAMES
 from decoding import ROWS, Fault, read_datagram, read_user_datagram
+from words import words_of
 
 CONTROL = {**NAMES["control"], 3: "version-not-supported"}
 USER = {**NAMES["user"], 31: "supported-extensions"}
@@ -187,3 +190,33 @@ def members_of_json(it):
     if "second" in it:
         kept["second"] = members_of_json(it["second"])
     return kept
+
+
+def words_in_all(plane, octets):
+    """The words of --all: those of the elements of each message, in order."""
+    if plane == "user" or control_head(octets) is None:
+        return []
+    messages = messages_of(octets) if is_pair(octets) else [octets]
+    return [word for it in messages if control_head(it) for word in words_of(it[control_head(it)[4]:])]
+
+
+def words_in_plain(plane, octets):
+    """The words of JSON without --all, which has no elements of a datagram with a fault, nor of a type without a table."""
+    if plane == "user" or fault_of(plane, octets):
+        return []
+    return [word for it in messages_of(octets) if it and it[1] in ROWS for word in words_of(it[control_head(it)[4]:])]
+
+
+def words_of_lines(lines):
+    """The words that end lines of --all."""
+    ends = [re.search(r" \((.*)\)$", line) for line in lines if line.lstrip().startswith("ie ")]
+    return [end.group(1) for end in ends if end]
+
+
+def words_of_json(it):
+    """The words in an object of JSON, in order."""
+    if isinstance(it, list):
+        return [word for each in it for word in words_of_json(each)]
+    if not isinstance(it, dict):
+        return []
+    return [word for key, each in it.items() for word in ([each] if key.endswith("_name") else words_of_json(each))]

@@ -9,6 +9,7 @@ use Rattle.gtp_v2.proofs.Pairs.{datagram_decided}
 use Rattle.gtp_user.specs.declared.fault.UserFault.{UserFault}
 use Rattle.gtp_user.specs.Datagram.{IsUserMessage, IsUserFault}
 use Rattle.gtp_user.proofs.Messages.{message_decided as user_decided}
+use Rattle.gtp_lines.specs.declared.words.Wording.TheVariants as worded
 use Rattle.gtp_lines.specs.Control.{AloneLines, PairLines, fault_line}
 use Rattle.gtp_lines.specs.User.{UserLines, user_fault_line}
 use Rattle.gtp_lines.specs.All.{user_shown, user_head_at}
@@ -22,10 +23,10 @@ use Rattle.gtp_json.specs.Laws.{LinesBy, EndsInLine, EndsInFault, OneReading}
 use Rattle.gtp_json.proofs.OneLine.{one_of, spelled}
 
 -- what lines that are no fault's are of
-lines_alone : (octets text : List ℕ) → AloneLines octets text → (m : MessageValue) × IsDatagram octets (alone m)
+lines_alone : (octets text : List ℕ) → AloneLines worded.Plain octets text → (m : MessageValue) × IsDatagram octets (alone m)
 lines_alone octets text (m, is, rest) = (m, inl (m, is, refl))
 
-lines_both : (octets text : List ℕ) → PairLines octets text → (a : MessageValue) × (b : MessageValue) × IsDatagram octets (both a b)
+lines_both : (octets text : List ℕ) → PairLines worded.Plain octets text → (a : MessageValue) × (b : MessageValue) × IsDatagram octets (both a b)
 lines_both octets text (front, back, announces, (before, (a, first, rest), (b, second, others))) = (a, b, inr (front, back, announces, (a, first, (b, second, refl))))
 
 lines_of : (members : Members) (octets text : List ℕ) → LinesBy members planes.Control octets text false → (d : DatagramValue) × IsDatagram octets d

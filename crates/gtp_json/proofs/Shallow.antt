@@ -27,7 +27,10 @@ use Rattle.gtp_user.specs.Message.{EchoRequest, EchoResponse, ErrorIndication, N
 use Rattle.gtp_user.specs.Message.{Content as UserContent, MessageValue as UserMessage}
 use Rattle.gtp_user.specs.Encoding.{kind_of}
 use Rattle.gtp_json.specs.Tree.{members_of, items_of, member, object_of, array_of}
-use Rattle.gtp_json.specs.Values.{offending_members, cause_members, paa_members, v4_members, v6_members, end_members, value_json, octets_members, named_members, form_members, body_members}
+use Rattle.gtp_ie.specs.declared.form.Form.TheVariants as forms
+use Rattle.gtp_codes.specs.Words.{word_in, cause_words, interface_type_words, pdn_type_words}
+use Rattle.gtp_lines.specs.Words.{read_word}
+use Rattle.gtp_json.specs.Values.{word_members, beside, offending_members, cause_members, paa_members, v4_members, v6_members, interface_members, end_members, value_json, octets_members, named_members, form_members, body_members}
 use Rattle.gtp_json.specs.Control.{element_head, inner_json, group_members, element_members, element_json, named_by, title_members, teid_members, priority_members, header_members, head_members, elements_members, CarriedMembers, MessageMembers, second_member, element_fault_members, fault_members, fault_member}
 use Rattle.gtp_lines.specs.User.{user_name, body_name}
 use Rattle.gtp_json.specs.User.{named, user_title, target_members, some_member, user_head, extension_json, extensions_members, user_carried, user_members, user_fault_members}
@@ -81,12 +84,17 @@ unfolding member object_of
 offending_within None = tt
 offending_within (Some o) = (omega arith, tt)
 
+word_within : (n : ℕ) (name : List ℕ) (word : Option (List ℕ)) → Within n (word_members name word)
+unfolding member
+word_within n name None = tt
+word_within n name (Some word) = (omega arith, tt)
+
 paa_within : (p : Paa) → Within 1 (paa_members p)
 unfolding member
 paa_within (paas.V4 v4) = (omega arith, (omega arith, tt))
 paa_within (paas.V6 prefix v6) = (omega arith, (omega arith, (omega arith, tt)))
 paa_within (paas.V4V6 prefix v6 v4) = (omega arith, (omega arith, (omega arith, (omega arith, tt))))
-paa_within (paas.Other pdn) = (omega arith, (omega arith, tt))
+paa_within (paas.Other pdn) = (omega arith, (omega arith, word_within 1 (codes "pdn_type_name") (word_in pdn_type_words pdn)))
 
 v4_within : (v : Option (List ℕ)) → Within 1 (v4_members v)
 unfolding member
@@ -101,7 +109,7 @@ v6_within (Some v) = (omega arith, tt)
 value_depth : (v : Value) → depth (value_json v) ≤ 2
 unfolding value_json member object_of
 value_depth (OfImsi digits) = omega arith
-value_depth (OfCause c) = object_depth 1 (cause_members c) (omega arith, offending_within c.offending)
+value_depth (OfCause c) = object_depth 1 (cause_members c) (omega arith, join 1 (word_members (codes "cause_name") (word_in cause_words c.value)) (offending_members c.offending) (word_within 1 (codes "cause_name") (word_in cause_words c.value)) (offending_within c.offending))
 value_depth (OfRecovery n) = omega arith
 value_depth (OfApn octets) = omega arith
 value_depth (OfAmbr a) = omega arith
@@ -111,7 +119,8 @@ value_depth (OfQos q) = omega arith
 value_depth (OfRat n) = omega arith
 value_depth (OfPlmn n) = omega arith
 value_depth (OfTft octets) = omega arith
-value_depth (OfFTeid e) = object_depth 1 (end_members e) (omega arith, (omega arith, join 1 (v4_members e.v4) (v6_members e.v6) (v4_within e.v4) (v6_within e.v6)))
+value_depth (OfFTeid e) =
+    object_depth 1 (end_members e) (join 1 (interface_members e.interface) _ (omega arith, word_within 1 (codes "interface_name") (word_in interface_type_words e.interface)) (omega arith, join 1 (v4_members e.v4) (v6_members e.v6) (v4_within e.v4) (v6_within e.v6)))
 value_depth (OfChargingId n) = omega arith
 value_depth (OfPdnType n) = omega arith
 value_depth (OfPti n) = omega arith
@@ -126,9 +135,14 @@ unfolding member
 named_within name body (Ok v) = (omega arith, (value_depth v, tt))
 named_within name body (Err f) = octets_within body
 
+beside_within : (form : Form) (read : Result Value ReadFault) → Within 2 (beside form read)
+beside_within forms.Rat read = word_within 2 (codes "value_name") (read_word read)
+beside_within forms.PdnType read = word_within 2 (codes "value_name") (read_word read)
+beside_within form read = tt
+
 form_within : (form : Option Form) (kind : ℕ) (body : List ℕ) → Within 2 (form_members form kind body)
 form_within None kind body = octets_within body
-form_within (Some form) kind body = named_within (name_of form) body (value_at kind body)
+form_within (Some form) kind body = join 2 (named_members (name_of form) body (value_at kind body)) (beside form (value_at kind body)) (named_within (name_of form) body (value_at kind body)) (beside_within form (value_at kind body))
 
 body_within : (kind : ℕ) (body : List ℕ) → Within 2 (body_members kind body)
 unfolding body_members

@@ -1,16 +1,18 @@
 //! What elements say, as JSON.
 
-ghost use Rattle.std.specs.Prelude.{◌≡◌, ◌++◌, OnOk};
+ghost use Rattle.std.specs.Prelude.{◌≡◌, ◌++◌, OnOk, option_map};
 ghost use Rattle.gtp_values.specs.Bit.{bit as bit_of};
 ghost use Rattle.gtp_ie.specs.Value.{value_at};
 ghost use Rattle.gtp_ie.specs.Form.{number_of as number_of_form, name_of};
 ghost use Rattle.json.specs.Tree.{json_tokens};
 ghost use Rattle.gtp_json.specs.Tree.{member, number_of as number_json};
 ghost use Rattle.gtp_json.specs.reading.Tokens.{written};
-ghost use Rattle.gtp_json.specs.Values.{value_json, offending_members, both_ways, paa_members, rates_value, level_member, retention_members, rates_members, v4_members, v6_members, octets_members, named_members, body_members};
+ghost use Rattle.gtp_json.specs.Values.{value_json, word_members, beside, offending_members, both_ways, paa_members, rates_value, level_member, retention_members, rates_members, v4_members, v6_members, interface_members, octets_members, named_members, body_members};
 
 use crate::object::Output;
+use gtp_codes::{cause_word, interface_type_word, pdn_type_word};
 use gtp_ie::{ChargingId, EbiValue, Form, IeValue, PdnType, Pti, Rat, Recovery, Selection};
+use gtp_lines::form_word;
 use gtp_values::{Ambr, Apn, Cause, FTeid, Imsi, Ip, Offending, Paa, Plmn, Qos, Rates, Tft};
 use std::alloc::AllocError;
 
@@ -92,6 +94,18 @@ impl Write for Tft {
     }
 }
 
+/// Writes the word of a number, where it has one.
+#[tactic(auto, using(crate::proofs::Tokens::appending))]
+fn put_word(out: &mut Output, name: &str, word: Option<&'static str>) -> Result<(), AllocError>
+    ensures ok { OnOk result (out.new ≡ out.old
+        ++ written (word_members name.now (option_map (λ w. w.now) word.entry))) }
+{
+    match word {
+        Some(word) => out.string_member(name, word),
+        None => Ok(()),
+    }
+}
+
 /// Writes the element at fault, where there is one.
 #[tactic(auto, using(crate::proofs::Tokens::nesting))]
 fn put_offending(out: &mut Output, offending: &Option<Offending>) -> Result<(), AllocError>
@@ -112,6 +126,7 @@ impl Write for Cause {
     fn write_json(&self, out: &mut Output) -> Result<(), AllocError> {
         out.begin_object()?;
         out.number_member("cause", u64::from(self.value))?;
+        put_word(out, "cause_name", cause_word(self.value))?;
         put_offending(out, &self.offending)?;
         out.end_object()
     }
@@ -158,7 +173,8 @@ fn put_paa(out: &mut Output, paa: &Paa) -> Result<(), AllocError>
         }
         Paa::Other(other) => {
             out.string_member("kind", "other")?;
-            out.number_member("pdn_type", u64::from(other.number()))
+            out.number_member("pdn_type", u64::from(other.number()))?;
+            put_word(out, "pdn_type_name", pdn_type_word(other.number()))
         }
     }
 }
@@ -267,11 +283,20 @@ fn put_some_v6(out: &mut Output, address: &Option<[u8; 16]>) -> Result<(), Alloc
     out.hex_member("v6", address)
 }
 
+/// Writes an interface type, and its word where it has one.
+#[tactic(auto, using(crate::proofs::Tokens::appending))]
+fn put_interface(out: &mut Output, interface: u8) -> Result<(), AllocError>
+    ensures ok { OnOk result (out.new ≡ out.old ++ written (interface_members interface)) }
+{
+    out.number_member("interface", u64::from(interface))?;
+    put_word(out, "interface_name", interface_type_word(interface))
+}
+
 impl Write for FTeid {
     #[tactic(auto, unfolding(crate::specs::Values::value_json), using(crate::proofs::Tokens::nesting))]
     fn write_json(&self, out: &mut Output) -> Result<(), AllocError> {
         out.begin_object()?;
-        out.number_member("interface", u64::from(self.interface().number()))?;
+        put_interface(out, self.interface().number())?;
         out.display_member("teid", &self.teid())?;
         put_some_v4(out, &self.v4())?;
         put_some_v6(out, &self.v6())?;
@@ -302,9 +327,9 @@ fn put_value<T: Write>(out: &mut Output, name: &str, body: &[u8]) -> Result<(), 
     }
 }
 
-/// Writes what a body of this form says.
+/// Writes the value that a body of this form says by name, or its octets where it says none.
 #[tactic(auto, unfolding(gtp_ie::specs::Value::value_at))]
-fn put_form(out: &mut Output, form: Form, body: &[u8]) -> Result<(), AllocError>
+fn put_named(out: &mut Output, form: Form, body: &[u8]) -> Result<(), AllocError>
     ensures ok { OnOk result (out.new ≡ out.old
         ++ written (named_members (name_of form) body.now
         (value_at (number_of_form form) body.now))) }
@@ -328,6 +353,29 @@ fn put_form(out: &mut Output, form: Form, body: &[u8]) -> Result<(), AllocError>
         Form::Pti => put_value::<Pti>(out, name, body),
         Form::Selection => put_value::<Selection>(out, name, body),
     }
+}
+
+/// Writes the word of a value that is a number, where it has one.
+#[tactic(auto, using(crate::proofs::Tokens::none_written))]
+fn put_beside(out: &mut Output, form: Form, body: &[u8]) -> Result<(), AllocError>
+    ensures ok { OnOk result (out.new ≡ out.old
+        ++ written (beside form (value_at (number_of_form form) body.now))) }
+{
+    match form {
+        Form::Rat | Form::PdnType => put_word(out, "value_name", form_word(form, body)),
+        _ => Ok(()),
+    }
+}
+
+/// Writes what a body of this form says, and then its word, where it has one.
+#[tactic(auto, using(crate::proofs::Tokens::appending))]
+fn put_form(out: &mut Output, form: Form, body: &[u8]) -> Result<(), AllocError>
+    ensures ok { OnOk result (out.new ≡ out.old
+        ++ written (named_members (name_of form) body.now (value_at (number_of_form form) body.now)
+        ++ beside form (value_at (number_of_form form) body.now))) }
+{
+    put_named(out, form, body)?;
+    put_beside(out, form, body)
 }
 
 /// Writes what a body of this type of element says.

@@ -13,6 +13,7 @@ use Rattle.gtp_user.specs.declared.fault.UserFault.{UserFault}
 use Rattle.gtp_user.specs.Datagram.{IsUserMessage, IsUserFault}
 use Rattle.gtp_user.proofs.Messages.{message_decided}
 use Rattle.gtp_lines.specs.Control.{element_lines, first_line, fault_line}
+use Rattle.gtp_lines.specs.declared.words.Wording.TheVariants.{Worded}
 use Rattle.gtp_lines.specs.User.{user_fault_line, user_lines}
 use Rattle.gtp_lines.specs.All.{rest_line, head_at, MessageShown, AloneShown, SecondShown, ShownBy, pair_at, user_shown, user_head_at}
 use Rattle.gtp_lines.specs.Laws.{OneText}
@@ -37,7 +38,7 @@ one_of {X} {E} r Is Fails d = record {
 message_one : (h : Headed) (t u : List ℕ) → MessageShown h t → MessageShown h u → t ≡ u
 message_one h t u (es, rest, front, t_is) (ds, left, other, u_is) =
     let p = one_front h.at h.rest es rest ds left front other in
-    let lines : flat_map element_lines es ++ rest_line rest ≡ flat_map element_lines ds ++ rest_line left = ap (λ (xs : List Element). flat_map element_lines xs ++ rest_line rest) p.0 ∙ ap (λ (xs : List ℕ). flat_map element_lines ds ++ rest_line xs) p.1 in
+    let lines : flat_map (element_lines Worded) es ++ rest_line rest ≡ flat_map (element_lines Worded) ds ++ rest_line left = ap (λ (xs : List Element). flat_map (element_lines Worded) xs ++ rest_line rest) p.0 ∙ ap (λ (xs : List ℕ). flat_map (element_lines Worded) ds ++ rest_line xs) p.1 in
     t_is ∙ (ap (λ (xs : List ℕ). first_line h.kind h.teid h.seq h.priority ++ xs) lines ∙ sym u_is)
 
 alone_one : (w : Option Headed) (t u : List ℕ) → AloneShown w t → AloneShown w u → t ≡ u

@@ -6,23 +6,24 @@ use Rattle.gtp_v2.specs.Message.{Content, Fields, Raw, raw_of, MessageValue}
 use Rattle.gtp_v2.specs.Pair.{LiesIn, LieIn}
 use Rattle.gtp_v2.specs.Viewed.{Viewed, ElementsAre}
 use Rattle.gtp_lines.specs.Text.{octets_text}
+use Rattle.gtp_lines.specs.declared.words.Wording.TheVariants.{Plain}
 use Rattle.gtp_lines.specs.Control.{CarriedLines, carried_lines, element_lines, seen_lines, datagram_lines, AloneLines, ControlLines}
 
 pub raw_lines : (content : Content) (es : List Element) (octets : List ℕ) → Some octets ≡ raw_of content → carried_lines content es ≡ codes "octets " ++ (octets_text octets ++ codes "\n")
 raw_lines (Raw carried) es octets is = let same : octets ≡ carried = cc in rw same refl
 raw_lines (Fields fields) es octets is = absurd cc
 
-pub typed_lines : (content : Content) (es : List Element) → None ≡ raw_of content → carried_lines content es ≡ flat_map element_lines es
+pub typed_lines : (content : Content) (es : List Element) → None ≡ raw_of content → carried_lines content es ≡ flat_map (element_lines Plain) es
 typed_lines (Raw carried) es is = absurd cc
 typed_lines (Fields fields) es is = refl
 
 -- lines of the elements that a datagram carries are its lines
-pub carried_are : (octets : List ℕ) (m : MessageValue) (content : Content) (es : List Element) → ElementsAre octets m content es → CarriedLines octets m content (carried_lines content es)
+pub carried_are : (octets : List ℕ) (m : MessageValue) (content : Content) (es : List Element) → ElementsAre octets m content es → CarriedLines Plain octets m content (carried_lines content es)
 carried_are octets m (Raw carried) es are = refl
 carried_are octets m (Fields fields) es are = (es, are, refl)
 
 -- a message shows the lines of the octets in which it lies
-lines_alone : (octets : List ℕ) (v : Viewed) (text : List ℕ) → LiesIn octets v → text ≡ seen_lines v → AloneLines octets text
+lines_alone : (octets : List ℕ) (v : Viewed) (text : List ℕ) → LiesIn octets v → text ≡ seen_lines v → AloneLines Plain octets text
 lines_alone octets v text lies is = (v.message, lies.spelled, (carried_lines v.message.content v.elements, carried_are octets v.message v.message.content v.elements lies.elements, is))
 
 -- and so do the messages of a datagram

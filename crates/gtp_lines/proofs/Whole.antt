@@ -16,6 +16,7 @@ use Rattle.gtp_v2.specs.Viewed.{place_of}
 use Rattle.gtp_v2.proofs.Carried.{after_header}
 use Rattle.gtp_lines.specs.Control.{element_lines, first_line, head_line, CarriedLines, HasLines}
 use Rattle.gtp_lines.specs.All.{head_of, head_at, pair_at, rest_line, MessageShown, SecondShown, ShownBy}
+use Rattle.gtp_lines.specs.declared.words.Wording.TheVariants.{Worded}
 use Rattle.gtp_lines.specs.Laws.{WholeShown}
 use Rattle.gtp_lines.proofs.Before.{all_front}
 
@@ -64,7 +65,7 @@ announced octets front back h (flags, kind, high, low, following, (small, text),
 
 -- ---- messages
 
-fields_lines : (octets : List ℕ) (m : MessageValue) (content : Content) (lines : List ℕ) → CarriedLines octets m content lines → raw_of content ≡ None → (es : List Element) × AreElements (place_of m.teid) (drop (place_of m.teid) octets) es × (lines ≡ flat_map element_lines es)
+fields_lines : (octets : List ℕ) (m : MessageValue) (content : Content) (lines : List ℕ) → CarriedLines Worded octets m content lines → raw_of content ≡ None → (es : List Element) × AreElements (place_of m.teid) (drop (place_of m.teid) octets) es × (lines ≡ flat_map (element_lines Worded) es)
 fields_lines octets m (Raw carried) lines l none = absurd cc
 fields_lines octets m (Fields fields) lines l none = l
 
@@ -76,7 +77,7 @@ record ShownAfter (before octets text : List ℕ) : Type 0 where
   shown : MessageShown head lines
   is : text ≡ before ++ lines
 
-message_shown : (before octets : List ℕ) (m : MessageValue) (text : List ℕ) → IsMessage octets m → raw_of m.content ≡ None → HasLines before octets m text → ShownAfter before octets text
+message_shown : (before octets : List ℕ) (m : MessageValue) (text : List ℕ) → IsMessage octets m → raw_of m.content ≡ None → HasLines Worded before octets m text → ShownAfter before octets text
 message_shown before octets m text (h, headed, (content, carries, is)) none (lines, carried, text_is) =
     let after = after_header octets h headed in
     let w = fields_lines octets m m.content lines carried none in
@@ -85,11 +86,11 @@ message_shown before octets m text (h, headed, (content, carries, is)) none (lin
     let are : AreElements h.at h.rest w.0 = subst (λ (xs : List ℕ). AreElements h.at xs w.0) after.rest here in
     let first : List ℕ = first_line h.kind h.teid h.seq h.priority in
     let title : head_line m ≡ first = ap head_line is in
-    let rest : lines ≡ flat_map element_lines w.0 ++ rest_line [] = w.2 ∙ sym (append-nil (flat_map element_lines w.0)) in
+    let rest : lines ≡ flat_map (element_lines Worded) w.0 ++ rest_line [] = w.2 ∙ sym (append-nil (flat_map (element_lines Worded) w.0)) in
     record {
       head = h;
       headed = headed;
-      lines = first ++ (flat_map element_lines w.0 ++ rest_line []);
+      lines = first ++ (flat_map (element_lines Worded) w.0 ++ rest_line []);
       shown = (w.0, [], all_front h.at h.rest w.0 are, refl);
       is = text_is ∙ (ap (λ (xs : List ℕ). before ++ (xs ++ lines)) title ∙ ap (λ (xs : List ℕ). before ++ (first ++ xs)) rest);
     }

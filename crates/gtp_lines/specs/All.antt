@@ -14,6 +14,7 @@ use Rattle.gtp_v2.specs.Pair.{DatagramValue, IsDatagram, IsDatagramFault}
 use Rattle.gtp_user.specs.declared.fault.UserFault.{UserFault}
 use Rattle.gtp_user.specs.Datagram.{IsUserFault}
 use Rattle.gtp_lines.specs.Text.{octets_text}
+use Rattle.gtp_lines.specs.declared.words.Wording.TheVariants.{Worded}
 use Rattle.gtp_lines.specs.Control.{element_lines, first_line, fault_line}
 use Rattle.gtp_lines.specs.User.{kind_title, some_shown, user_fault_line, UserLines}
 
@@ -73,10 +74,10 @@ pair_at octets = None
 
 -- ---- lines of the control plane
 
--- the first line of a message, the lines of its elements, as many as are whole, and the octets that are left
+-- the first line of a message, the lines of its elements with their words, as many as are whole, and the octets that are left
 abbrev pub MessageShown : Headed → List ℕ → Type 0
 MessageShown h text =
-    (es : List Element) × (rest : List ℕ) × IsFront h.at h.rest es rest × (text ≡ first_line h.kind h.teid h.seq h.priority ++ (flat_map element_lines es ++ rest_line rest))
+    (es : List Element) × (rest : List ℕ) × IsFront h.at h.rest es rest × (text ≡ first_line h.kind h.teid h.seq h.priority ++ (flat_map (element_lines Worded) es ++ rest_line rest))
 
 -- a message without a header shows nothing
 abbrev pub AloneShown : Option Headed → List ℕ → Type 0

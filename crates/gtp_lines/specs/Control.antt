@@ -18,24 +18,27 @@ use Rattle.gtp_v2.specs.Pair.{Announces, IsDatagramFault}
 use Rattle.gtp_v2.specs.Viewed.{Viewed, place_of}
 use Rattle.gtp_values.specs.Teid.{teid_text}
 use Rattle.gtp_lines.specs.Text.{octets_text}
-use Rattle.gtp_lines.specs.Values.{field_shown, raw_shown, body_shown}
+use Rattle.gtp_lines.specs.Values.{field_shown, raw_shown}
+use Rattle.gtp_lines.specs.declared.words.Wording.{Wording}
+use Rattle.gtp_lines.specs.declared.words.Wording.TheVariants.{Plain}
+use Rattle.gtp_lines.specs.Words.{said}
 
 -- what stands before an element's value
 abbrev pub element_head : Element → List ℕ
 element_head e = codes "ie " ++ (decimal e.kind ++ (codes " " ++ (decimal e.instance ++ codes " ")))
 
 -- the line of an element inside a group
-abbrev pub inner_line : Element → List ℕ
-inner_line e = codes "  " ++ (element_head e ++ (body_shown e.kind e.body ++ codes "\n"))
+abbrev pub inner_line : Wording → Element → List ℕ
+inner_line wording e = codes "  " ++ (element_head e ++ (said wording e.kind e.body ++ codes "\n"))
 
 -- a bearer context by its elements; or its octets where they are not whole elements
-abbrev pub group_shown : Element → Result (List Element) ℕ → List ℕ
-group_shown e (Ok inner) = codes "bearer-context\n" ++ flat_map inner_line inner
-group_shown e (Err at) = raw_shown e.body ++ codes "\n"
+abbrev pub group_shown : Wording → Element → Result (List Element) ℕ → List ℕ
+group_shown wording e (Ok inner) = codes "bearer-context\n" ++ flat_map (inner_line wording) inner
+group_shown wording e (Err at) = raw_shown e.body ++ codes "\n"
 
 -- the lines of an element
-abbrev pub element_lines : Element → List ℕ
-element_lines e = element_head e ++ (if e.kind == bearer_context then group_shown e (elements_of (e.at + 4) e.body) else (body_shown e.kind e.body ++ codes "\n"))
+abbrev pub element_lines : Wording → Element → List ℕ
+element_lines wording e = element_head e ++ (if e.kind == bearer_context then group_shown wording e (elements_of (e.at + 4) e.body) else (said wording e.kind e.body ++ codes "\n"))
 
 -- the name of a type of message: that of its table, where it has one
 abbrev pub name_shown : Option Table → List ℕ
@@ -65,15 +68,15 @@ abbrev pub head_line : MessageValue → List ℕ
 head_line m = first_line m.kind m.teid m.seq m.priority
 
 -- the lines after the first: those of the elements in the datagram's order, or the octets of a message of another type
-abbrev pub CarriedLines : List ℕ → MessageValue → Content → List ℕ → Type 0
-CarriedLines octets m (Raw carried) lines = lines ≡ codes "octets " ++ (octets_text carried ++ codes "\n")
-CarriedLines octets m (Fields fields) lines =
-    (es : List Element) × AreElements (place_of m.teid) (drop (place_of m.teid) octets) es × (lines ≡ flat_map element_lines es)
+abbrev pub CarriedLines : Wording → List ℕ → MessageValue → Content → List ℕ → Type 0
+CarriedLines wording octets m (Raw carried) lines = lines ≡ codes "octets " ++ (octets_text carried ++ codes "\n")
+CarriedLines wording octets m (Fields fields) lines =
+    (es : List Element) × AreElements (place_of m.teid) (drop (place_of m.teid) octets) es × (lines ≡ flat_map (element_lines wording) es)
 
--- the same of elements that are at hand
+-- the same of elements that are at hand, without words
 abbrev pub carried_lines : Content → List Element → List ℕ
 carried_lines (Raw carried) es = codes "octets " ++ (octets_text carried ++ codes "\n")
-carried_lines (Fields fields) es = flat_map element_lines es
+carried_lines (Fields fields) es = flat_map (element_lines Plain) es
 
 -- the lines of a message that is viewed
 abbrev pub seen_lines : Viewed → List ℕ
@@ -120,20 +123,24 @@ abbrev pub fault_line : V2Fault → List ℕ
 fault_line f = codes "fault " ++ (fault_shown f ++ codes "\n")
 
 -- the text is other text, and then the lines of a message that the octets spell
-abbrev pub HasLines : List ℕ → List ℕ → MessageValue → List ℕ → Type 0
-HasLines before octets m text = (lines : List ℕ) × CarriedLines octets m m.content lines × (text ≡ before ++ (head_line m ++ lines))
+abbrev pub HasLines : Wording → List ℕ → List ℕ → MessageValue → List ℕ → Type 0
+HasLines wording before octets m text = (lines : List ℕ) × CarriedLines wording octets m m.content lines × (text ≡ before ++ (head_line m ++ lines))
 
 -- the lines of one message alone
-abbrev pub AloneLines : List ℕ → List ℕ → Type 0
-AloneLines octets text = (m : MessageValue) × IsMessage octets m × HasLines [] octets m text
+abbrev pub AloneLines : Wording → List ℕ → List ℕ → Type 0
+AloneLines wording octets text = (m : MessageValue) × IsMessage octets m × HasLines wording [] octets m text
 
 -- the lines of two messages: those of the first, and then those of the second
-abbrev pub PairLines : List ℕ → List ℕ → Type 0
-PairLines octets text =
+abbrev pub PairLines : Wording → List ℕ → List ℕ → Type 0
+PairLines wording octets text =
     (front : List ℕ) × (back : List ℕ) × Announces octets front back
-    × ((before : List ℕ) × AloneLines front before × ((m : MessageValue) × IsMessage back m × HasLines before back m text))
+    × ((before : List ℕ) × AloneLines wording front before × ((m : MessageValue) × IsMessage back m × HasLines wording before back m text))
 
--- the lines of a control datagram, and whether they are a fault's
+-- the lines of a control datagram without a fault
+abbrev pub WholeLines : Wording → List ℕ → List ℕ → Type 0
+WholeLines wording octets text = AloneLines wording octets text ⊎ PairLines wording octets text
+
+-- the lines of a control datagram, without words, and whether they are a fault's
 abbrev pub ControlLines : List ℕ → List ℕ → Bool → Type 0
 ControlLines octets text true = (f : V2Fault) × IsDatagramFault octets f × (text ≡ fault_line f)
-ControlLines octets text false = AloneLines octets text ⊎ PairLines octets text
+ControlLines octets text false = WholeLines Plain octets text

@@ -4,7 +4,8 @@ use Rattle.gtp_values.specs.declared.plane.Plane.{Plane}
 use Rattle.gtp_ie.specs.Element.{Element}
 use Rattle.gtp_v2.specs.Message.{MessageValue, raw_of}
 use Rattle.gtp_v2.specs.Pair.{DatagramValue, IsDatagram, OfEach}
-use Rattle.gtp_lines.specs.Control.{ControlLines}
+use Rattle.gtp_lines.specs.declared.words.Wording.TheVariants.{Worded}
+use Rattle.gtp_lines.specs.Control.{WholeLines}
 use Rattle.gtp_lines.specs.All.{IsFront, AllControl, AllLines}
 
 -- octets begin with one list of whole elements, and one rest
@@ -17,10 +18,10 @@ OneFront =
 abbrev pub IsTyped : MessageValue → Type 0
 IsTyped m = raw_of m.content ≡ None
 
--- the lines of a datagram without a fault, whose messages are such, are all that can be shown of it
+-- the lines of a datagram without a fault, whose messages are such, with words are all that can be shown of it
 abbrev pub WholeShown : Type 0
 WholeShown =
-    (octets : List ℕ) (text : List ℕ) → ((d : DatagramValue) → IsDatagram octets d → OfEach IsTyped d.first d.second) → ControlLines octets text false → AllControl octets text false
+    (octets : List ℕ) (text : List ℕ) → ((d : DatagramValue) → IsDatagram octets d → OfEach IsTyped d.first d.second) → WholeLines Worded octets text → AllControl octets text false
 
 -- what is shown of a datagram is one text, and whether it has a fault is determined
 abbrev pub OneText : Type 0

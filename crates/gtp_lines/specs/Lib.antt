@@ -1,5 +1,6 @@
 pub mod Text
 pub mod Values
+pub mod Words
 pub mod Control
 pub mod User
 pub mod Lines

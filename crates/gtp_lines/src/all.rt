@@ -14,6 +14,7 @@ use crate::lines::Shown;
 use crate::text::{put, put_octets, put_teid};
 use crate::user::{put_kind_title, put_some, put_user_fault_line, put_user_message};
 use crate::user_header::{UserHeader, user_head_at};
+use crate::words::Wording;
 use gtp_ie::Elements;
 use gtp_v2::view;
 use gtp_values::{Memory, Plane};
@@ -36,9 +37,9 @@ fn put_rest(out: &mut Vec<u8>, rest: &[u8]) -> Result<(), AllocError>
 #[tactic(auto, using(crate::proofs::Appends::appending))]
 fn put_list(out: &mut Vec<u8>, elements: &Elements, rest: &[u8]) -> Result<(), AllocError>
     ensures ok { OnOk result (out.new.items
-        ≡ out.old.items ++ (flat_map element_lines elements.now ++ rest_line rest.now)) }
+        ≡ out.old.items ++ (flat_map (element_lines Wording.Worded) elements.now ++ rest_line rest.now)) }
 {
-    put_elements(out, elements)?;
+    put_elements(out, Wording::Worded, elements)?;
     put_rest(out, rest)
 }
 
@@ -166,7 +167,7 @@ fn all_user(alloc: Global, octets: &[u8]) -> Result<Shown, Memory>
     }
 }
 
-/// All lines of a datagram. Control plane: of each message its header and its elements, as many as are whole, and the
+/// All lines of a datagram. Control plane: of each message its header and its elements with their words, as many as are whole, and the
 /// octets that are left; then the line of the datagram's first fault, if it has one. User plane: the lines of
 /// `decode_lines`; before the line of a fault what the header says, and the octets after that. `Memory` where an
 /// allocation was refused.

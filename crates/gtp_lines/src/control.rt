@@ -8,7 +8,8 @@ ghost use Rattle.gtp_lines.specs.Control.{element_head, inner_line, element_line
 ghost use Rattle.gtp_lines.specs.Control.{element_fault_detail, element_fault, mark_shown, fault_detail, fault_shown, fault_line};
 
 use crate::text::{put, put_teid};
-use crate::values::{put_body, put_field, put_raw};
+use crate::values::{put_field, put_raw};
+use crate::words::{Wording, put_said};
 use gtp_ie::{ElementView, Elements, IeFault};
 use gtp_v2::{BEARER_CONTEXT, MessageView, V2Fault, type_name};
 use gtp_values::{Below, Seq, Teid};
@@ -26,36 +27,36 @@ fn put_element_head(out: &mut Vec<u8>, view: &ElementView) -> Result<(), AllocEr
 
 /// Appends the line of an element inside a group.
 #[tactic(auto, using(crate::proofs::Appends::appending))]
-fn put_inner(out: &mut Vec<u8>, view: &ElementView) -> Result<(), AllocError>
-    ensures ok { OnOk result (out.new.items ≡ out.old.items ++ inner_line (element_of view.now)) }
+fn put_inner(out: &mut Vec<u8>, wording: Wording, view: &ElementView) -> Result<(), AllocError>
+    ensures ok { OnOk result (out.new.items ≡ out.old.items ++ inner_line wording (element_of view.now)) }
 {
     put(out, b"  ")?;
     put_element_head(out, view)?;
-    put_body(out, view.kind, view.body)?;
+    put_said(out, wording, view.kind, view.body)?;
     put(out, b"\n")
 }
 
 /// Appends the lines of the elements inside a group.
-fn put_all_inner(out: &mut Vec<u8>, elements: &Elements) -> Result<(), AllocError>
-    ensures ok { OnOk result (out.new.items ≡ out.old.items ++ flat_map inner_line elements.now) }
+fn put_all_inner(out: &mut Vec<u8>, wording: Wording, elements: &Elements) -> Result<(), AllocError>
+    ensures ok { OnOk result (out.new.items ≡ out.old.items ++ flat_map (inner_line wording) elements.now) }
 {
     for view in elements.iter() {
-        put_inner(out, &view)?;
+        put_inner(out, wording, &view)?;
     }
     Ok(())
 }
 
 /// Appends a bearer context by its elements, or its octets where they are not whole elements.
 #[tactic(auto, using(crate::proofs::Appends::appending))]
-fn put_group(out: &mut Vec<u8>, view: &ElementView) -> Result<(), AllocError>
+fn put_group(out: &mut Vec<u8>, wording: Wording, view: &ElementView) -> Result<(), AllocError>
     ensures ok { OnOk result
         (out.new.items ≡ out.old.items
-        ++ group_shown (element_of view.now) (elements_of (view.now.at + 4) view.now.body.now)) }
+        ++ group_shown wording (element_of view.now) (elements_of (view.now.at + 4) view.now.body.now)) }
 {
     match view.inner() {
         Ok(inner) => {
             put(out, b"bearer-context\n")?;
-            put_all_inner(out, &inner)?;
+            put_all_inner(out, wording, &inner)?;
             Ok(())
         }
         Err(_) => {
@@ -67,25 +68,29 @@ fn put_group(out: &mut Vec<u8>, view: &ElementView) -> Result<(), AllocError>
 
 /// Appends the lines of an element.
 #[tactic(auto, using(crate::proofs::Appends::appending))]
-fn put_element(out: &mut Vec<u8>, view: &ElementView) -> Result<(), AllocError>
+fn put_element(out: &mut Vec<u8>, wording: Wording, view: &ElementView) -> Result<(), AllocError>
     ensures ok { OnOk result
-        (out.new.items ≡ out.old.items ++ element_lines (element_of view.now)) }
+        (out.new.items ≡ out.old.items ++ element_lines wording (element_of view.now)) }
 {
     put_element_head(out, view)?;
     if view.kind == BEARER_CONTEXT {
-        return put_group(out, view);
+        return put_group(out, wording, view);
     }
-    put_body(out, view.kind, view.body)?;
+    put_said(out, wording, view.kind, view.body)?;
     put(out, b"\n")
 }
 
 /// Appends the lines of elements.
-pub fn put_elements(out: &mut Vec<u8>, elements: &Elements) -> Result<(), AllocError>
+pub fn put_elements(
+    out: &mut Vec<u8>,
+    wording: Wording,
+    elements: &Elements,
+) -> Result<(), AllocError>
     ensures ok { OnOk result
-        (out.new.items ≡ out.old.items ++ flat_map element_lines elements.now) }
+        (out.new.items ≡ out.old.items ++ flat_map (element_lines wording) elements.now) }
 {
     for view in elements.iter() {
-        put_element(out, &view)?;
+        put_element(out, wording, &view)?;
     }
     Ok(())
 }

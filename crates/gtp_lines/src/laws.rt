@@ -12,7 +12,7 @@ pub fn datagrams_show_one_text()
     ensures { OneText }
 {}
 
-/// Of a datagram without a fault, whose messages have tables, `all_lines` shows what `decode_lines` does.
+/// Of a datagram without a fault, whose messages have tables, `all_lines` shows what `decode_lines` does, and words.
 pub fn whole_datagrams_show_the_same()
     ensures { WholeShown }
 {}

@@ -12,6 +12,7 @@ pub mod text;
 mod user;
 mod user_header;
 mod values;
+mod words;
 
 pub use all::all_lines;
 pub use control::message_name;
@@ -26,6 +27,7 @@ pub use user_header::{UserHeader, user_head_at};
 pub use control::{put_fault_line, put_some_teid};
 pub use user::{body_name, put_some, put_target, put_user_fault_line, user_name};
 pub use values::put_field;
+pub use words::form_word;
 
 /// What the signatures here name of the crate below.
 pub use gtp_values::{Memory, Plane};

@@ -3,6 +3,7 @@ use Rattle.std.specs.List.{flat_map}
 use Rattle.gtp_lines.specs.Control.{element_lines, first_line}
 use Rattle.gtp_lines.specs.All.{IsFront, rest_line}
 use Rattle.gtp_lines.specs.reading.Header.{headed_of}
+use Rattle.gtp_lines.specs.declared.words.Wording.TheVariants.{Worded}
 use Rattle.gtp_lines.proofs.Appends.{twice}
 use Rattle.gtp_lines.proofs.all.put_message.Goals as goal
 
@@ -13,7 +14,7 @@ returns c =
     let found = c.front_elements-elements.result in
     let front = subst (λ (n : ℕ). IsFront n header.rest.now found.0 found.1.now) c.place.ensures.place c.front_elements-elements.ensures in
     let first : List ℕ = first_line head.kind head.teid head.seq head.priority in
-    let list : List ℕ = flat_map element_lines found.0 ++ rest_line found.1.now in
+    let list : List ℕ = flat_map (element_lines Worded) found.0 ++ rest_line found.1.now in
     record {
       ok = (first ++ list, (found.0, found.1.now, front, refl), twice c.args.out.now.items c.put_first_line.new.out.items c.put_list.new.out.items first list c.in_ok-put_first_line.ensures.ok c.in_ok-put_list.ensures.ok);
     }
