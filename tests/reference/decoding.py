@@ -13,11 +13,13 @@ PTI = 100
 
 class Fault(Exception):
     """The first fault of a datagram, by its code; of an element at fault in a message whose list is complete, the message, the
-    element's type and instance and the cause that a refusal of it has (clause 7.7)."""
+    element's type and instance and the cause that a refusal of it has (clause 7.7). Of an element in a bearer context, the number
+    of that context in the message, from 1."""
 
     def __init__(self, code, message=None, kind=None, instance=0, cause=None):
         super().__init__(code)
         self.code, self.message, self.kind, self.instance, self.cause = code, message, kind, instance, cause
+        self.context = None
 
 
 # Forms of elements (clause 8): whether a body is too short, and whether one that is long enough is bad.
@@ -140,7 +142,7 @@ class Reading:
                 if is_required:
                     self.missing(kind, instance, mark)
             elif kind == CONTEXT:
-                self.read_contexts(bodies, inner[0])
+                self.read_contexts(instance, inner[0])
             elif inner:
                 for body in bodies:
                     if (cause := defect_of(kind, body)) is not None:
@@ -152,12 +154,21 @@ class Reading:
             if (kind, instance) == (CAUSE, 0):
                 self.is_accepting = self.is_accepting and accepts(bodies[0][0])
 
-    def read_contexts(self, bodies, rows):
-        for body in bodies:
-            found = element_list(body)
-            if found is None:
-                raise Fault("H7", self.message)
-            Reading(self.message, found, self.is_accepting).read(rows)
+    def read_context(self, body, rows):
+        found = element_list(body)
+        if found is None:
+            raise Fault("H7", self.message)
+        Reading(self.message, found, self.is_accepting).read(rows)
+
+    def read_contexts(self, instance, rows):
+        contexts = [it for it in self.found if it[0] == CONTEXT]
+        for number, (_, its_instance, body) in enumerate(contexts, 1):
+            try:
+                if its_instance == instance:
+                    self.read_context(body, rows)
+            except Fault as fault:
+                fault.context = number
+                raise
 
 
 def read_message(octets):

@@ -1,6 +1,7 @@
 """What can be said of a datagram beside the values of its elements: names, TEIDs and sequence numbers of its messages, the types
-and instances of their elements, the words of what these say, octets that are left, and the code of its first fault. Of any octets,
-from anywhere: written after the standard and docs/FORMATS.md and not after the program."""
+and instances of their elements, the words of what these say, octets that are left, the code of its first fault, and the bearer
+context in which that lies. Of any octets, from anywhere: written after the standard and docs/FORMATS.md and not after the
+program."""
 
 import re
 
@@ -12,13 +13,25 @@ CONTROL = {**NAMES["control"], 3: "version-not-supported"}
 USER = {**NAMES["user"], 31: "supported-extensions"}
 
 
-def fault_of(plane, octets):
-    """The code of the first fault, or None."""
+def first_fault(plane, octets):
+    """The first fault, or None."""
     try:
         (read_user_datagram if plane == "user" else read_datagram)(octets)
     except Fault as fault:
-        return fault.code
+        return fault
     return None
+
+
+def fault_of(plane, octets):
+    """Its code, or None."""
+    fault = first_fault(plane, octets)
+    return fault.code if fault else None
+
+
+def context_of(plane, octets):
+    """The number of the bearer context in which an element at fault lies, or None."""
+    fault = first_fault(plane, octets)
+    return fault.context if fault and fault.code == "H7" else None
 
 
 def control_head(octets):
@@ -85,8 +98,8 @@ def outline_of_message(octets):
 
 def outline(plane, octets):
     """The lines of --all without the values of elements, and of a fault its code. None for a user datagram without a fault."""
-    code = fault_of(plane, octets)
-    end = [f"fault {code}"] if code else []
+    code, context = fault_of(plane, octets), context_of(plane, octets)
+    end = ([f"fault {code}"] if code else []) + ([f"in bearer-context {context}"] if context else [])
     if plane == "control":
         if control_head(octets) is None:
             return end
@@ -118,10 +131,10 @@ def members_of_message(octets):
 
 
 def members(plane, octets):
-    """The members of the JSON of a datagram, of elements their type and instance, of a fault its code."""
+    """The members of the JSON of a datagram, of elements their type and instance, of a fault its code and its bearer context."""
     code = fault_of(plane, octets)
     if code:
-        return {"plane": plane, "fault": code}
+        return {"plane": plane, "fault": (code, context_of(plane, octets))}
     if plane == "user":
         kind = octets[1]
         found = {"type": kind, "name": USER.get(kind), "teid": None if kind in (1, 2, 26, 31) else octets[4:8].hex(),
@@ -162,7 +175,7 @@ def shown_of_user(octets):
 
 
 def all_members(plane, octets):
-    """The members of the JSON of --all, of elements their type and instance, of a fault its code."""
+    """The members of the JSON of --all, of elements their type and instance, of a fault its code and its bearer context."""
     code = fault_of(plane, octets)
     if plane == "user" and not code:
         return members(plane, octets)
@@ -173,14 +186,14 @@ def all_members(plane, octets):
         shown = {**shown_of_message(first), "second": shown_of_message(second)}
     else:
         shown = shown_of_message(octets) if control_head(octets) else {}
-    return {"plane": plane, **shown} | ({"fault": code} if code else {})
+    return {"plane": plane, **shown} | ({"fault": (code, context_of(plane, octets))} if code else {})
 
 
 def members_of_json(it):
     """The members of an object of JSON that `members` has too."""
     kept = {key: it[key] for key in ("plane", "type", "name", "teid", "seq", "priority") if key in it}
     if "fault" in it:
-        kept["fault"] = it["fault"]["code"]
+        kept["fault"] = it["fault"]["code"], it["fault"].get("bearer_context")
     if "elements" in it:
         kept["elements"] = [(element["type"], element["instance"]) for element in it["elements"]]
     if "octets" in it and it.get("plane", "control") == "control":

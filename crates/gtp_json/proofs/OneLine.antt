@@ -23,7 +23,7 @@ use Rattle.gtp_lines.proofs.Before.{all_front}
 use Rattle.gtp_json.specs.declared.datagram.Members.{Members}
 use Rattle.gtp_json.specs.declared.datagram.Members.TheVariants.{Plain, All}
 use Rattle.gtp_json.specs.Tree.{object_of, line_of}
-use Rattle.gtp_json.specs.Control.{CarriedMembers, MessageMembers, PairMembers, header_members, head_members, elements_members, second_member, fault_members, fault_member}
+use Rattle.gtp_json.specs.Control.{CarriedMembers, MessageMembers, PairMembers, header_members, head_members, elements_members, second_member, placed_members, fault_member}
 use Rattle.gtp_json.specs.User.{user_members, user_fault_members}
 use Rattle.gtp_json.specs.All.{rest_members, MessageShown, AloneShown, SecondShown, ShownBy}
 use Rattle.gtp_json.specs.Datagram.{plane_member, ControlMembers, BeforeFault, WithFault, MembersBy}
@@ -151,7 +151,7 @@ fault_one members plane octets fs gs ms ns same (a, before, is) (b, other, ns_is
 members_one : (members : Members) (plane : Plane) (octets : List ℕ) (ms ns : List (List ℕ × Json)) (x y : Bool) → MembersBy members plane octets ms x → MembersBy members plane octets ns y → (ms ≡ ns) × (x ≡ y)
 members_one members planes.Control octets ms ns true true (f, fails, has) (g, fault, had) =
     let one = one_of _ (IsDatagram octets) (IsDatagramFault octets) (datagram_decided octets) in
-    (fault_one members planes.Control octets (fault_members f) (fault_members g) ms ns (ap fault_members (one.fault f g fails fault)) has had, refl)
+    (fault_one members planes.Control octets (placed_members octets f) (placed_members octets g) ms ns (ap (placed_members octets) (one.fault f g fails fault)) has had, refl)
 members_one members planes.Control octets ms ns true false (f, fails, has) h =
     let one = one_of _ (IsDatagram octets) (IsDatagramFault octets) (datagram_decided octets) in
     let s = spelled members octets ns h in

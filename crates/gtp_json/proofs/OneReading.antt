@@ -10,16 +10,16 @@ use Rattle.gtp_user.specs.declared.fault.UserFault.{UserFault}
 use Rattle.gtp_user.specs.Datagram.{IsUserMessage, IsUserFault}
 use Rattle.gtp_user.proofs.Messages.{message_decided as user_decided}
 use Rattle.gtp_lines.specs.declared.words.Wording.TheVariants as worded
-use Rattle.gtp_lines.specs.Control.{AloneLines, PairLines, fault_line}
+use Rattle.gtp_lines.specs.Control.{AloneLines, PairLines}
 use Rattle.gtp_lines.specs.User.{UserLines, user_fault_line}
 use Rattle.gtp_lines.specs.All.{user_shown, user_head_at}
 use Rattle.gtp_json.specs.declared.datagram.Members.{Members}
 use Rattle.gtp_json.specs.declared.datagram.Members.TheVariants.{Plain, All}
 use Rattle.gtp_json.specs.Tree.{object_of}
-use Rattle.gtp_json.specs.Control.{fault_members}
+use Rattle.gtp_json.specs.Control.{placed_members}
 use Rattle.gtp_json.specs.User.{user_members, user_fault_members}
 use Rattle.gtp_json.specs.Datagram.{plane_member}
-use Rattle.gtp_json.specs.Laws.{LinesBy, EndsInLine, EndsInFault, OneReading}
+use Rattle.gtp_json.specs.Laws.{LinesBy, fault_lines, EndsInLine, EndsInFault, OneReading}
 use Rattle.gtp_json.proofs.OneLine.{one_of, spelled}
 
 -- what lines that are no fault's are of
@@ -35,7 +35,7 @@ lines_of Plain octets text (inr h) = let s = lines_both octets text h in (both s
 lines_of All octets text (d, how) = d
 
 -- the fault that lines end in
-fault_of : (members : Members) (octets text : List ℕ) → LinesBy members planes.Control octets text true → (f : V2Fault) × IsDatagramFault octets f × EndsInLine members planes.Control octets (fault_line f) text
+fault_of : (members : Members) (octets text : List ℕ) → LinesBy members planes.Control octets text true → (f : V2Fault) × IsDatagramFault octets f × EndsInLine members planes.Control octets (fault_lines members octets f) text
 fault_of Plain octets text (f, fails, is) = (f, fails, ([], refl, is))
 fault_of All octets text found = found
 
@@ -52,7 +52,7 @@ pub one_reading : OneReading
 one_reading members planes.Control octets text true j true lines (ms, (g, fault, has), is) =
     let one = one_of _ (IsDatagram octets) (IsDatagramFault octets) (datagram_decided octets) in
     let found = fault_of members octets text lines in
-    (refl, (found.0, found.1, found.2, subst (λ (z : V2Fault). EndsInFault members planes.Control octets (fault_members z) j) (one.fault g found.0 fault found.1) (ms, has, is)))
+    (refl, (found.0, found.1, found.2, subst (λ (z : V2Fault). EndsInFault members planes.Control octets (placed_members octets z) j) (one.fault g found.0 fault found.1) (ms, has, is)))
 one_reading members planes.Control octets text true j false lines (ms, has, is) =
     let one = one_of _ (IsDatagram octets) (IsDatagramFault octets) (datagram_decided octets) in
     let found = fault_of members octets text lines in

@@ -31,14 +31,14 @@ use Rattle.gtp_ie.specs.declared.form.Form.TheVariants as forms
 use Rattle.gtp_codes.specs.Words.{word_in, cause_words, interface_type_words, pdn_type_words}
 use Rattle.gtp_lines.specs.Words.{read_word}
 use Rattle.gtp_json.specs.Values.{word_members, beside, offending_members, cause_members, paa_members, v4_members, v6_members, interface_members, end_members, value_json, octets_members, named_members, form_members, body_members}
-use Rattle.gtp_json.specs.Control.{element_head, inner_json, group_members, element_members, element_json, named_by, title_members, teid_members, priority_members, header_members, head_members, elements_members, CarriedMembers, MessageMembers, second_member, element_fault_members, fault_members, fault_member}
+use Rattle.gtp_json.specs.Control.{element_head, inner_json, group_members, element_members, element_json, named_by, title_members, teid_members, priority_members, header_members, head_members, elements_members, CarriedMembers, MessageMembers, second_member, element_fault_members, fault_members, context_members, placed_members, fault_member}
 use Rattle.gtp_lines.specs.User.{user_name, body_name}
 use Rattle.gtp_json.specs.User.{named, user_title, target_members, some_member, user_head, extension_json, extensions_members, user_carried, user_members, user_fault_members}
 use Rattle.gtp_json.specs.declared.datagram.Members.{Members}
 use Rattle.gtp_json.specs.declared.datagram.Members.TheVariants.{Plain, All}
 use Rattle.gtp_json.specs.Datagram.{plane_member, ControlMembers, BeforeFault, WithFault, MembersBy}
 use Rattle.gtp_v2.specs.Headed.{Headed}
-use Rattle.gtp_lines.specs.All.{UserHead, head_at, pair_at, user_head_at}
+use Rattle.gtp_lines.specs.All.{UserHead, fault_context, head_at, pair_at, user_head_at}
 use Rattle.gtp_json.specs.All.{rest_members, MessageShown, AloneShown, SecondShown, ShownBy, kind_members, user_shown}
 use Rattle.gtp_json.specs.Frames.{path_members, frame_members, held_members, part_members, RestMembers}
 use Rattle.gtp_capture.specs.Packet.{Packet as Captured}
@@ -212,6 +212,11 @@ element_fault_within (elements.BadValue kind instance at) = (omega arith, (omega
 element_fault_within elements.Memory = (omega arith, tt)
 element_fault_within elements.TooLong = (omega arith, tt)
 
+context_within : (number : Option ℕ) → Within 1 (context_members number)
+unfolding member
+context_within None = tt
+context_within (Some number) = (omega arith, tt)
+
 fault_within : (f : V2Fault) → Within 1 (fault_members f)
 unfolding member
 fault_within (faults.Short held) = (omega arith, (omega arith, tt))
@@ -223,6 +228,9 @@ fault_within (faults.Element fault head) = (omega arith, (object_depth 0 (elemen
 fault_within (faults.BadPiggyback at) = (omega arith, (omega arith, tt))
 fault_within faults.Memory = (omega arith, tt)
 fault_within faults.TooLong = (omega arith, tt)
+
+placed_within : (octets : List ℕ) (f : V2Fault) → Within 1 (placed_members octets f)
+placed_within octets f = join 1 (fault_members f) (context_members (fault_context octets f)) (fault_within f) (context_within (fault_context octets f))
 
 fault_member_within : (ms : List (List ℕ × Json)) → Within 1 ms → Within 7 (fault_member ms)
 fault_member_within ms h = more 2 7 (fault_member ms) (omega arith) (one 2 (codes "fault") (object_of ms) (object_depth 1 ms h))
@@ -333,7 +341,7 @@ with_fault_within : (members : Members) (plane : Plane) (octets : List ℕ) (fau
 with_fault_within members plane octets fault ms low (before, how, is) = subst (Within 7) (sym is) (join 7 before _ (before_within members plane octets before how) (fault_member_within fault low))
 
 pub by_members_within : (members : Members) (plane : Plane) (octets : List ℕ) (ms : List (List ℕ × Json)) (faulty : Bool) → MembersBy members plane octets ms faulty → Within 7 ms
-by_members_within members planes.Control octets ms true (f, first, has) = with_fault_within members planes.Control octets (fault_members f) ms (fault_within f) has
+by_members_within members planes.Control octets ms true (f, first, has) = with_fault_within members planes.Control octets (placed_members octets f) ms (placed_within octets f) has
 by_members_within members planes.Control octets ms false has = control_within members octets ms has
 by_members_within members planes.User octets ms true (f, first, has) = with_fault_within members planes.User octets (user_fault_members f) ms (user_fault_within f) has
 by_members_within members planes.User octets ms false (m, spelled, is) = subst (Within 7) (sym is) (user_message_within m)

@@ -14,6 +14,7 @@ use Rattle.gtp_v2.specs.Message.{Content, Fields, Raw, MessageValue}
 use Rattle.gtp_v2.specs.Datagram.{IsMessage}
 use Rattle.gtp_v2.specs.Pair.{Announces}
 use Rattle.gtp_v2.specs.Viewed.{Viewed, place_of}
+use Rattle.gtp_lines.specs.All.{fault_context}
 use Rattle.gtp_json.specs.Tree.{member, object_of, array_of, number_of}
 use Rattle.gtp_json.specs.Values.{teid_value, octets_members, body_members}
 
@@ -152,6 +153,15 @@ fault_detail fault = []
 
 abbrev pub fault_members : V2Fault → List (List ℕ × Json)
 fault_members f = member (codes "code") (string (code_of f)) ++ fault_detail f
+
+-- the number of the bearer context in which an element at fault lies, where it lies in one
+abbrev pub context_members : Option ℕ → List (List ℕ × Json)
+context_members None = []
+context_members (Some number) = member (codes "bearer_context") (number_of number)
+
+-- a fault of a datagram
+abbrev pub placed_members : List ℕ → V2Fault → List (List ℕ × Json)
+placed_members octets f = fault_members f ++ context_members (fault_context octets f)
 
 -- a fault, as a member
 abbrev pub fault_member : List (List ℕ × Json) → List (List ℕ × Json)

@@ -11,7 +11,7 @@ use Rattle.gtp_lines.specs.All.{user_head_at}
 use Rattle.gtp_json.specs.declared.datagram.Members.{Members}
 use Rattle.gtp_json.specs.declared.datagram.Members.TheVariants.{Plain, All}
 use Rattle.gtp_json.specs.Tree.{member, object_of, line_of}
-use Rattle.gtp_json.specs.Control.{MessageMembers, PairMembers, fault_members, fault_member}
+use Rattle.gtp_json.specs.Control.{MessageMembers, PairMembers, placed_members, fault_member}
 use Rattle.gtp_json.specs.User.{user_fault_members, UserMembers}
 use Rattle.gtp_json.specs.All.{ControlShown, user_shown}
 
@@ -39,7 +39,7 @@ WithFault members plane octets fault ms = (before : List (List ℕ × Json)) × 
 
 -- The members of a datagram after its plane, and whether it has a fault, which is its first. A user datagram without one has those of its message, in each form.
 abbrev pub MembersBy : Members → Plane → List ℕ → List (List ℕ × Json) → Bool → Type 0
-MembersBy members Control octets ms true = (f : V2Fault) × IsDatagramFault octets f × WithFault members Control octets (fault_members f) ms
+MembersBy members Control octets ms true = (f : V2Fault) × IsDatagramFault octets f × WithFault members Control octets (placed_members octets f) ms
 MembersBy members Control octets ms false = ControlMembers members octets ms
 MembersBy members User octets ms true = (f : UserFault) × IsUserFault octets f × WithFault members User octets (user_fault_members f) ms
 MembersBy members User octets ms false = UserMembers octets ms

@@ -11,12 +11,12 @@ use Rattle.gtp_user.specs.Datagram.{IsUserMessage, IsUserFault}
 use Rattle.gtp_capture.specs.Seen.{Seen}
 use Rattle.gtp_lines.specs.Control.{fault_line}
 use Rattle.gtp_lines.specs.Lines.{LinesOf}
-use Rattle.gtp_lines.specs.All.{ControlShown, user_shown, user_head_at, AllLines}
+use Rattle.gtp_lines.specs.All.{ControlShown, context_line, fault_context, user_shown, user_head_at, AllLines}
 use Rattle.gtp_lines.specs.User.{user_lines, user_fault_line}
 use Rattle.gtp_json.specs.declared.datagram.Members.{Members}
 use Rattle.gtp_json.specs.declared.datagram.Members.TheVariants.{Plain, All}
 use Rattle.gtp_json.specs.Tree.{object_of}
-use Rattle.gtp_json.specs.Control.{fault_members}
+use Rattle.gtp_json.specs.Control.{placed_members}
 use Rattle.gtp_json.specs.User.{user_members, user_fault_members}
 use Rattle.gtp_json.specs.Datagram.{plane_member, WithFault, IsDatagramJson, DatagramJson}
 use Rattle.gtp_json.specs.Frames.{FrameJson}
@@ -52,11 +52,16 @@ EndsInLine members plane octets line text = (before : List ℕ) × LinesBefore m
 abbrev pub EndsInFault : Members → Plane → List ℕ → List (List ℕ × Json) → Json → Type 0
 EndsInFault members plane octets fault j = (ms : List (List ℕ × Json)) × WithFault members plane octets fault ms × (j ≡ object_of (plane_member plane ++ ms))
 
+-- the line of a fault; and, of all that can be shown, that of the bearer context in which it lies
+abbrev pub fault_lines : Members → List ℕ → V2Fault → List ℕ
+fault_lines Plain octets f = fault_line f
+fault_lines All octets f = fault_line f ++ context_line (fault_context octets f)
+
 -- the text and the object say the one fault of the octets, or their one message of the user plane; of a datagram of the control plane the octets spell one and
 -- no other, so both are of that
 abbrev pub OfOne : Members → Plane → List ℕ → Bool → List ℕ → Json → Type 0
 OfOne members planes.Control octets true text j =
-    (f : V2Fault) × IsDatagramFault octets f × EndsInLine members planes.Control octets (fault_line f) text × EndsInFault members planes.Control octets (fault_members f) j
+    (f : V2Fault) × IsDatagramFault octets f × EndsInLine members planes.Control octets (fault_lines members octets f) text × EndsInFault members planes.Control octets (placed_members octets f) j
 OfOne members planes.Control octets false text j = (d : DatagramValue) × IsDatagram octets d × ((other : DatagramValue) → IsDatagram octets other → other ≡ d)
 OfOne members planes.User octets true text j =
     (f : UserFault) × IsUserFault octets f × EndsInLine members planes.User octets (user_fault_line f) text × EndsInFault members planes.User octets (user_fault_members f) j

@@ -9,11 +9,12 @@ ghost use Rattle.gtp_v2.specs.Tables.{table_of};
 ghost use Rattle.gtp_json.specs.Tree.{member, number_of, array_of, object_of};
 ghost use Rattle.gtp_json.specs.reading.Tokens.{written};
 ghost use Rattle.gtp_json.specs.Control.{element_head, inner_json, group_members, element_json, element_members, named_by, title_members, teid_members, priority_members, header_members, head_members, elements_members, carried_members, seen_members, second_members};
-ghost use Rattle.gtp_json.specs.Control.{element_code as spec_element_code, code_of, element_fault_detail, element_fault_members, mark_word, fault_detail, fault_members, fault_member};
+ghost use Rattle.gtp_json.specs.Control.{element_code as spec_element_code, code_of, element_fault_detail, element_fault_members, mark_word, fault_detail, fault_members, context_members, placed_members, fault_member};
 
 use crate::object::Output;
 use crate::values::{put_body, put_octets};
 use gtp_ie::{ElementView, Elements, IeFault};
+use gtp_lines::fault_context;
 use gtp_v2::{BEARER_CONTEXT, DatagramView, MessageView, V2Fault, type_name};
 use gtp_values::{Below, Seq, Teid};
 use std::alloc::AllocError;
@@ -344,15 +345,35 @@ fn put_fault_detail(out: &mut Output, fault: &V2Fault) -> Result<(), AllocError>
     }
 }
 
-/// Writes the member of a fault.
+/// Writes the code of a fault, and what follows it.
+#[tactic(auto, using(crate::proofs::Tokens::appending))]
+fn put_fault_members(out: &mut Output, fault: &V2Fault) -> Result<(), AllocError>
+    ensures ok { OnOk result (out.new ≡ out.old ++ written (fault_members fault.now)) }
+{
+    out.string_member("code", code(fault))?;
+    put_fault_detail(out, fault)
+}
+
+/// Writes the number of a bearer context, where there is one.
+#[tactic(auto, using(crate::proofs::Tokens::appending))]
+fn put_context(out: &mut Output, number: Option<u64>) -> Result<(), AllocError>
+    ensures ok { OnOk result (out.new ≡ out.old ++ written (context_members number)) }
+{
+    match number {
+        Some(number) => out.number_member("bearer_context", number),
+        None => Ok(()),
+    }
+}
+
+/// Writes the member of a fault of these octets.
 #[tactic(auto, using(crate::proofs::Tokens::nesting))]
-pub fn put_fault(out: &mut Output, fault: &V2Fault) -> Result<(), AllocError>
-    ensures ok { OnOk result
-        (out.new ≡ out.old ++ written (fault_member (fault_members fault.now))) }
+pub fn put_fault(out: &mut Output, octets: &[u8], fault: &V2Fault) -> Result<(), AllocError>
+    ensures ok { OnOk result (out.new
+        ≡ out.old ++ written (fault_member (placed_members octets.now fault.now))) }
 {
     out.key("fault")?;
     out.begin_object()?;
-    out.string_member("code", code(fault))?;
-    put_fault_detail(out, fault)?;
+    put_fault_members(out, fault)?;
+    put_context(out, fault_context(octets, fault))?;
     out.end_object()
 }

@@ -72,7 +72,7 @@ fn put_control(out: &mut Output, members: Members, octets: &[u8]) -> Result<bool
         }
         Err(fault) => {
             put_before(out, members, Plane::Control, octets)?;
-            control::put_fault(out, &fault)?;
+            control::put_fault(out, octets, &fault)?;
             Ok(true)
         }
     }

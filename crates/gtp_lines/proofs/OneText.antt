@@ -15,7 +15,7 @@ use Rattle.gtp_user.proofs.Messages.{message_decided}
 use Rattle.gtp_lines.specs.Control.{element_lines, first_line, fault_line}
 use Rattle.gtp_lines.specs.declared.words.Wording.TheVariants.{Worded}
 use Rattle.gtp_lines.specs.User.{user_fault_line, user_lines}
-use Rattle.gtp_lines.specs.All.{rest_line, head_at, MessageShown, AloneShown, SecondShown, ShownBy, pair_at, user_shown, user_head_at}
+use Rattle.gtp_lines.specs.All.{rest_line, context_line, fault_context, head_at, MessageShown, AloneShown, SecondShown, ShownBy, pair_at, user_shown, user_head_at}
 use Rattle.gtp_lines.specs.Laws.{OneText}
 use Rattle.gtp_lines.proofs.Alike.{one_front}
 
@@ -58,7 +58,8 @@ pub one_text : OneText
 one_text planes.Control octets t true u true (f, fails, (shown, a, is)) (g, fault, (other, b, u_is)) =
     let one = one_of _ (IsDatagram octets) (IsDatagramFault octets) (datagram_decided octets) in
     let same = shown_one (pair_at octets) (head_at octets) shown other a b in
-    (is ∙ (ap (λ (xs : List ℕ). xs ++ fault_line f) same ∙ (ap (λ (x : V2Fault). other ++ fault_line x) (one.fault f g fails fault) ∙ sym u_is)), refl)
+    let ends : V2Fault → List ℕ = λ (x : V2Fault). fault_line x ++ context_line (fault_context octets x) in
+    (is ∙ (ap (λ (xs : List ℕ). xs ++ ends f) same ∙ (ap (λ (x : V2Fault). other ++ ends x) (one.fault f g fails fault) ∙ sym u_is)), refl)
 one_text planes.Control octets t true u false (f, fails, more) ((d, spelled), b) =
     let one = one_of _ (IsDatagram octets) (IsDatagramFault octets) (datagram_decided octets) in
     absurd (one.either d f spelled fails)

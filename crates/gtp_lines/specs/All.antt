@@ -1,14 +1,18 @@
 -- All that can be shown of a datagram, and then its fault.
-use Rattle.std.specs.Prelude.{◌≡◌, ℕ, ◌+◌, ◌*◌, ◌/◌, ◌%◌, ◌==◌, nat_lt, if◌then◌else◌, Bool, true, false, List, [], ◌∷◌, ◌++◌, length, take, drop, Option, Some, None, option_map, codes}
+use Rattle.std.specs.Prelude.{◌≡◌, ℕ, ◌+◌, ◌-◌, ◌*◌, ◌/◌, ◌%◌, ◌==◌, ◌&&◌, nat_le, nat_lt, if◌then◌else◌, Bool, true, false, List, [], ◌∷◌, ◌++◌, length, take, drop, Option, Some, None, option_map, codes, decimal}
 use Rattle.std.specs.Int.{w32, from_be_bytes}
 use Rattle.std.specs.List.{flat_map}
 use Rattle.byteorder.specs.Endian.{big_number}
 use Rattle.gtp_values.specs.declared.plane.Plane.{Plane}
 use Rattle.gtp_values.specs.declared.plane.Plane.TheVariants as planes
 use Rattle.gtp_values.specs.Teid.{teid_text}
-use Rattle.gtp_ie.specs.Element.{Element}
+use Rattle.gtp_ie.specs.declared.fault.IeFault.{IeFault}
+use Rattle.gtp_ie.specs.declared.fault.IeFault.TheVariants as elements
+use Rattle.gtp_ie.specs.Element.{Element, elements_of, list_of}
+use Rattle.gtp_ie.specs.Form.{bearer_context}
 use Rattle.gtp_ie.specs.Octets.{BeginsWith, Spans}
 use Rattle.gtp_v2.specs.declared.fault.V2Fault.{V2Fault}
+use Rattle.gtp_v2.specs.declared.fault.V2Fault.TheVariants as faults
 use Rattle.gtp_v2.specs.Headed.{Headed}
 use Rattle.gtp_v2.specs.Pair.{DatagramValue, IsDatagram, IsDatagramFault}
 use Rattle.gtp_user.specs.declared.fault.UserFault.{UserFault}
@@ -72,6 +76,56 @@ abbrev pub pair_at : List ℕ → Option (Headed × List ℕ)
 pair_at (first ∷ kind ∷ high ∷ low ∷ held) = first_of first kind (256 * high + low) held
 pair_at octets = None
 
+-- ---- the bearer context in which an element at fault lies
+
+-- the body of an element, which follows its first four octets, has this place
+abbrev pub holds : ℕ → Element → Bool
+holds at e = nat_le 4 (at - e.at) && nat_lt (at - e.at) (4 + length e.body)
+
+-- the number of the bearer context whose body has a place, after so many others
+abbrev pub context_among : ℕ → ℕ → List Element → Option ℕ
+context_among at before [] = None
+context_among at before (e ∷ es) = if e.kind == bearer_context then (if holds at e then Some (before + 1) else context_among at (before + 1) es) else context_among at before es
+
+-- from 1, among the elements after a header, where these are whole; the place is one in the message
+abbrev pub context_in : ℕ → Headed → Option ℕ
+context_in at h = context_among at 0 (list_of (elements_of h.at h.rest))
+
+abbrev pub context_alone : ℕ → Option Headed → Option ℕ
+context_alone at None = None
+context_alone at (Some h) = context_in at h
+
+abbrev pub or_else : Option ℕ → Option ℕ → Option ℕ
+or_else None other = other
+or_else (Some number) other = Some number
+
+-- in a datagram: of its first message, or of its second one, which begins where the first one ends
+abbrev pub context_by : ℕ → List ℕ → Option (Headed × List ℕ) → Option ℕ
+context_by at octets None = context_alone at (head_at octets)
+context_by at octets (Some pair) = or_else (context_in at pair.0) (context_alone (at - (length octets - length pair.1)) (head_at pair.1))
+
+abbrev pub context_at : List ℕ → ℕ → Option ℕ
+context_at octets at = context_by at octets (pair_at octets)
+
+abbrev pub element_context : List ℕ → IeFault → Option ℕ
+element_context octets (elements.Truncated at) = context_at octets at
+element_context octets (elements.ShortValue kind instance at) = context_at octets at
+element_context octets (elements.BadValue kind instance at) = context_at octets at
+element_context octets fault = None
+
+-- that of a fault, where it tells the place of an element in one
+unfoldable pub fault_context : List ℕ → V2Fault → Option ℕ
+fault_context octets (faults.Element fault head) = element_context octets fault
+fault_context octets fault = None
+
+-- and its line
+abbrev pub numbered_line : ℕ → List ℕ
+numbered_line number = codes "in bearer-context " ++ (decimal number ++ codes "\n")
+
+abbrev pub context_line : Option ℕ → List ℕ
+context_line None = []
+context_line (Some number) = numbered_line number
+
 -- ---- lines of the control plane
 
 -- the first line of a message, the lines of its elements with their words, as many as are whole, and the octets that are left
@@ -102,9 +156,9 @@ ShownBy (Some pair) whole text = PairShown pair.0 pair.1 text
 abbrev pub ControlShown : List ℕ → List ℕ → Type 0
 ControlShown octets text = ShownBy (pair_at octets) (head_at octets) text
 
--- and then the line of its first fault, if it has one
+-- and then the line of its first fault, if it has one, and of the bearer context in which that lies
 abbrev pub AllControl : List ℕ → List ℕ → Bool → Type 0
-AllControl octets text true = (f : V2Fault) × IsDatagramFault octets f × ((shown : List ℕ) × ControlShown octets shown × (text ≡ shown ++ fault_line f))
+AllControl octets text true = (f : V2Fault) × IsDatagramFault octets f × ((shown : List ℕ) × ControlShown octets shown × (text ≡ shown ++ (fault_line f ++ context_line (fault_context octets f))))
 AllControl octets text false = ((d : DatagramValue) × IsDatagram octets d) × ControlShown octets text
 
 -- ---- the user plane

@@ -4,9 +4,10 @@ ghost use Rattle.std.specs.Prelude.{◌≡◌, ◌++◌, OnOk, IfOk, option_map}
 ghost use Rattle.std.specs.List.{flat_map};
 ghost use Rattle.gtp_lines.specs.Text.{Adds};
 ghost use Rattle.gtp_lines.specs.Control.{element_lines};
-ghost use Rattle.gtp_lines.specs.All.{rest_line, MessageShown, AloneShown, SecondShown, PairShown, ControlShown, AllControl, user_shown, AllUser, AllLines, head_at as spec_head_at};
+ghost use Rattle.gtp_lines.specs.All.{rest_line, numbered_line, context_line, MessageShown, AloneShown, SecondShown, PairShown, ControlShown, AllControl, user_shown, AllUser, AllLines, head_at as spec_head_at};
 ghost use Rattle.gtp_lines.specs.reading.Header.{headed_of, user_head_of};
 
+use crate::contexts::fault_context;
 use crate::control::{put_elements, put_fault_line, put_first_line};
 use crate::fronts::front_elements;
 use crate::header::{Header, head_at, pair_at};
@@ -14,6 +15,7 @@ use crate::lines::Shown;
 use crate::text::{put, put_octets, put_teid};
 use crate::user::{put_kind_title, put_some, put_user_fault_line, put_user_message};
 use crate::user_header::{UserHeader, user_head_at};
+use crate::values::put_field;
 use crate::words::Wording;
 use gtp_ie::Elements;
 use gtp_v2::view;
@@ -111,6 +113,26 @@ fn put_shown(out: &mut Vec<u8>, octets: &[u8]) -> Result<(), AllocError>
     }
 }
 
+/// Appends the line of a bearer context.
+#[tactic(auto, using(crate::proofs::Appends::appending))]
+fn put_numbered(out: &mut Vec<u8>, number: u64) -> Result<(), AllocError>
+    ensures ok { OnOk result (out.new.items ≡ out.old.items ++ numbered_line number) }
+{
+    put_field(out, b"in bearer-context ", number)?;
+    put(out, b"\n")
+}
+
+/// The same, where there is one.
+#[tactic(auto, using(crate::proofs::Appends::appending))]
+fn put_context(out: &mut Vec<u8>, number: Option<u64>) -> Result<(), AllocError>
+    ensures ok { OnOk result (out.new.items ≡ out.old.items ++ context_line number) }
+{
+    match number {
+        Some(number) => put_numbered(out, number),
+        None => Ok(()),
+    }
+}
+
 /// All lines of a control datagram; `Memory` where an allocation was refused.
 fn all_control(alloc: Global, octets: &[u8]) -> Result<Shown, Memory>
     ensures { IfOk result (λ shown. AllControl octets.now shown.text.items shown.faulty) }
@@ -124,6 +146,7 @@ fn all_control(alloc: Global, octets: &[u8]) -> Result<Shown, Memory>
         }),
         Err(fault) => {
             put_fault_line(&mut text, &fault)?;
+            put_context(&mut text, fault_context(octets, &fault))?;
             Ok(Shown { text, faulty: true })
         }
     }
@@ -168,7 +191,7 @@ fn all_user(alloc: Global, octets: &[u8]) -> Result<Shown, Memory>
 }
 
 /// All lines of a datagram. Control plane: of each message its header and its elements with their words, as many as are whole, and the
-/// octets that are left; then the line of the datagram's first fault, if it has one. User plane: the lines of
+/// octets that are left; then the line of the datagram's first fault, if it has one, and of the bearer context in which that lies. User plane: the lines of
 /// `decode_lines`; before the line of a fault what the header says, and the octets after that. `Memory` where an
 /// allocation was refused.
 pub fn all_lines(alloc: Global, plane: Plane, octets: &[u8]) -> Result<Shown, Memory>

@@ -3,6 +3,7 @@
 #![tactic(auto)]
 
 mod all;
+mod contexts;
 mod control;
 mod fronts;
 mod header;
@@ -24,6 +25,7 @@ pub use header::{Header, head_at, pair_at};
 pub use user_header::{UserHeader, user_head_at};
 
 /// The pieces of these lines, for other lines.
+pub use contexts::fault_context;
 pub use control::{put_fault_line, put_some_teid};
 pub use user::{body_name, put_some, put_target, put_user_fault_line, user_name};
 pub use values::put_field;
