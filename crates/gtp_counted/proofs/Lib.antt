@@ -1,3 +1,3 @@
 mod Held
-mod Written
+pub mod Written
 pub mod Lines

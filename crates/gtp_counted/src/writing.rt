@@ -1,6 +1,6 @@
 //! Writing.
 
-ghost use Rattle.std.specs.Prelude.{◌≡◌, ◌<◌, ◌≤◌, length, take, MatchResult, IfOk, OnOk, OnErr};
+ghost use Rattle.std.specs.Prelude.{◌≡◌, ◌<◌, ◌≤◌, length, take, Ok, MatchResult, IfOk, OnOk, OnErr};
 ghost use Rattle.std.specs.Io.KnownBytes.{Appends, Keeps};
 ghost use Rattle.gtp_counted.specs.Counts.{inner_of, NoneFailed, OneFailed};
 ghost use Rattle.gtp_counted.specs.Streams.{WritesFront};
@@ -9,9 +9,10 @@ use crate::counted::{Counted, Failed};
 use std::io::{ErrorKind, Write};
 
 impl<W: Write> Counted<W> {
-    /// One call of the writer. A call that takes no octet has failed.
+    /// One call of the writer. A call that takes no octet has failed. To write no octets needs no call, and cannot fail.
     pub fn write(&mut self, buf: &[u8]) -> Result<usize, Failed>
-        ensures some { IfOk result (λ n. 0 < n) }
+        ensures none { length buf.now ≡ 0 → (result ≡ Ok 0) × (self.new ≡ self.old) }
+        ensures some { 0 < length buf.now → IfOk result (λ n. 0 < n) }
         ensures within { IfOk result (λ n. n ≤ length buf.now) }
         ensures ok { IfOk result (λ n. Appends
             (W.contents (inner_of self.old)) (W.contents (inner_of self.new)) (take n buf.now)) }
@@ -21,6 +22,9 @@ impl<W: Write> Counted<W> {
             (λ _. NoneFailed self.old self.new)
             (λ failed. OneFailed failed.kind self.old self.new) }
     {
+        if buf.is_empty() {
+            return Ok(0);
+        }
         for _ in 0..u64::MAX {
             match self.inner.write(buf) {
                 Ok(0) => return Err(self.fail(ErrorKind::WriteZero)),

@@ -1,17 +1,20 @@
 -- Lines are told one after the other.
-use Rattle.std.proofs.Common.{arith, ◌≡◌, ℕ, ◌<◌, List, [], ◌∷◌, ◌++◌, length, length-take, take, take_all, inl, inr, Option, Some, None, IfSome, refl, sym, ap, ◌∙◌, subst, append-nil, append_assoc}
+use Rattle.std.proofs.Common.{arith, ◌≡◌, ◌≢◌, ◌⊎◌, ℕ, ◌<◌, List, [], ◌∷◌, ◌++◌, length, length-take, take, take_all, inl, inr, Option, Some, None, IfSome, refl, sym, ap, ◌∙◌, subst, append-nil, append_assoc}
 use Rattle.std.proofs.lemmas.Bool.{cases_lt}
 use Rattle.std.proofs.KnownBytes.{Appends-trans}
 use Rattle.std.specs.Io.KnownBytes.{IsAtEnd}
 use Rattle.std.specs.Io.BufRead.{take_through, drop_through, DropsThrough}
 use Rattle.gtp_dump.specs.declared.decoding.Asked.{Asked}
+use Rattle.gtp_dump.specs.declared.decoding.DumpFault.{DumpFault}
+use Rattle.gtp_dump.specs.declared.decoding.DumpFault.TheVariants as faults
 use Rattle.gtp_dump.specs.declared.decoding.Tally.{Tally}
 use Rattle.gtp_counted.specs.Lines.{BeginsWithLines}
+use Rattle.gtp_counted.proofs.Written.{front_whole, front_after}
 use Rattle.gtp_counted.proofs.Lines.{is_known, content, none_yet, one_more, held_some}
 use Rattle.gtp_dump.specs.Flaw.{IsFlaw}
 use Rattle.gtp_dump.specs.declared.flaw.Flaw.{Flaw}
 use Rattle.gtp_dump.specs.declared.flaw.Flaw.TheVariants.{TooLong, Character, Odd}
-use Rattle.gtp_dump.specs.Decoded.{nothing_read, Tells, TellAll, AreTold, IsTold, AreFirstTold}
+use Rattle.gtp_dump.specs.Decoded.{nothing_read, Tells, TellAll, AreTold, IsTold, IsToldInPart, AreFirstTold, AreToldInPart}
 
 -- what is told of lines, and of one more
 tell_more : (asked : Asked) (a b c : Tally) (lines : List (List ℕ)) (line o p e f : List ℕ)
@@ -89,3 +92,53 @@ first_told asked (Some xs) (Some ys) tally a b c d so = (ys, tally, so)
 pub still_told : (asked : Asked) (first old : Option (List ℕ)) (tally : Tally) (a b c d e f : Option (List ℕ)) → Goes asked first old tally a b d e → b ≡ c → e ≡ f
     → IfSome first (λ octets. AreFirstTold asked octets a c d f)
 still_told asked first old tally a b c d e f so out err = first_told asked first old tally a c d f (subst (λ w. Goes asked first old tally a c d w) err (subst (λ w. Goes asked first old tally a w d e) out so))
+
+-- ---- beginnings of what is told
+
+pub else_written : (fault : DumpFault) → (fault ≡ faults.Write) ⊎ (fault ≡ faults.Closed) → fault ≢ faults.Memory
+else_written fault (inl is) memory = let wrong : faults.Write ≡ faults.Memory = sym is ∙ memory in cc
+else_written fault (inr is) memory = let wrong : faults.Closed ≡ faults.Memory = sym is ∙ memory in cc
+
+-- all of it is one
+pub all_in_part : (asked : Asked) (first old : Option (List ℕ)) (tally : Tally) (a b c d : Option (List ℕ)) → Goes asked first old tally a b c d
+    → IfSome first (λ octets. AreToldInPart asked octets a b c d)
+all_in_part asked None old tally a b c d so = tt
+all_in_part asked (Some xs) None tally a b c d so = absurd so
+all_in_part asked (Some xs) (Some ys) tally a b c d so = record {
+  lines = so.lines;
+  rest = ys;
+  tally = tally;
+  text = so.text;
+  errors = so.errors;
+  begins = so.begins;
+  tells = so.tells;
+  output = front_whole a b so.text so.output;
+  error = front_whole c d so.errors so.error;
+}
+
+-- also where the last line was not told
+pub still_in_part : (asked : Asked) (first old : Option (List ℕ)) (tally : Tally) (a b c d e f : Option (List ℕ)) → Goes asked first old tally a b d e → b ≡ c → e ≡ f
+    → IfSome first (λ octets. AreToldInPart asked octets a c d f)
+still_in_part asked first old tally a b c d e f so out err = all_in_part asked first old tally a c d f (subst (λ w. Goes asked first old tally a c d w) err (subst (λ w. Goes asked first old tally a w d e) out so))
+
+-- or told in part
+pub next_in_part : (asked : Asked) (first old new : Option (List ℕ)) (before : Tally) (held : List ℕ) (a b c d e f : Option (List ℕ))
+    → Goes asked first old before a b d e → IfSome old (λ xs. held ≡ take 1048577 (take_through 10 xs)) → DropsThrough old new 10 → 0 < length held
+    → IsToldInPart asked before held b c e f → IfSome first (λ octets. AreToldInPart asked octets a c d f)
+next_in_part asked None old new before held a b c d e f so is drops some told = tt
+next_in_part asked (Some xs) None new before held a b c d e f so is drops some told = absurd so
+next_in_part asked (Some xs) (Some ys) None before held a b c d e f so is drops some told = absurd (subst is_known (sym drops) tt)
+next_in_part asked (Some xs) (Some ys) (Some zs) before held a b c d e f so is drops some told =
+    let now = told.after in
+    let tells = told_whole asked before now (take_through 10 ys) told.text told.errors (subst (λ l. Tells asked before l now told.text told.errors) is told.tells) in
+    record {
+      lines = so.lines ++ take_through 10 ys ∷ [];
+      rest = drop_through 10 ys;
+      tally = now;
+      text = so.text ++ told.text;
+      errors = so.errors ++ told.errors;
+      begins = one_more xs so.lines ys so.begins (held_some 1048577 ys held is some);
+      tells = tell_more asked nothing_read before now so.lines (take_through 10 ys) so.text told.text so.errors told.errors so.tells tells;
+      output = front_after a b c so.text told.text so.output told.output;
+      error = front_after d e f so.errors told.errors so.error told.error;
+    }

@@ -3,6 +3,7 @@ use Rattle.std.specs.Prelude.{◌≡◌, ℕ, ◌+◌, ◌||◌, ◌⊎◌, Bool
 use Rattle.std.specs.Io.KnownBytes.{Appends}
 use Rattle.gtp_counted.specs.Counts.{NoneFailed, FailedOnce, ClosedOnce}
 use Rattle.gtp_counted.specs.Lines.{BeginsWithLines}
+use Rattle.gtp_counted.specs.Streams.{WritesFront}
 use Rattle.gtp_counted.specs.declared.counted.Counted.{Counted}
 use Rattle.gtp_values.specs.declared.plane.Plane.{Plane}
 use Rattle.gtp_lines.specs.Lines.{LinesOf}
@@ -120,3 +121,24 @@ WriteClosed out out_after err err_after = (ClosedOnce out out_after × NoneFaile
 -- the first lines were told, and nothing else
 abbrev pub AreFirstTold : Asked → List ℕ → (out out_after err err_after : Option (List ℕ)) → Type 0
 AreFirstTold asked octets out out_after err err_after = (rest : List ℕ) × (tally : Tally) × AreTold asked octets rest tally out out_after err err_after
+
+-- of one line a beginning was told
+pub record IsToldInPart (asked : Asked) (before : Tally) (line : List ℕ) (out out_after err err_after : Option (List ℕ)) : Type 0 where
+  pub after : Tally
+  pub text : List ℕ
+  pub errors : List ℕ
+  pub tells : Tells asked before line after text errors
+  pub output : WritesFront out out_after text
+  pub error : WritesFront err err_after errors
+
+-- a beginning of what is told of the first lines was written, and nothing else
+pub record AreToldInPart (asked : Asked) (octets : List ℕ) (out out_after err err_after : Option (List ℕ)) : Type 0 where
+  pub lines : List (List ℕ)
+  pub rest : List ℕ
+  pub tally : Tally
+  pub text : List ℕ
+  pub errors : List ℕ
+  pub begins : BeginsWithLines octets lines rest
+  pub tells : TellAll asked nothing_read lines tally text errors
+  pub output : WritesFront out out_after text
+  pub error : WritesFront err err_after errors

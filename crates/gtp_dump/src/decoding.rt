@@ -1,10 +1,10 @@
 //! All lines of a hex dump.
 
-ghost use Rattle.std.specs.Prelude.{◌≡◌, ◌≢◌, ◌+◌, ◌++◌, ◌-◌, ◌^◌, ◌<◌, ◌≤◌, ◌⊎◌, [], length, None, Ok, Err, IfOk, IfErr, IfSome, OnOk};
+ghost use Rattle.std.specs.Prelude.{◌≡◌, ◌≢◌, ◌+◌, ◌++◌, ◌-◌, ◌^◌, ◌<◌, ◌≤◌, ◌⊎◌, [], length, None, Ok, Err, IfOk, IfErr, IfSome, OnOk, OnErr};
 ghost use Rattle.gtp_counted.specs.Counts.{inner_of, failures_of, NoneFailed};
 ghost use Rattle.gtp_dump.specs.declared.decoding.DumpFault.TheVariants as faults;
 ghost use Rattle.gtp_dump.specs.Text.{IsBlank, IsBad};
-ghost use Rattle.gtp_dump.specs.Decoded.{nothing_read, bad_text, index_line, ShowsAs, ShowsOne, Shows, IsTold, AreTold, AreFirstTold, WriteFailed, WriteClosed};
+ghost use Rattle.gtp_dump.specs.Decoded.{nothing_read, bad_text, index_line, ShowsAs, ShowsOne, Shows, IsTold, IsToldInPart, AreTold, AreFirstTold, AreToldInPart, WriteFailed, WriteClosed};
 
 use crate::flaw::{Flaw, flaw_of, put_flaw};
 use crate::holding::next_line;
@@ -180,6 +180,10 @@ fn tell<W: Write, E: Write>(
     ensures told { IfOk result (λ after. IsTold asked before line.now after
         (W.contents (inner_of out.old)) (W.contents (inner_of out.new))
         (E.contents (inner_of err.old)) (E.contents (inner_of err.new))) }
+    ensures front { IfErr result (λ fault. fault ≢ DumpFault.Memory →
+        IsToldInPart asked before line.now
+        (W.contents (inner_of out.old)) (W.contents (inner_of out.new))
+        (E.contents (inner_of err.old)) (E.contents (inner_of err.new))) }
     ensures number { IfOk result (λ after. after.lines ≡ before.lines + 1) }
     ensures count { IfOk result (λ after. after.datagrams ≤ after.lines) }
     ensures memory { result ≡ Err DumpFault.Memory → (out.new ≡ out.old) × (err.new ≡ err.old) }
@@ -229,8 +233,8 @@ fn tell<W: Write, E: Write>(
 /// count from 1. A line ends with a line feed, or with the text. No more than 1,048,577 octets of one are held.
 ///
 /// `Read` if a read failed, `Write` if a write did, `Closed` if the reader of the output closed it, `Memory` if an allocation was
-/// refused, `TooLong` if there are 2^64 - 1 octets or more: except after `Write` and `Closed`, what was written is that of the
-/// first lines.
+/// refused, `TooLong` if there are 2^64 - 1 octets or more. What was written is that of the first lines, after `Write` and
+/// `Closed` a beginning of it.
 #[tactic(auto, using(gtp_counted::proofs::Lines::lasts_long, gtp_counted::proofs::Lines::lasts_within))]
 pub fn decode_dump<R: BufRead, W: Write, E: Write>(
     alloc: Global,
@@ -249,6 +253,10 @@ pub fn decode_dump<R: BufRead, W: Write, E: Write>(
     ensures first { IfErr result (λ fault. fault ≢ DumpFault.Write → fault ≢ DumpFault.Closed →
         IfSome (R.remaining (inner_of reader.old)) (λ octets.
         AreFirstTold asked octets
+        (W.contents (inner_of out.old)) (W.contents (inner_of out.new))
+        (E.contents (inner_of err.old)) (E.contents (inner_of err.new)))) }
+    ensures front { OnErr result (IfSome (R.remaining (inner_of reader.old)) (λ octets.
+        AreToldInPart asked octets
         (W.contents (inner_of out.old)) (W.contents (inner_of out.new))
         (E.contents (inner_of err.old)) (E.contents (inner_of err.new)))) }
     // `Read` means one more failed call of the reader, and every other result none.

@@ -105,8 +105,8 @@ fn reason_for(alloc: Global, octets: &[u8], refusal: Refusal) -> Result<Reason, 
 /// `read_scenario` has refused them. A `Json`, `Head` or `Event` has a reason of that kind, an `Event` at its place.
 /// `Memory` if an allocation was refused.
 ///
-/// Of several flaws it tells one. An object's keys come before those of the objects in it, and an unknown key comes
-/// before those that are missing or bad, which come in the order of `docs/FORMATS.md`.
+/// Of several flaws it tells one; of the keys of an object that are missing or bad the first, in the order of
+/// `docs/FORMATS.md`. Which of two kinds of flaw it tells, no clause says.
 pub fn reason_of(alloc: Global, octets: &[u8]) -> Result<Option<Reason>, Memory>
     // There is a reason exactly where the octets are refused, and it is one for that refusal.
     ensures refusal { IfOk result

@@ -14,7 +14,7 @@ use crate::tree::Tree;
 use gtp_values::Memory;
 use std::alloc::Global;
 
-/// What is wrong with an entry of the list of events: the first of these that applies.
+/// What is wrong with an entry of the list of events: one of these.
 #[derive(Debug, Drop)]
 pub enum EventFlaw {
     /// It is no object, or its key `do` is missing or has no text.

@@ -17,7 +17,7 @@ use gtp_values::Memory;
 use json::Members;
 use std::alloc::Global;
 
-/// What is wrong with an object: the first of these, in this order, that applies.
+/// What is wrong with an object: one of these.
 #[derive(Debug, Drop)]
 pub enum ObjectFlaw {
     /// It is no object.

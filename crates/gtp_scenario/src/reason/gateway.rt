@@ -50,7 +50,7 @@ const PACKET_KEYS: [Key; 14] = [
 /// The keys of its peer, in order.
 const PEER_KEYS: [Key; 2] = [Key::ControlAddress, Key::UserAddress];
 
-/// What is wrong with the head of a gateway by itself: the first of these that applies.
+/// What is wrong with the head of a gateway by itself: one of these.
 #[derive(Debug, Drop)]
 pub enum GatewayFlaw {
     /// It is no object, or its key `role` is missing or names no gateway.

@@ -28,7 +28,7 @@ const SCENARIO_KEYS: [Key; 6] = [
 /// The keys of the serving gateway, in order.
 const SERVING_KEYS: [Key; 3] = [Key::Control, Key::User, Key::Counter];
 
-/// What is wrong with a head: the first of these that applies.
+/// What is wrong with a head: one of these.
 #[derive(Debug, Drop)]
 pub enum HeadFlaw {
     /// Something is wrong with the keys of the whole.

@@ -28,7 +28,7 @@ pub(crate) const PACKET_KEYS: [Key; 9] = [
     Key::Templates,
 ];
 
-/// What is wrong with a packet gateway: the first of these that applies.
+/// What is wrong with a packet gateway: one of these.
 #[derive(Debug, Drop)]
 pub enum PacketFlaw {
     /// Something is wrong with its keys.

@@ -17,7 +17,7 @@ use gtp_gateway::Apn;
 use gtp_values::Memory;
 use std::alloc::Global;
 
-/// What is wrong with a template of an access point: the first of these that applies.
+/// What is wrong with a template of an access point: one of these.
 #[derive(Debug, Drop)]
 pub enum TemplateFlaw {
     /// Something is wrong with its keys.
