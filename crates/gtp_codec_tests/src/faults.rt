@@ -134,6 +134,7 @@ fn faults_of_messages_in_words(rt: HostRuntime) -> Result<(), Fail> {
                     kind: 71,
                     instance: 0,
                     conditional: false,
+                    group: None,
                     head: head(),
                 },
                 "the element 71/0 is missing",

@@ -133,7 +133,7 @@ code_of (faults.Version version) = codes "H2"
 code_of (faults.Length stated held) = codes "H3"
 code_of (faults.FlagT kind) = codes "H4"
 code_of (faults.BadPiggyback at) = codes "H5"
-code_of (faults.Missing kind instance conditional head) = codes "H6"
+code_of (faults.Missing kind instance conditional group head) = codes "H6"
 code_of (faults.Element fault head) = codes "H7"
 code_of faults.Memory = codes "H8"
 code_of faults.TooLong = codes "H9"
@@ -144,7 +144,7 @@ fault_detail (faults.Short held) = member (codes "held") (number_of held)
 fault_detail (faults.Version version) = member (codes "version") (number_of version)
 fault_detail (faults.Length stated held) = member (codes "stated") (number_of stated) ++ member (codes "held") (number_of held)
 fault_detail (faults.FlagT kind) = member (codes "type") (number_of kind)
-fault_detail (faults.Missing kind instance conditional head) =
+fault_detail (faults.Missing kind instance conditional group head) =
     member (codes "type") (number_of kind)
     ++ (member (codes "instance") (number_of instance) ++ member (codes "mark") (string (mark_word conditional)))
 fault_detail (faults.Element fault head) = member (codes "element") (object_of (element_fault_members fault))

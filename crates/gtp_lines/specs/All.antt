@@ -76,13 +76,13 @@ abbrev pub pair_at : List ℕ → Option (Headed × List ℕ)
 pair_at (first ∷ kind ∷ high ∷ low ∷ held) = first_of first kind (256 * high + low) held
 pair_at octets = None
 
--- ---- the bearer context in which an element at fault lies
+-- ---- the bearer context in which an element at fault lies, or is missing
 
--- the body of an element, which follows its first four octets, has this place
+-- an element, of which the first four octets are the header, has this place
 abbrev pub holds : ℕ → Element → Bool
-holds at e = nat_le 4 (at - e.at) && nat_lt (at - e.at) (4 + length e.body)
+holds at e = nat_le e.at at && nat_lt (at - e.at) (4 + length e.body)
 
--- the number of the bearer context whose body has a place, after so many others
+-- the number of the bearer context that has a place, after so many others
 abbrev pub context_among : ℕ → ℕ → List Element → Option ℕ
 context_among at before [] = None
 context_among at before (e ∷ es) = if e.kind == bearer_context then (if holds at e then Some (before + 1) else context_among at (before + 1) es) else context_among at before es
@@ -113,8 +113,9 @@ element_context octets (elements.ShortValue kind instance at) = context_at octet
 element_context octets (elements.BadValue kind instance at) = context_at octets at
 element_context octets fault = None
 
--- that of a fault, where it tells the place of an element in one
+-- that of a fault, where it tells the place of an element in one, or of the one that lacks an element
 unfoldable pub fault_context : List ℕ → V2Fault → Option ℕ
+fault_context octets (faults.Missing kind instance conditional (Some at) head) = context_at octets at
 fault_context octets (faults.Element fault head) = element_context octets fault
 fault_context octets fault = None
 

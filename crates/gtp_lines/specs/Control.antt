@@ -108,7 +108,7 @@ fault_detail (faults.Short held) = codes " held " ++ decimal held
 fault_detail (faults.Version version) = codes " version " ++ decimal version
 fault_detail (faults.Length stated held) = codes " stated " ++ (decimal stated ++ (codes " held " ++ decimal held))
 fault_detail (faults.FlagT kind) = codes " type " ++ decimal kind
-fault_detail (faults.Missing kind instance conditional head) =
+fault_detail (faults.Missing kind instance conditional group head) =
     codes " type " ++ (decimal kind ++ (codes " instance " ++ (decimal instance ++ mark_shown conditional)))
 fault_detail (faults.Element fault head) = codes " " ++ element_fault fault
 fault_detail (faults.BadPiggyback at) = codes " at " ++ decimal at

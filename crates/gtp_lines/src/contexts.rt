@@ -1,4 +1,4 @@
-//! The bearer context in which an element at fault lies.
+//! The bearer context in which an element at fault lies, or is missing.
 
 ghost use Rattle.std.specs.Prelude.{◌≡◌, ◌<◌, ◌^◌, length};
 ghost use Rattle.gtp_ie.specs.View.{element_of};
@@ -9,15 +9,14 @@ use crate::header::{Header, head_at, pair_at};
 use gtp_ie::{ElementView, Elements, IeFault, elements_at};
 use gtp_v2::{BEARER_CONTEXT, V2Fault};
 
-/// Whether the body of an element has this place.
+/// Whether an element has this place.
 fn holds(view: &ElementView, at: usize) -> bool
     ensures { result ≡ spec_holds at (element_of view.now) }
 {
-    let into = at.saturating_sub(view.at);
-    4 <= into && into < 4 + view.body.len()
+    view.at <= at && at - view.at < 4 + view.body.len()
 }
 
-/// The number of the bearer context whose body has this place, from 1.
+/// The number of the bearer context that has this place, from 1.
 fn context_among(elements: &Elements, at: usize) -> Option<u64>
     requires { length elements.now < 2 ^ 64 }
     ensures { result ≡ spec_context_among at 0 elements.now }
@@ -70,7 +69,8 @@ fn context_at(octets: &[u8], at: usize) -> Option<u64>
     }
 }
 
-/// The number of the bearer context in which the element at fault lies, from 1 in its message, where it lies in one.
+/// The number of the bearer context in which the element at fault lies or is missing, from 1 in its message, where
+/// that is one.
 #[tactic(auto, unfolding(crate::specs::All::fault_context))]
 pub fn fault_context(octets: &[u8], fault: &V2Fault) -> Option<u64>
     ensures { result ≡ spec_fault_context octets.now fault.now }
@@ -82,6 +82,10 @@ pub fn fault_context(octets: &[u8], fault: &V2Fault) -> Option<u64>
             | IeFault::BadValue { at, .. } => context_at(octets, *at),
             IeFault::Memory | IeFault::TooLong => None,
         },
+        V2Fault::Missing {
+            group: Some(at),
+            ..
+        } => context_at(octets, *at),
         _ => None,
     }
 }

@@ -82,7 +82,7 @@ element_fault head elements.TooLong = Control_fault element_number
 
 -- a control datagram at fault: by an element (7.7.6 to 7.7.8), or by the fault's printed number, H1 to H9 (7.7.2, 7.7.3)
 abbrev pub control_fault : V2Fault → ControlReading
-control_fault (faults.Missing kind instance conditional head) = defect_in (request_type head.kind) head (missing_in conditional) kind instance
+control_fault (faults.Missing kind instance conditional group head) = defect_in (request_type head.kind) head (missing_in conditional) kind instance
 control_fault (faults.Element fault head) = element_fault head fault
 control_fault fault = Control_fault (number_of fault)
 

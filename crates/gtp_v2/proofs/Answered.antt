@@ -39,7 +39,8 @@ moved_small place (faults.Version n) small = small
 moved_small place (faults.BadPiggyback at) small = (tt, tt)
 moved_small place (faults.Length stated held) small = small
 moved_small place (faults.FlagT kind) small = small
-moved_small place (faults.Missing kind instance conditional head) small = small
+moved_small place (faults.Missing kind instance conditional None head) small = small
+moved_small place (faults.Missing kind instance conditional (Some at) head) small = small
 moved_small place (faults.Element fault head) small = (moved_element_small place fault small.0, tt)
 moved_small place faults.Memory small = small
 moved_small place faults.TooLong small = small
@@ -121,7 +122,7 @@ fault_told (faults.BadPiggyback at) octets h = inr h
 fault_told (faults.Length a b) octets h = inr h
 fault_told (faults.FlagT n) octets h = inr h
 fault_told faults.TooLong octets h = inr h
-fault_told (faults.Missing a b c d) octets h = inr h
+fault_told (faults.Missing a b c d e) octets h = inr h
 fault_told (faults.Element a b) octets h = inr h
 
 -- a fault is the first one, or out of memory
@@ -144,7 +145,7 @@ only_memory (faults.BadPiggyback at) m h = absurd cc
 only_memory (faults.Length a b) m h = absurd cc
 only_memory (faults.FlagT n) m h = absurd cc
 only_memory faults.TooLong m h = absurd cc
-only_memory (faults.Missing a b c d) m h = absurd cc
+only_memory (faults.Missing a b c d e) m h = absurd cc
 only_memory (faults.Element a b) m h = absurd cc
 
 told_only : {X : Type 0} (view : X → DatagramValue) (r : Result X V2Fault) (m : DatagramValue) → MessageGives DatagramAllocates view r (Ok m) → IsOkAnd r (λ d. view d ≡ m) ⊎ ((r ≡ Err faults.Memory) × DatagramAllocates m)
@@ -164,7 +165,7 @@ first_fault (faults.BadPiggyback at) f h = cc
 first_fault (faults.Length a b) f h = cc
 first_fault (faults.FlagT n) f h = cc
 first_fault faults.TooLong f h = cc
-first_fault (faults.Missing a b c d) f h = cc
+first_fault (faults.Missing a b c d e) f h = cc
 first_fault (faults.Element a b) f h = cc
 
 fault_told_first : {X : Type 0} (view : X → DatagramValue) (r : Result X V2Fault) (f : V2Fault) → MessageGives DatagramAllocates view r (Err f) → r ≡ Err f
@@ -190,6 +191,6 @@ fault_is_told (faults.Version n) octets h = h
 fault_is_told (faults.BadPiggyback at) octets h = h
 fault_is_told (faults.Length stated held) octets h = h
 fault_is_told (faults.FlagT kind) octets h = h
-fault_is_told (faults.Missing kind instance conditional head) octets h = h
+fault_is_told (faults.Missing kind instance conditional group head) octets h = h
 fault_is_told (faults.Element fault head) octets h = h
 fault_is_told faults.TooLong octets h = h

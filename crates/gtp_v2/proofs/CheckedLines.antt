@@ -19,7 +19,8 @@ use Rattle.gtp_v2.specs.declared.fault.Head.{Head}
 use Rattle.gtp_v2.specs.declared.fault.Need.{Need}
 use Rattle.gtp_v2.specs.Table.{Row, Mandatory, Conditional, Accepted, Optional, Line, Single, Grouped, Several, Plain, Groups, State, start, Table, accepts, is_silent, need_of, kind_of, instance_of}
 use Rattle.gtp_v2.specs.Viewed.{value_or_none, welcome, optional_at}
-use Rattle.gtp_v2.specs.reading.Rows.{group_at, each_at, rows_at, lines_at, whole}
+use Rattle.gtp_v2.specs.Grammar.{in_group}
+use Rattle.gtp_v2.specs.reading.Rows.{fault_as, inner_at, group_at, each_at, rows_at, lines_at, whole}
 use Rattle.gtp_v2.specs.reading.Checked.{forgotten, says, row_says, rows_accept, groups_silent, groups_say, after_groups, line_says, lines_say, merged}
 use Rattle.gtp_v2.specs.declared.table.Shape.{Shape}
 use Rattle.gtp_v2.specs.reading.Lines.{line_of, is_unchecked, checked_rows, has_list, checked_lines, shape_of, shape_in}
@@ -27,7 +28,7 @@ use Rattle.gtp_v2.specs.Tables.{table_of}
 use Rattle.gtp_v2.specs.Headed.{Headed}
 use Rattle.gtp_v2.specs.Message.{Fields, head_of, with_head}
 use Rattle.gtp_v2.specs.reading.Message.{sender_of, told, list_at, fields_at, typed_at, by_table, content_at}
-use Rattle.gtp_v2.proofs.Checks.{forget_map, rows_forget, lines_forget}
+use Rattle.gtp_v2.proofs.Checks.{forgotten_as, forget_map, rows_forget, lines_forget}
 
 -- ---- what is no cause accepts
 
@@ -114,12 +115,16 @@ rows_checked (row ∷ rows) es a = by_free (is_unchecked row) refl (rows_checked
 
 -- ---- groups
 
-group_checked : (a : Bool) (rows : List Row) (e : Element) → forgotten (group_at a (checked_rows rows) e) ≡ forgotten (group_at a rows e)
-unfolding group_at
-group_checked a rows e = by_list (whole (elements_of (e.at + 4) e.body)) where
+inner_checked : (a : Bool) (rows : List Row) (e : Element) → forgotten (inner_at a (checked_rows rows) e) ≡ forgotten (inner_at a rows e)
+inner_checked a rows e = by_list (whole (elements_of (e.at + 4) e.body)) where
   by_list : (r : Result (List Element) RowFault) → forgotten (r >>= λ es. rows_at a (checked_rows rows) es) ≡ forgotten (r >>= λ es. rows_at a rows es)
   by_list (Ok es) = rows_forget a (checked_rows rows) es ∙ ap forgotten (rows_checked rows es a) ∙ sym (rows_forget a rows es)
   by_list (Err f) = refl
+
+group_checked : (a : Bool) (rows : List Row) (e : Element) → forgotten (group_at a (checked_rows rows) e) ≡ forgotten (group_at a rows e)
+unfolding group_at
+group_checked a rows e =
+    forgotten_as (in_group e.at) (inner_at a (checked_rows rows) e) ∙ ap (fault_as (in_group e.at)) (inner_checked a rows e) ∙ sym (forgotten_as (in_group e.at) (inner_at a rows e))
 
 -- whether there are none, all of which read
 abbrev silent_after : Result (List (List (List Value))) RowFault → Result Bool RowFault

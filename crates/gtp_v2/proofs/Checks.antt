@@ -18,8 +18,9 @@ use Rattle.gtp_v2.specs.Table.{Row, Line, Single, Grouped, Several, Plain, Group
 use Rattle.gtp_v2.specs.declared.table.Line.{Line as Kept}
 use Rattle.gtp_v2.specs.declared.table.Line.TheVariants as kept
 use Rattle.gtp_v2.specs.reading.Lines.{line_of}
-use Rattle.gtp_v2.specs.reading.Rows.{row_at, rows_at, group_at, groups_at, each_at, line_at, lines_at, some_groups, several_at, values_at, one_at, named, needed, needed_at, no_group, no_value}
-use Rattle.gtp_v2.specs.reading.Checked.{row_says, rows_accept, forgotten, group_passes, one_accepts, says, with_one, after_groups, after_values, line_says, lines_say, merged, groups_silent, groups_say, values_say, several_say}
+use Rattle.gtp_v2.specs.Grammar.{in_group}
+use Rattle.gtp_v2.specs.reading.Rows.{fault_as, row_at, rows_at, inner_at, group_at, groups_at, each_at, line_at, lines_at, some_groups, several_at, values_at, one_at, named, needed, needed_at, no_group, no_value}
+use Rattle.gtp_v2.specs.reading.Checked.{row_says, rows_accept, forgotten, inner_passes, group_passes, one_accepts, says, with_one, after_groups, after_values, line_says, lines_say, merged, groups_silent, groups_say, values_say, several_say}
 use Rattle.gtp_v2.proofs.Loop.{with_front, goes_on, ends, is_done, nothing_before}
 
 -- ---- rows
@@ -185,6 +186,16 @@ needed_so kind instance es ok = by_first (first_of kind instance es) ok where
 pub was_fault : {X E : Type 0} (r : Result X E) (f : E) → forgotten r ≡ Err f → r ≡ Err f
 was_fault (Ok x) f h = absurd cc
 was_fault (Err e) f h = cc
+
+-- a fault is told in the same way, whatever is kept of what reads
+pub forgotten_as : {X E : Type 0} (told : E → E) (r : Result X E) → forgotten (fault_as told r) ≡ fault_as told (forgotten r)
+forgotten_as told (Ok x) = refl
+forgotten_as told (Err f) = refl
+
+-- a group passes where its elements do, and its fault is theirs, in it
+pub group_is : (a : Bool) (rows : List Row) (e : Element) → fault_as (in_group e.at) (inner_passes a rows e) ≡ group_passes a rows e
+unfolding inner_passes group_passes group_at
+group_is a rows e = sym (forgotten_as (in_group e.at) (inner_at a rows e))
 
 -- a group
 abbrev pub none_of : List (List (List Value)) → Bool

@@ -13,11 +13,12 @@ use Rattle.gtp_v2.specs.declared.fault.RowFault.TheVariants.{Missing}
 use Rattle.gtp_v2.specs.Table.{Line, Single, Grouped, Several, Field, Groups, Table, State, need_of, Row, Mandatory, Conditional, Accepted, Optional, kind_of, instance_of, accepts}
 use Rattle.gtp_v2.specs.Message.{Content, Fields, Raw}
 use Rattle.gtp_v2.specs.Tables.{table_of}
-use Rattle.gtp_v2.specs.reading.Rows.{line_at, some_groups, row_at, rows_at, group_at, groups_at, each_at, whole, needed_at}
+use Rattle.gtp_v2.specs.Grammar.{in_group}
+use Rattle.gtp_v2.specs.reading.Rows.{fault_as, line_at, some_groups, row_at, rows_at, inner_at, group_at, groups_at, each_at, whole, needed_at}
 use Rattle.gtp_v2.specs.Viewed.{optional_at, Viewed, found_among, found_by, line_among, line_by, is_groups, rows_of, groups_of, inner_of, values_in}
 use Rattle.gtp_v2.specs.Viewed.{context_line, has_contexts, context_rows, contexts_of, always_there, always_some, always_has_context, always_among, context_always_has}
 use Rattle.gtp_v2.proofs.Views.{whole_is, both_same, needed_is, IsRead, there_by, found_is}
-use Rattle.gtp_v2.proofs.GroupValues.{some_are, groups_found}
+use Rattle.gtp_v2.proofs.GroupValues.{fault_as_ok, some_are, groups_found}
 
 -- the line that is found is the first one that is asked for
 first_among : (asked : Line → Bool) (lines : List Line) (fields : List Field) (p : Line × Field) → found_among asked lines fields ≡ Some p → line_among asked lines ≡ Some p.0
@@ -86,10 +87,10 @@ some_group : (state : State) (line : Line) (field : Field) (es : List Element) �
 unfolding some_groups
 some_group state (Grouped (Mandatory kind instance) rows) field es one always none =
     let g = bind_ok (some_groups (need_of state.accepting (Mandatory kind instance)) kind instance state.accepting rows (all_of kind instance es)) (λ groups. done RowFault (Groups groups)) field one in
-    some_needed (Missing kind instance false) (groups_at state.accepting rows (all_of kind instance es)) g.0 g.1 (ap groups_of (ok_same RowFault (Groups g.0) field g.2) ∙ none)
+    some_needed (Missing kind instance false None) (groups_at state.accepting rows (all_of kind instance es)) g.0 g.1 (ap groups_of (ok_same RowFault (Groups g.0) field g.2) ∙ none)
 some_group state (Grouped (Conditional kind instance) rows) field es one always none =
     let g = bind_ok (some_groups (need_of state.accepting (Conditional kind instance)) kind instance state.accepting rows (all_of kind instance es)) (λ groups. done RowFault (Groups groups)) field one in
-    some_needed (Missing kind instance true) (groups_at state.accepting rows (all_of kind instance es)) g.0 g.1 (ap groups_of (ok_same RowFault (Groups g.0) field g.2) ∙ none)
+    some_needed (Missing kind instance true None) (groups_at state.accepting rows (all_of kind instance es)) g.0 g.1 (ap groups_of (ok_same RowFault (Groups g.0) field g.2) ∙ none)
 some_group state (Grouped (Accepted kind instance) rows) field es one always none = absurd cc
 some_group state (Grouped (Optional kind instance) rows) field es one always none = absurd cc
 some_group state (Single row) field es one always none = absurd cc
@@ -136,7 +137,7 @@ groups_there accepting kind instance rows [] groups h always = All-nil (IsThere 
 groups_there accepting kind instance rows (e ∷ es) groups h always =
     let b = bind_ok (group_at accepting rows e) (λ first. each_at (group_at accepting rows) es >>= λ others. done RowFault (first ∷ others)) groups h in
     let d = bind_ok (each_at (group_at accepting rows) es) (λ others. done RowFault (b.0 ∷ others)) groups b.2 in
-    let g = bind_ok (whole (elements_of (e.at + 4) e.body)) (λ es. rows_at accepting rows es) b.0 b.1 in
+    let g = bind_ok (whole (elements_of (e.at + 4) e.body)) (λ es. rows_at accepting rows es) b.0 (fault_as_ok (in_group e.at) (inner_at accepting rows e) b.0 b.1) in
     All-cons (IsThere kind instance) (inner_of e) (map inner_of es)
     (ap (λ (xs : List Element). is_some (optional_at kind instance xs)) (whole_is (elements_of (e.at + 4) e.body) g.0 g.1) ∙ rows_there accepting kind instance rows g.0 b.0 g.2 always)
     (groups_there accepting kind instance rows es d.0 d.1 always)

@@ -21,9 +21,9 @@ use Rattle.gtp_values.proofs.Decided.{decide_bind, decide_map, decide_cons, deci
 use Rattle.gtp_v2.specs.declared.fault.RowFault.{RowFault}
 use Rattle.gtp_v2.specs.declared.fault.RowFault.TheVariants as faults
 use Rattle.gtp_v2.specs.Table.{Row, Mandatory, Conditional, Accepted, Optional, Line, Single, Grouped, Several, Plain, Groups, State, accepts, need_of, kind_of, instance_of, after}
-use Rattle.gtp_v2.specs.reading.Rows.{named, needed, needed_at, needed_if_at, row_at, rows_at, whole, one_at, each_at, values_at, group_at, groups_at, no_group, some_groups, no_value, several_at, line_at, lines_at}
+use Rattle.gtp_v2.specs.reading.Rows.{named, fault_as, needed, needed_at, needed_if_at, row_at, rows_at, whole, one_at, each_at, values_at, inner_at, group_at, groups_at, no_group, some_groups, no_value, several_at, line_at, lines_at}
 use Rattle.gtp_v2.specs.Viewed.{welcome, value_or_none, optional_at}
-use Rattle.gtp_v2.specs.Grammar.{Says, SaysNothing, One, AtMostOne, NeededFails, absent, short, bad, RowIs, RowFails, RowsAre, RowsFail, IsCutShort, GroupIs, GroupFails, EachIs, SomeFails, GroupsAre, GroupsFail, OneIs, OneFails, short_one, bad_one, SeveralAre, SeveralFail, IsEnough, NoGroup, SomeGroups, SomeGroupsFail, LineIs, LineFails, LinesAre, LinesFail}
+use Rattle.gtp_v2.specs.Grammar.{Says, SaysNothing, One, AtMostOne, NeededFails, absent, short, bad, RowIs, RowFails, RowsAre, RowsFail, IsCutShort, GroupIs, in_group, InnerFails, GroupFails, EachIs, SomeFails, GroupsAre, GroupsFail, OneIs, OneFails, short_one, bad_one, SeveralAre, SeveralFail, IsEnough, NoGroup, SomeGroups, SomeGroupsFail, LineIs, LineFails, LinesAre, LinesFail}
 
 abbrev free_at : ℕ → ℕ → List Element → Result (List Value) RowFault
 free_at kind instance es = Ok (option_to_list (optional_at kind instance es))
@@ -45,7 +45,7 @@ needed_decided conditional kind instance es = by_first (first_of kind instance e
   by_reading e h (Err Bad) s = known_err (faults.Element (BadValue kind instance e.at)) (Says kind instance es) (NeededFails conditional kind instance es) (bad e h ((value_decided kind e.body).err Bad s) refl) (λ x p. let q = (value_decided kind p.0.body).is x p.2 in cc) (λ f q. elim q [ absent a b ↦ cc | short d a b c ↦ let q = (value_decided kind d.body).fails Short b in cc | bad d a b c ↦ let q = (value_decided kind d.body).fails Bad b in cc ])
 
   by_first : (o : Option Element) → first_of kind instance es ≡ o → Decides (needed conditional kind instance o) (Says kind instance es) (NeededFails conditional kind instance es)
-  by_first None h = known_err (faults.Missing kind instance conditional) (Says kind instance es) (NeededFails conditional kind instance es) (absent h refl) (λ x p. cc) (λ f q. elim q [ absent a b ↦ cc | short d a b c ↦ cc | bad d a b c ↦ cc ])
+  by_first None h = known_err (faults.Missing kind instance conditional None) (Says kind instance es) (NeededFails conditional kind instance es) (absent h refl) (λ x p. cc) (λ f q. elim q [ absent a b ↦ cc | short d a b c ↦ cc | bad d a b c ↦ cc ])
   by_first (Some e) h = by_reading e h (value_at kind e.body) refl
 
 -- a needed row, its value alone in a list
@@ -100,11 +100,20 @@ whole_decided at octets = by_walk (elements_of at octets) (elements_decided at o
   by_walk (Ok es) d = known_ok es (AreElements at octets) (IsCutShort at octets) (d.ok es refl) (λ all h. sym (ok_same ℕ es all (d.is all h))) (λ f h. apart es h.0 (d.fails h.0 h.1))
   by_walk (Err p) d = known_err (faults.Element (Truncated p)) (AreElements at octets) (IsCutShort at octets) (p, d.err p refl, refl) (λ all h. apart all p (sym (d.is all h))) (λ f h. h.2 ∙ ap (λ (n : ℕ). faults.Element (Truncated n)) (sym (err_same (List Element) p h.0 (d.fails h.0 h.1))))
 
+-- a fault that is told in another way
+pub fault_as_decided : {X E : Type 0} (told : E → E) (r : Result X E) (P : X → Type 0) (F : E → Type 0) → Decides r P F → Decides (fault_as told r) P (λ f. (g : E) × F g × (f ≡ told g))
+fault_as_decided {E = E} told (Ok x) P F d = known_ok x P (λ f. (g : E) × F g × (f ≡ told g)) (d.ok x refl) (λ y p. sym (ok_same E x y (d.is y p))) (λ f q. apart x q.0 (d.fails q.0 q.1))
+fault_as_decided {X = X} {E = E} told (Err e) P F d = known_err (told e) P (λ f. (g : E) × F g × (f ≡ told g)) (e, d.err e refl, refl) (λ y p. apart y e (sym (d.is y p))) (λ f q. q.2 ∙ ap told (sym (err_same X e q.0 (d.fails q.0 q.1))))
+
+inner_decided : (accepting : Bool) (rows : List Row) (e : Element) → Decides (inner_at accepting rows e) (GroupIs accepting rows e) (InnerFails accepting rows e)
+inner_decided accepting rows e =
+    decide_bind (whole (elements_of (e.at + 4) e.body)) (λ es. rows_at accepting rows es) (AreElements (e.at + 4) e.body) (IsCutShort (e.at + 4) e.body) (λ es. RowsAre accepting rows es) (λ es. RowsFail accepting rows es)
+    (whole_decided (e.at + 4) e.body) (λ es. rows_decided accepting rows es)
+
 group_decided : (accepting : Bool) (rows : List Row) (e : Element) → Decides (group_at accepting rows e) (GroupIs accepting rows e) (GroupFails accepting rows e)
 unfolding group_at
 group_decided accepting rows e =
-    decide_bind (whole (elements_of (e.at + 4) e.body)) (λ es. rows_at accepting rows es) (AreElements (e.at + 4) e.body) (IsCutShort (e.at + 4) e.body) (λ es. RowsAre accepting rows es) (λ es. RowsFail accepting rows es)
-    (whole_decided (e.at + 4) e.body) (λ es. rows_decided accepting rows es)
+    fault_as_decided (in_group e.at) (inner_at accepting rows e) (GroupIs accepting rows e) (InnerFails accepting rows e) (inner_decided accepting rows e)
 
 -- each element in order
 pub each_decided : {X : Type 0} (read : Element → Result X RowFault) (Is : Element → X → Type 0) (Fails : Element → RowFault → Type 0) → ((e : Element) → Decides (read e) (Is e) (Fails e))
@@ -133,8 +142,8 @@ some_enough need kind instance groups some is_enough none =
 
 enough_decided : (need : Need) (kind instance : ℕ) (groups : List (List (List Value))) → Decides (enough need kind instance groups) (λ all. (all ≡ groups) × IsEnough need groups) (NoGroup need kind instance groups)
 enough_decided needs.Optional kind instance [] = known_ok [] (λ all. (all ≡ []) × Unit {0}) (λ f. ⊥) (refl, tt) (λ all h. h.0) (λ f h. h)
-enough_decided needs.Mandatory kind instance [] = known_err (faults.Missing kind instance false) (λ all. (all ≡ []) × (0 < 0)) (λ f. ([] ≡ []) × (f ≡ faults.Missing kind instance false)) (refl, refl) (λ all h. omega (arith, h.1)) (λ f h. h.1)
-enough_decided needs.Conditional kind instance [] = known_err (faults.Missing kind instance true) (λ all. (all ≡ []) × (0 < 0)) (λ f. ([] ≡ []) × (f ≡ faults.Missing kind instance true)) (refl, refl) (λ all h. omega (arith, h.1)) (λ f h. h.1)
+enough_decided needs.Mandatory kind instance [] = known_err (faults.Missing kind instance false None) (λ all. (all ≡ []) × (0 < 0)) (λ f. ([] ≡ []) × (f ≡ faults.Missing kind instance false None)) (refl, refl) (λ all h. omega (arith, h.1)) (λ f h. h.1)
+enough_decided needs.Conditional kind instance [] = known_err (faults.Missing kind instance true None) (λ all. (all ≡ []) × (0 < 0)) (λ f. ([] ≡ []) × (f ≡ faults.Missing kind instance true None)) (refl, refl) (λ all h. omega (arith, h.1)) (λ f h. h.1)
 enough_decided needs.Optional kind instance (g ∷ gs) = some_enough needs.Optional kind instance (g ∷ gs) (omega arith) tt (λ f h. h)
 enough_decided needs.Mandatory kind instance (g ∷ gs) = some_enough needs.Mandatory kind instance (g ∷ gs) (omega arith) (omega arith) (λ f h. omega (arith, ap length h.0))
 enough_decided needs.Conditional kind instance (g ∷ gs) = some_enough needs.Conditional kind instance (g ∷ gs) (omega arith) (omega arith) (λ f h. omega (arith, ap length h.0))
@@ -163,10 +172,10 @@ abbrev enough_values : Bool → ℕ → ℕ → List Value → Result (List Valu
 enough_values needed kind missed values = cond (eqb (length values) 0) (no_value needed kind missed) (Ok values)
 
 abbrev NoValue : Bool → ℕ → ℕ → List Value → RowFault → Type 0
-NoValue needed kind missed values f = (values ≡ []) × (needed ≡ true) × (f ≡ faults.Missing kind missed true)
+NoValue needed kind missed values f = (values ≡ []) × (needed ≡ true) × (f ≡ faults.Missing kind missed true None)
 
 values_enough : (needed : Bool) (kind missed : ℕ) (values : List Value) → Decides (enough_values needed kind missed values) (λ all. (all ≡ values) × (needed ≡ true → 0 < length all)) (NoValue needed kind missed values)
-values_enough true kind missed [] = known_err (faults.Missing kind missed true) (λ all. (all ≡ []) × (true ≡ true → 0 < length all)) (NoValue true kind missed []) (refl, refl, refl) (λ all h. let some = h.1 refl in omega (arith, some, ap length h.0)) (λ f h. h.2)
+values_enough true kind missed [] = known_err (faults.Missing kind missed true None) (λ all. (all ≡ []) × (true ≡ true → 0 < length all)) (NoValue true kind missed []) (refl, refl, refl) (λ all h. let some = h.1 refl in omega (arith, some, ap length h.0)) (λ f h. h.2)
 values_enough false kind missed [] = known_ok [] (λ all. (all ≡ []) × (false ≡ true → 0 < length all)) (NoValue false kind missed []) (refl, λ h. absurd cc) (λ all h. h.0) (λ f h. let t = h.1 in cc)
 values_enough needed kind missed (v ∷ vs) =
     let e : enough_values needed kind missed (v ∷ vs) ≡ Ok (v ∷ vs) = ap (λ b. cond b (no_value needed kind missed) (Ok (v ∷ vs))) (some_left (length (v ∷ vs)) (omega arith)) in

@@ -11,7 +11,8 @@ use Rattle.gtp_v2.specs.declared.fault.Need.{Need}
 use Rattle.gtp_v2.specs.declared.fault.Need.TheVariants as needs
 use Rattle.gtp_v2.specs.Tables.{table_of}
 use Rattle.gtp_v2.specs.Table.{Line, Single, Grouped, Several, Field, Groups, State, need_of, Row, Mandatory, Conditional, Accepted, Optional, kind_of, instance_of, accepts}
-use Rattle.gtp_v2.specs.reading.Rows.{line_at, some_groups, no_group, row_at, rows_at, group_at, groups_at, each_at, whole, needed_at, needed_if_at}
+use Rattle.gtp_v2.specs.Grammar.{in_group}
+use Rattle.gtp_v2.specs.reading.Rows.{fault_as, line_at, some_groups, no_group, row_at, rows_at, inner_at, group_at, groups_at, each_at, whole, needed_at, needed_if_at}
 use Rattle.gtp_v2.specs.Viewed.{optional_at, Viewed, found_by, is_groups, rows_of, groups_of, in_groups, inner_of, values_in, front_value}
 use Rattle.gtp_v2.proofs.Views.{whole_is, row_is, both_same, IsRead, made_of, found_is}
 
@@ -41,10 +42,15 @@ rows_values accepting (row ∷ rows) es all h =
     let value : option_to_list (optional_at (kind_of row) (instance_of row) es) ≡ b.0 = ap option_to_list (row_is accepting row es b.0 b.1) ∙ at_most_one accepting row es b.0 b.1 in
     sym (ok_same RowFault (b.0 ∷ d.0) all d.2) ∙ ap (λ vs. vs ∷ d.0) (sym value) ∙ ap (λ others. option_to_list (optional_at (kind_of row) (instance_of row) es) ∷ others) (rows_values (accepting && accepts b.0) rows es d.0 d.1)
 
+-- what reads does, however a fault is told
+pub fault_as_ok : {X E : Type 0} (told : E → E) (r : Result X E) (x : X) → fault_as told r ≡ Ok x → r ≡ Ok x
+fault_as_ok told (Ok y) x h = h
+fault_as_ok told (Err f) x h = absurd cc
+
 group_values : (accepting : Bool) (rows : List Row) (e : Element) (all : List (List Value)) → group_at accepting rows e ≡ Ok all → all ≡ values_in rows (inner_of e)
 unfolding group_at
 group_values accepting rows e all h =
-    let b = bind_ok (whole (elements_of (e.at + 4) e.body)) (λ es. rows_at accepting rows es) all h in
+    let b = bind_ok (whole (elements_of (e.at + 4) e.body)) (λ es. rows_at accepting rows es) all (fault_as_ok (in_group e.at) (inner_at accepting rows e) all h) in
     rows_values accepting rows b.0 all b.2 ∙ ap (values_in rows) (sym (whole_is (elements_of (e.at + 4) e.body) b.0 b.1))
 
 -- what groups have is what their elements say, in order

@@ -10,7 +10,7 @@ use Rattle.gtp_v2.specs.declared.fault.Head.{Head}
 use Rattle.gtp_ie.specs.Value.{Value}
 use Rattle.gtp_v2.specs.Table.{Row, Mandatory, Conditional, Accepted, Optional, Line, Single, Grouped, Several, State, start, Table, accepts, after, need_of, kind_of, instance_of}
 use Rattle.gtp_v2.specs.Apart.{all_small, are_apart, fits, all_fit}
-use Rattle.gtp_v2.specs.Grammar.{NeededFails, absent, short, bad, RowFails, RowsFail, GroupFails, SomeFails, OneFails, short_one, bad_one, NoGroup, LineFails, LinesFail}
+use Rattle.gtp_v2.specs.Grammar.{NeededFails, absent, short, bad, RowFails, RowsFail, in_group, InnerFails, GroupFails, SomeFails, OneFails, short_one, bad_one, NoGroup, LineFails, LinesFail}
 use Rattle.gtp_v2.specs.Headed.{Headed}
 use Rattle.gtp_v2.specs.Header.{HeaderFails}
 use Rattle.gtp_v2.specs.Message.{with_head}
@@ -42,11 +42,18 @@ rows_small accepting (row ∷ rows) es f all fails =
       | inr later ↦ rows_small (accepting && accepts later.0) rows es f small.right later.2
     ]
 
-group_small : (accepting : Bool) (rows : List Row) (e : Element) (f : RowFault) → all_small rows ≡ true → GroupFails accepting rows e f → RowInstanceIsSmall f
-group_small accepting rows e f all fails = elim fails [
+inner_small : (accepting : Bool) (rows : List Row) (e : Element) (f : RowFault) → all_small rows ≡ true → InnerFails accepting rows e f → RowInstanceIsSmall f
+inner_small accepting rows e f all fails = elim fails [
   | inl cut ↦ subst RowInstanceIsSmall (sym cut.2) tt
   | inr later ↦ rows_small accepting rows later.0 f all later.2
 ]
+
+told_small : (at : ℕ) (f : RowFault) → RowInstanceIsSmall f → RowInstanceIsSmall (in_group at f)
+told_small at (row_faults.Missing kind instance conditional group) small = small
+told_small at (row_faults.Element fault) small = small
+
+group_small : (accepting : Bool) (rows : List Row) (e : Element) (f : RowFault) → all_small rows ≡ true → GroupFails accepting rows e f → RowInstanceIsSmall f
+group_small accepting rows e f all fails = subst RowInstanceIsSmall (sym fails.2) (told_small e.at fails.0 (inner_small accepting rows e fails.0 all fails.1))
 
 some_small : {X : Type 0} (Is : Element → X → Type 0) (Fails : Element → RowFault → Type 0) (es : List Element) (f : RowFault) → ((e : Element) → Fails e f → RowInstanceIsSmall f) → SomeFails Is Fails es f → RowInstanceIsSmall f
 some_small Is Fails [] f each fails = absurd fails
@@ -91,7 +98,7 @@ abbrev IsSmall : V2Fault → Type 0
 IsSmall f = InstanceIsSmall f × IsOfOctets f
 
 with_head_small : (head : Head) (f : RowFault) → RowInstanceIsSmall f → IsSmall (with_head head f)
-with_head_small head (row_faults.Missing kind instance conditional) small = (small, tt)
+with_head_small head (row_faults.Missing kind instance conditional group) small = (small, tt)
 with_head_small head (row_faults.Element fault) small = (small, tt)
 
 body_small : (table : Option Table) (h : Headed) (f : V2Fault) → ((t : Table) → table ≡ Some t → all_fit t.lines ≡ true) → FailsBy table h f → IsSmall f

@@ -17,13 +17,10 @@ use Rattle.gtp_v2.specs.reading.Headed.{header_at}
 use Rattle.gtp_v2.specs.reading.Message.{content_at, message_at}
 use Rattle.gtp_v2.specs.reading.Pair.{placed, second_at, pair_at, announced_at, alone_at, datagram_at}
 use Rattle.gtp_v2.proofs.Headers.{at_second}
+use Rattle.gtp_v2.proofs.Decided.{fault_as_decided}
 use Rattle.gtp_v2.proofs.Told.{message_decided}
 
 -- ---- the second message
-
-placed_decided : {X : Type 0} (place : ℕ) (r : Result X V2Fault) (P : X → Type 0) (F : V2Fault → Type 0) → Decides r P F → Decides (placed place r) P (λ f. (g : V2Fault) × F g × (f ≡ moved place g))
-placed_decided place (Ok x) P F d = known_ok x P (λ f. (g : V2Fault) × F g × (f ≡ moved place g)) (d.ok x refl) (λ y p. sym (ok_same V2Fault x y (d.is y p))) (λ f q. apart x q.0 (d.fails q.0 q.1))
-placed_decided {X = X} place (Err e) P F d = known_err (moved place e) P (λ f. (g : V2Fault) × F g × (f ≡ moved place g)) (e, d.err e refl, refl) (λ y p. apart y e (sym (d.is y p))) (λ f q. q.2 ∙ ap (moved place) (sym (err_same X e q.0 (d.fails q.0 q.1))))
 
 no_octets : (m : MessageValue) → IsMessage [] m → ⊥
 unfolding message_at
@@ -37,7 +34,7 @@ second_decided place [] = known_err (faults.BadPiggyback place) (IsMessage []) (
   only f (inr p) = absurd (omega (arith, p.0))
 second_decided place (x ∷ xs) =
     decide_as (placed place (message_at (x ∷ xs))) (IsMessage (x ∷ xs)) (IsMessage (x ∷ xs)) (λ f. (g : V2Fault) × IsFault (x ∷ xs) g × (f ≡ moved place g)) (SecondFails place (x ∷ xs))
-    (λ m p. p) (λ m p. p) (λ f q. inr (omega arith, q)) some (placed_decided place (message_at (x ∷ xs)) (IsMessage (x ∷ xs)) (IsFault (x ∷ xs)) (message_decided (x ∷ xs)))
+    (λ m p. p) (λ m p. p) (λ f q. inr (omega arith, q)) some (fault_as_decided (moved place) (message_at (x ∷ xs)) (IsMessage (x ∷ xs)) (IsFault (x ∷ xs)) (message_decided (x ∷ xs)))
   where
     some : (f : V2Fault) → SecondFails place (x ∷ xs) f → (g : V2Fault) × IsFault (x ∷ xs) g × (f ≡ moved place g)
     some f (inl p) = absurd (omega (arith, ap length p.0))

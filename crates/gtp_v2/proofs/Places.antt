@@ -13,7 +13,7 @@ use Rattle.gtp_v2.specs.declared.fault.Need.TheVariants as needs
 use Rattle.gtp_v2.specs.declared.fault.V2Fault.{V2Fault}
 use Rattle.gtp_v2.specs.declared.fault.Head.{Head}
 use Rattle.gtp_v2.specs.Table.{Row, Mandatory, Conditional, Accepted, Optional, Line, Single, Grouped, Several, State, start, Table, accepts, after, need_of, kind_of, instance_of}
-use Rattle.gtp_v2.specs.Grammar.{NeededFails, absent, short, bad, RowFails, RowsFail, GroupFails, SomeFails, OneFails, short_one, bad_one, NoGroup, LineFails, LinesFail}
+use Rattle.gtp_v2.specs.Grammar.{NeededFails, absent, short, bad, RowFails, RowsFail, in_group, InnerFails, GroupFails, SomeFails, OneFails, short_one, bad_one, NoGroup, LineFails, LinesFail}
 use Rattle.gtp_v2.specs.Headed.{Headed}
 use Rattle.gtp_v2.specs.Header.{HeaderFails}
 use Rattle.gtp_v2.specs.Message.{with_head, MessageValue}
@@ -32,7 +32,8 @@ AllEnd limit (e ∷ es) = (e.at + 4 + length e.body ≤ limit) × AllEnd limit e
 
 -- the fault of a row tells a place up to there
 abbrev IsWithin : ℕ → RowFault → Type 0
-IsWithin limit (row_faults.Missing kind instance conditional) = Unit {0}
+IsWithin limit (row_faults.Missing kind instance conditional None) = Unit {0}
+IsWithin limit (row_faults.Missing kind instance conditional (Some at)) = at ≤ limit
 IsWithin limit (row_faults.Element fault) = place_of_element fault ≤ limit
 
 -- elements one after the other
@@ -90,11 +91,18 @@ rows_within accepting (row ∷ rows) limit es f all fails = elim fails [
   | inr later ↦ rows_within (accepting && accepts later.0) rows limit es f all later.2
 ]
 
-group_within : (accepting : Bool) (rows : List Row) (limit : ℕ) (e : Element) (f : RowFault) → e.at + 4 + length e.body ≤ limit → GroupFails accepting rows e f → IsWithin limit f
-group_within accepting rows limit e f end fails = elim fails [
+inner_within : (accepting : Bool) (rows : List Row) (limit : ℕ) (e : Element) (f : RowFault) → e.at + 4 + length e.body ≤ limit → InnerFails accepting rows e f → IsWithin limit f
+inner_within accepting rows limit e f end fails = elim fails [
   | inl cut ↦ subst (IsWithin limit) (sym cut.2) (cut_end (e.at + 4) e.body cut.0 limit end cut.1)
   | inr later ↦ rows_within accepting rows limit later.0 f (elements_end (e.at + 4) e.body later.0 limit end later.1) later.2
 ]
+
+told_within : (limit at : ℕ) (f : RowFault) → at ≤ limit → IsWithin limit f → IsWithin limit (in_group at f)
+told_within limit at (row_faults.Missing kind instance conditional group) le within = le
+told_within limit at (row_faults.Element fault) le within = within
+
+group_within : (accepting : Bool) (rows : List Row) (limit : ℕ) (e : Element) (f : RowFault) → e.at + 4 + length e.body ≤ limit → GroupFails accepting rows e f → IsWithin limit f
+group_within accepting rows limit e f end fails = subst (IsWithin limit) (sym fails.2) (told_within limit e.at fails.0 (omega (arith, end)) (inner_within accepting rows limit e fails.0 end fails.1))
 
 some_within : {X : Type 0} (Is : Element → X → Type 0) (Fails : Element → RowFault → Type 0) (limit : ℕ) (es : List Element) (f : RowFault) → ((e : Element) → e.at + 4 + length e.body ≤ limit → Fails e f → IsWithin limit f) → AllEnd limit es → SomeFails Is Fails es f → IsWithin limit f
 some_within Is Fails limit [] f each all fails = absurd fails
@@ -132,7 +140,8 @@ abbrev IsUpTo : ℕ → V2Fault → Type 0
 IsUpTo limit f = place_of_fault f ≤ limit
 
 headed_up_to : (head : Head) (limit : ℕ) (f : RowFault) → IsWithin limit f → IsUpTo limit (with_head head f)
-headed_up_to head limit (row_faults.Missing kind instance conditional) within = omega arith
+headed_up_to head limit (row_faults.Missing kind instance conditional None) within = omega arith
+headed_up_to head limit (row_faults.Missing kind instance conditional (Some at)) within = within
 headed_up_to head limit (row_faults.Element fault) within = within
 
 body_up_to : (table : Option Table) (h : Headed) (limit : ℕ) (f : V2Fault) → h.at + length h.rest ≤ limit → FailsBy table h f → IsUpTo limit f

@@ -32,7 +32,7 @@ AtMostOne kind instance es (v ∷ w ∷ values) = ⊥
 
 -- how a row that is needed fails: it has no element, or its first one is too short or spells nothing
 pub data NeededFails (conditional : Bool) (kind instance : ℕ) (es : List Element) (f : RowFault) : Type 0 where
-  absent : first_of kind instance es ≡ None → f ≡ faults.Missing kind instance conditional → NeededFails conditional kind instance es f
+  absent : first_of kind instance es ≡ None → f ≡ faults.Missing kind instance conditional None → NeededFails conditional kind instance es f
   short : (e : Element) → first_of kind instance es ≡ Some e → IsShort kind e.body → f ≡ faults.Element (ShortValue kind instance e.at) → NeededFails conditional kind instance es f
   bad : (e : Element) → first_of kind instance es ≡ Some e → IsBad kind e.body → f ≡ faults.Element (BadValue kind instance e.at) → NeededFails conditional kind instance es f
 
@@ -70,8 +70,17 @@ IsCutShort at octets f = (place : ℕ) × IsCut at octets place × (f ≡ faults
 abbrev pub GroupIs : Bool → List Row → Element → List (List Value) → Type 0
 GroupIs accepting rows e all = (es : List Element) × AreElements (e.at + 4) e.body es × RowsAre accepting rows es all
 
+-- a fault of a row of the group that begins at a place: what is missing is missing there
+abbrev pub in_group : ℕ → RowFault → RowFault
+in_group at (faults.Missing kind instance conditional group) = faults.Missing kind instance conditional (Some at)
+in_group at (faults.Element fault) = faults.Element fault
+
+-- how the elements or the rows of a group fail
+abbrev pub InnerFails : Bool → List Row → Element → RowFault → Type 0
+InnerFails accepting rows e = First_or_later (AreElements (e.at + 4) e.body) (IsCutShort (e.at + 4) e.body) (λ es. RowsFail accepting rows es)
+
 abbrev pub GroupFails : Bool → List Row → Element → RowFault → Type 0
-GroupFails accepting rows e = First_or_later (AreElements (e.at + 4) e.body) (IsCutShort (e.at + 4) e.body) (λ es. RowsFail accepting rows es)
+GroupFails accepting rows e f = (g : RowFault) × InnerFails accepting rows e g × (f ≡ in_group e.at g)
 
 -- each element is one of some things, in order
 abbrev pub EachIs : {X : Type 0} → (Element → X → Type 0) → List Element → List X → Type 0
@@ -107,8 +116,8 @@ IsEnough needs.Conditional row = 0 < length row
 -- there is no group, and that is a fault
 abbrev pub NoGroup : Need → ℕ → ℕ → List (List (List Value)) → RowFault → Type 0
 NoGroup needs.Optional kind instance groups f = ⊥
-NoGroup needs.Mandatory kind instance groups f = (groups ≡ []) × (f ≡ faults.Missing kind instance false)
-NoGroup needs.Conditional kind instance groups f = (groups ≡ []) × (f ≡ faults.Missing kind instance true)
+NoGroup needs.Mandatory kind instance groups f = (groups ≡ []) × (f ≡ faults.Missing kind instance false None)
+NoGroup needs.Conditional kind instance groups f = (groups ≡ []) × (f ≡ faults.Missing kind instance true None)
 
 -- the groups of a row
 abbrev pub SomeGroups : Need → ℕ → ℕ → Bool → List Row → List Element → List (List (List Value)) → Type 0
@@ -125,7 +134,7 @@ SeveralAre needed kind instance es values = EachIs (OneIs kind) (all_of kind ins
 abbrev pub SeveralFail : Bool → ℕ → ℕ → ℕ → List Element → RowFault → Type 0
 SeveralFail needed kind instance missed es =
     First_or_later (EachIs (OneIs kind) (all_of kind instance es)) (SomeFails (OneIs kind) (OneFails kind instance) (all_of kind instance es))
-    (λ values f. (values ≡ []) × (needed ≡ true) × (f ≡ faults.Missing kind missed true))
+    (λ values f. (values ≡ []) × (needed ≡ true) × (f ≡ faults.Missing kind missed true None))
 
 -- the values of a line, by what the lines before it say
 abbrev pub LineIs : State → Line → List Element → Field → Type 0

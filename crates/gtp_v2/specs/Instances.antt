@@ -13,7 +13,7 @@ ElementInstanceIsSmall fault = Unit {0}
 
 -- an instance that the fault of a datagram names is below 16
 abbrev pub InstanceIsSmall : V2Fault → Type 0
-InstanceIsSmall (faults.Missing kind instance conditional head) = instance < 16
+InstanceIsSmall (faults.Missing kind instance conditional group head) = instance < 16
 InstanceIsSmall (faults.Element fault head) = ElementInstanceIsSmall fault
 InstanceIsSmall fault = Unit {0}
 

@@ -16,7 +16,7 @@ head_of h sender = record { kind = h.kind; teid = h.teid; seq = h.seq; priority 
 
 -- a fault in a row, told with the head
 abbrev pub with_head : Head → RowFault → V2Fault
-with_head head (row_faults.Missing kind instance conditional) = faults.Missing kind instance conditional head
+with_head head (row_faults.Missing kind instance conditional group) = faults.Missing kind instance conditional group head
 with_head head (row_faults.Element fault) = faults.Element fault head
 
 -- what a message carries: the fields of its table's lines, or octets

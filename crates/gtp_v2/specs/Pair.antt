@@ -73,6 +73,7 @@ element_moved place fault = fault
 -- the fault of a message, its place counted from so many octets earlier
 abbrev pub moved : ℕ → V2Fault → V2Fault
 moved place (faults.BadPiggyback at) = faults.BadPiggyback (place + at)
+moved place (faults.Missing kind instance conditional (Some at) head) = faults.Missing kind instance conditional (Some (place + at)) head
 moved place (faults.Element fault head) = faults.Element (element_moved place fault) head
 moved place fault = fault
 

@@ -9,7 +9,7 @@ ghost use Rattle.gtp_ie.specs.declared.form.Form.TheVariants as forms;
 ghost use Rattle.gtp_v2.specs.reading.Lines.{line_of};
 ghost use Rattle.gtp_v2.specs.Table.{start};
 ghost use Rattle.gtp_v2.specs.reading.Rows.{named, lines_at};
-ghost use Rattle.gtp_v2.specs.reading.Checked.{value_accepts, value_reads, one_accepts, needed_accepts as needed_accepts_of, optional_accepts as optional_accepts_of, row_says, rows_accept, forgotten, group_passes, groups_silent, groups_say, values_say, with_one, several_say, line_says, lines_say};
+ghost use Rattle.gtp_v2.specs.reading.Checked.{value_accepts, value_reads, one_accepts, needed_accepts as needed_accepts_of, optional_accepts as optional_accepts_of, row_says, rows_accept, forgotten, inner_passes, group_passes, groups_silent, groups_say, values_say, with_one, several_say, line_says, lines_say};
 
 use crate::fault::{Need, RowFault};
 use crate::table::{Line, Row, State};
@@ -110,6 +110,7 @@ fn needed_accepts(
             kind,
             instance,
             conditional,
+            group: None,
         });
     };
     accepts_one(kind, instance, &view)
@@ -165,14 +166,25 @@ fn check_rows(accepting: bool, rows: &[Row], elements: &Indexed) -> Result<bool,
     Ok(so_far)
 }
 
-/// That the rows of a group read.
-#[tactic(auto, using(crate::proofs::Checks::rows_forget), unfolding(crate::specs::reading::Checked::group_passes, crate::specs::reading::Rows::group_at))]
-fn check_group(accepting: bool, rows: &[Row], view: &ElementView) -> Result<(), RowFault>
-    ensures { Gives (λ u. u) result (group_passes accepting rows.now (element_of view.now)) }
+/// That the elements of a group read by these rows.
+#[tactic(auto, using(crate::proofs::Checks::rows_forget), unfolding(crate::specs::reading::Checked::inner_passes))]
+fn check_inner(accepting: bool, rows: &[Row], view: &ElementView) -> Result<(), RowFault>
+    ensures { Gives (λ u. u) result (inner_passes accepting rows.now (element_of view.now)) }
 {
     let elements = view.indexed().map_err(RowFault::Element)?;
     check_rows(accepting, rows, &elements)?;
     Ok(())
+}
+
+/// That the rows of a group read.
+#[tactic(auto, using(crate::proofs::Checks::group_is))]
+fn check_group(accepting: bool, rows: &[Row], view: &ElementView) -> Result<(), RowFault>
+    ensures { Gives (λ u. u) result (group_passes accepting rows.now (element_of view.now)) }
+{
+    match check_inner(accepting, rows, view) {
+        Ok(()) => Ok(()),
+        Err(fault) => Err(fault.in_group(view.at)),
+    }
 }
 
 /// Whether there is no group of a type and instance; each that there is has to read.
@@ -223,6 +235,7 @@ fn check_groups(
             kind,
             instance,
             conditional,
+            group: None,
         });
     }
     Ok(State {
@@ -277,6 +290,7 @@ fn check_several(
             kind,
             instance: missed,
             conditional: true,
+            group: None,
         });
     }
     Ok(said)

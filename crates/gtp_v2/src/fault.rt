@@ -5,6 +5,7 @@ ghost use Rattle.gtp_v2.specs.Pair.{element_moved, moved};
 ghost use Rattle.gtp_v2.specs.reading.Places.{place_of_element, place_of_fault};
 ghost use Rattle.gtp_v2.specs.Codes.{number_of};
 ghost use Rattle.gtp_v2.specs.Needs.{need_where};
+ghost use Rattle.gtp_v2.specs.Grammar.{in_group};
 ghost use Rattle.gtp_v2.specs.declared.fault.V2Fault.TheVariants as faults;
 
 use gtp_ie::IeFault;
@@ -15,12 +16,36 @@ use thiserror::Error;
 /// Why a row of a message's table has no value.
 #[derive(Debug, Drop)]
 pub enum RowFault {
+    /// Of a row of a group, `group` is the place of the group.
     Missing {
         kind: u8,
         instance: u8,
         conditional: bool,
+        group: Option<usize>,
     },
     Element(IeFault),
+}
+
+impl RowFault {
+    /// Of a row of the group that begins at a place.
+    pub fn in_group(self, at: usize) -> RowFault
+        ensures { result ≡ in_group at self }
+    {
+        match self {
+            RowFault::Missing {
+                kind,
+                instance,
+                conditional,
+                ..
+            } => RowFault::Missing {
+                kind,
+                instance,
+                conditional,
+                group: Some(at),
+            },
+            RowFault::Element(fault) => RowFault::Element(fault),
+        }
+    }
 }
 
 /// Whether a row must have an element, and which fault it is where there is none.
@@ -63,7 +88,8 @@ pub struct Head {
 
 /// Why a datagram does not read: the first check that fails, or out of memory (TS 29.274 7.7.2 to
 /// 7.7.8). `held` counts octets of the message at fault, `at` octets from the start of the datagram;
-/// `conditional` tells a conditional row from a mandatory one.
+/// `conditional` tells a conditional row from a mandatory one; `group` is the place of the bearer context
+/// that lacks the element, counted as `at` is, `None` where the message itself lacks it.
 #[derive(Clone, Copy, Debug, PartialEq, Eq, Error)]
 pub enum V2Fault {
     /// H1: the header is not whole.
@@ -100,6 +126,7 @@ pub enum V2Fault {
         kind: u8,
         instance: u8,
         conditional: bool,
+        group: Option<usize>,
         head: Head,
     },
     /// H7: a list of elements is not whole, or an element does not read.
@@ -171,6 +198,19 @@ pub fn moved(fault: V2Fault, place: usize) -> V2Fault
 {
     match fault {
         V2Fault::BadPiggyback { at } => V2Fault::BadPiggyback { at: place + at },
+        V2Fault::Missing {
+            kind,
+            instance,
+            conditional,
+            group: Some(at),
+            head,
+        } => V2Fault::Missing {
+            kind,
+            instance,
+            conditional,
+            group: Some(place + at),
+            head,
+        },
         V2Fault::Element { fault, head } => V2Fault::Element {
             fault: element_moved(fault, place),
             head,

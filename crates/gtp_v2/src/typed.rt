@@ -121,10 +121,12 @@ pub fn with_head(head: Head, fault: RowFault) -> V2Fault
             kind,
             instance,
             conditional,
+            group,
         } => V2Fault::Missing {
             kind,
             instance,
             conditional,
+            group,
             head,
         },
         RowFault::Element(fault) => V2Fault::Element { fault, head },

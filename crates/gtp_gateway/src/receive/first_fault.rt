@@ -80,6 +80,7 @@ fn message_flaw(fault: &V2Fault) -> Flaw
             instance,
             conditional,
             head,
+            ..
         } => flaw_in(head, missing(*conditional), *kind, *instance),
         V2Fault::Element { fault, head } => element_flaw(head, fault),
         _ => Flaw::Plain(fault.number()),

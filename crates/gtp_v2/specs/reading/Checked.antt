@@ -1,5 +1,5 @@
 -- Reading functions, for private contracts and proofs: checking what would be read, without keeping it.
-use Rattle.std.specs.Prelude.{ℕ, Bool, true, false, if◌then◌else◌, ◌&&◌, List, [], ◌∷◌, Option, option_map, Result, Ok, Err}
+use Rattle.std.specs.Prelude.{ℕ, Bool, true, false, if◌then◌else◌, ◌&&◌, List, [], ◌∷◌, Option, None, option_map, Result, Ok, Err}
 use Rattle.gtp_ie.specs.declared.fault.ReadFault.{ReadFault}
 use Rattle.gtp_values.specs.Steps.{◌>>=◌}
 use Rattle.gtp_ie.specs.Element.{Element, all_of}
@@ -9,7 +9,7 @@ use Rattle.gtp_v2.specs.declared.fault.Need.{Need}
 use Rattle.gtp_v2.specs.declared.fault.Need.TheVariants as needs
 use Rattle.gtp_v2.specs.declared.fault.RowFault.TheVariants as faults
 use Rattle.gtp_v2.specs.Table.{Row, Line, Single, Grouped, Several, Field, Plain, need_of, kind_of, instance_of, Groups, State, accepts, field_accepts, is_silent}
-use Rattle.gtp_v2.specs.reading.Rows.{needed_at, one_at, row_at, group_at, groups_at, values_at}
+use Rattle.gtp_v2.specs.reading.Rows.{needed_at, one_at, row_at, inner_at, group_at, groups_at, values_at}
 use Rattle.gtp_v2.specs.Viewed.{optional_at}
 
 -- whether the value that a body spells accepts
@@ -50,6 +50,10 @@ abbrev pub forgotten : {X E : Type 0} → Result X E → Result (Unit {0}) E
 forgotten (Ok x) = Ok tt
 forgotten (Err e) = Err e
 
+-- whether the elements of a group read
+unfoldable pub inner_passes : Bool → List Row → Element → Result (Unit {0}) RowFault
+inner_passes accepting rows e = forgotten (inner_at accepting rows e)
+
 -- whether a group reads
 unfoldable pub group_passes : Bool → List Row → Element → Result (Unit {0}) RowFault
 group_passes accepting rows e = forgotten (group_at accepting rows e)
@@ -65,8 +69,8 @@ values_silent kind instance es = values_at kind instance es >>= λ values. Ok (i
 -- what is said of groups that read, where there are none or some
 abbrev pub after_groups : Need → ℕ → ℕ → Bool → Result State RowFault
 after_groups need kind instance false = Ok (record { accepting = true; silent = false })
-after_groups needs.Mandatory kind instance true = Err (faults.Missing kind instance false)
-after_groups needs.Conditional kind instance true = Err (faults.Missing kind instance true)
+after_groups needs.Mandatory kind instance true = Err (faults.Missing kind instance false None)
+after_groups needs.Conditional kind instance true = Err (faults.Missing kind instance true None)
 after_groups needs.Optional kind instance true = Ok (record { accepting = true; silent = true })
 
 -- what groups say
@@ -83,7 +87,7 @@ with_one said now = if said.silent then record { accepting = now; silent = false
 
 -- what is said of values that read, where there are none or some
 abbrev pub after_values : Bool → ℕ → ℕ → State → Result State RowFault
-after_values needed kind missed said = if needed && said.silent then Err (faults.Missing kind missed true) else Ok said
+after_values needed kind missed said = if needed && said.silent then Err (faults.Missing kind missed true None) else Ok said
 
 -- what several values say
 unfoldable pub several_say : Bool → ℕ → ℕ → ℕ → List Element → Result State RowFault

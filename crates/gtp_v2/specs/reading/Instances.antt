@@ -6,5 +6,5 @@ use Rattle.gtp_v2.specs.Instances.{ElementInstanceIsSmall}
 
 -- of a row at fault
 abbrev pub RowInstanceIsSmall : RowFault → Type 0
-RowInstanceIsSmall (row_faults.Missing kind instance conditional) = instance < 16
+RowInstanceIsSmall (row_faults.Missing kind instance conditional group) = instance < 16
 RowInstanceIsSmall (row_faults.Element fault) = ElementInstanceIsSmall fault

@@ -6,11 +6,11 @@ use Rattle.gtp_v2.specs.declared.fault.V2Fault.TheVariants as faults
 use Rattle.gtp_v2.specs.Message.{MessageValue}
 use Rattle.gtp_v2.specs.Pair.{DatagramValue, alone, both, moved}
 use Rattle.gtp_v2.specs.reading.Message.{message_at}
+use Rattle.gtp_v2.specs.reading.Rows.{fault_as}
 
 -- a reading, its fault counted from so many octets earlier
 abbrev pub placed : {X : Type 0} → ℕ → Result X V2Fault → Result X V2Fault
-placed place (Ok x) = Ok x
-placed place (Err f) = Err (moved place f)
+placed place = fault_as (moved place)
 
 -- the second message, at a place
 unfoldable pub second_at : ℕ → List ℕ → Result MessageValue V2Fault

@@ -11,6 +11,7 @@ use Rattle.gtp_v2.specs.declared.fault.RowFault.TheVariants as faults
 use Rattle.gtp_v2.specs.declared.fault.Need.{Need}
 use Rattle.gtp_v2.specs.declared.fault.Need.TheVariants as needs
 use Rattle.gtp_v2.specs.Table.{accepts, need_of, kind_of, instance_of, after, Row, Mandatory, Conditional, Accepted, Optional, Line, Single, Grouped, Several, Field, Plain, Groups, State}
+use Rattle.gtp_v2.specs.Grammar.{in_group}
 use Rattle.gtp_v2.specs.Viewed.{optional_at}
 
 -- a reading, its fault named by the element's type, instance and place
@@ -25,7 +26,7 @@ one_at kind instance e = named kind instance e.at (value_at kind e.body)
 
 -- the value of an element that is needed
 abbrev pub needed : Bool → ℕ → ℕ → Option Element → Result Value RowFault
-needed conditional kind instance None = Err (faults.Missing kind instance conditional)
+needed conditional kind instance None = Err (faults.Missing kind instance conditional None)
 needed conditional kind instance (Some e) = one_at kind instance e
 
 -- the value of the first element of a type and instance, which is needed
@@ -57,9 +58,18 @@ abbrev pub whole : Result (List Element) ℕ → Result (List Element) RowFault
 whole (Ok es) = Ok es
 whole (Err at) = Err (faults.Element (Truncated at))
 
+-- an outcome, its fault told in another way
+abbrev pub fault_as : {X E : Type 0} → (E → E) → Result X E → Result X E
+fault_as told (Ok x) = Ok x
+fault_as told (Err f) = Err (told f)
+
+-- the values of the rows among the elements of a group
+abbrev pub inner_at : Bool → List Row → Element → Result (List (List Value)) RowFault
+inner_at accepting rows e = whole (elements_of (e.at + 4) e.body) >>= λ es. rows_at accepting rows es
+
 -- the values of a group's rows
 unfoldable pub group_at : Bool → List Row → Element → Result (List (List Value)) RowFault
-group_at accepting rows e = whole (elements_of (e.at + 4) e.body) >>= λ es. rows_at accepting rows es
+group_at accepting rows e = fault_as (in_group e.at) (inner_at accepting rows e)
 
 -- what each element gives, in order, the first fault before all others
 unfoldable pub each_at : {X : Type 0} → (Element → Result X RowFault) → List Element → Result (List X) RowFault
@@ -79,8 +89,8 @@ values_at kind instance es = each_at (one_at kind instance) es
 
 -- no group, which is a fault where one is needed
 abbrev pub no_group : Need → ℕ → ℕ → Result (List (List (List Value))) RowFault
-no_group needs.Mandatory kind instance = Err (faults.Missing kind instance false)
-no_group needs.Conditional kind instance = Err (faults.Missing kind instance true)
+no_group needs.Mandatory kind instance = Err (faults.Missing kind instance false None)
+no_group needs.Conditional kind instance = Err (faults.Missing kind instance true None)
 no_group needs.Optional kind instance = Ok []
 
 -- the groups among these elements, at least one where that is needed
@@ -91,7 +101,7 @@ some_groups need kind instance accepting rows es = do
 
 -- no value, which is a fault where one is needed
 abbrev pub no_value : Bool → ℕ → ℕ → Result (List Value) RowFault
-no_value true kind missed = Err (faults.Missing kind missed true)
+no_value true kind missed = Err (faults.Missing kind missed true None)
 no_value false kind missed = Ok []
 
 -- the values of all elements of a type and instance, at least one where that is needed, or else another element is missing
