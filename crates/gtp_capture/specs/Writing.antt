@@ -1,6 +1,5 @@
 -- What is written: a capture in the network's order, with microseconds, of packets of IPv4 without options and of IPv6 without extension headers.
 use Rattle.std.specs.Prelude.{◌≡◌, ◌≢◌, ℕ, suc, ◌+◌, ◌/◌, ◌%◌, ◌^◌, ◌<◌, ◌≤◌, ◌⊎◌, List, [], ◌∷◌, ◌++◌, length, Option, Some, false}
-use Rattle.std.specs.Io.KnownBytes.{Appends}
 use Rattle.std.specs.List.{AllByRecursion}
 use Rattle.std.specs.Int.{w16, w32, to_be_bytes, from_be_bytes}
 use Rattle.gtp_capture.specs.Frame.{Frame}
@@ -149,10 +148,10 @@ abbrev pub ReadsBack : Type 0
 ReadsBack = (ports : Ports) (ds : List Sent) (body : List ℕ) (rooms : AllByRecursion (HasRoom ports) ds) → AreWritten ds body
     → (fs : List Frame) × IsCapture (head_octets ++ body) (Records kind_written) fs [] × (datagrams ports 1 fs ≡ seen_all ports 1 ds rooms)
 
--- known contents grow by the record of a datagram
-abbrev pub Writes : Option (List ℕ) → Option (List ℕ) → Sent → Type 0
-Writes old new d = (packet : List ℕ) × IsPacket d.ends d packet × Appends old new (record_head d (length packet) ++ packet)
+-- octets grow by the record of a datagram
+abbrev pub Writes : List ℕ → List ℕ → Sent → Type 0
+Writes old new d = (packet : List ℕ) × IsPacket d.ends d packet × (new ≡ old ++ (record_head d (length packet) ++ packet))
 
--- known contents grow by a head and the records of these datagrams
-abbrev pub WritesAll : Option (List ℕ) → Option (List ℕ) → List Sent → Type 0
-WritesAll old new ds = (body : List ℕ) × Appends old new (head_octets ++ body) × AreWritten ds body
+-- and by a head and the records of these datagrams
+abbrev pub WritesAll : List ℕ → List ℕ → List Sent → Type 0
+WritesAll old new ds = (body : List ℕ) × (new ≡ old ++ (head_octets ++ body)) × AreWritten ds body

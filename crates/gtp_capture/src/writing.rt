@@ -1,12 +1,11 @@
 //! Writing captures.
 
 ghost use Rattle.std.specs.Prelude.{◌≡◌, ◌+◌, ◌≤◌, ◌++◌, length, map, All, OnOk};
-ghost use Rattle.std.specs.Io.KnownBytes.{Appends};
 ghost use Rattle.gtp_capture.specs.Writing.{WritesAll, Writes, sent_of, most_octets, ReadsBack, head_octets, record_head, header_v4, header_v6, udp_octets, pseudo_header, IsChecksum, IsUdpChecksum};
 ghost use Rattle.gtp_capture.specs.reading.Writing.{front_v4, front_v6, udp_head, pseudo_tail, WritesHeader};
 
 use crate::checksum::{complement, sum_onto, udp_complement};
-use std::io::{self, Write};
+use std::alloc::AllocError;
 
 /// The addresses that a datagram is from and to, both of one version.
 #[derive(Clone, Copy, Debug)]
@@ -35,14 +34,21 @@ pub fn what_is_written_is_read_back()
     ensures { ReadsBack }
 {}
 
+/// Appends octets.
+fn put(out: &mut Vec<u8>, octets: &[u8]) -> Result<(), AllocError>
+    ensures { OnOk result (out.new.items ≡ out.old.items ++ octets.now) }
+{
+    out.extend_from_slice(octets)
+}
+
 /// Writes the head of a capture: the high octet of a number first, microseconds, link 101 (raw IP).
-pub fn write_head<W: Write>(writer: &mut W) -> io::Result<()>
-    ensures { OnOk result (Appends (W.contents writer.old) (W.contents writer.new) head_octets) }
+pub fn write_head(out: &mut Vec<u8>) -> Result<(), AllocError>
+    ensures { OnOk result (out.new.items ≡ out.old.items ++ head_octets) }
 {
     let head = [
         0xa1, 0xb2, 0xc3, 0xd4, 0, 2, 0, 4, 0, 0, 0, 0, 0, 0, 0, 0, 0, 4, 0, 0, 0, 0, 0, 101,
     ];
-    writer.write_all(&head)
+    put(out, &head)
 }
 
 /// What stands before a packet of this size in its record.
@@ -115,99 +121,99 @@ fn checksum_v6(sent: &WrittenDatagram, from: [u8; 16], to: [u8; 16]) -> u16
 }
 
 /// Writes a UDP datagram with this checksum.
-fn write_udp<W: Write>(writer: &mut W, sent: &WrittenDatagram, sum: u16) -> io::Result<()>
+fn write_udp(out: &mut Vec<u8>, sent: &WrittenDatagram, sum: u16) -> Result<(), AllocError>
     requires { length sent.now.octets.now ≤ 65527 }
-    ensures { OnOk result (Appends (W.contents writer.old) (W.contents writer.new) (udp_octets sum (sent_of sent.now))) }
+    ensures { OnOk result (out.new.items ≡ out.old.items ++ (udp_octets sum (sent_of sent.now))) }
 {
     let size = sent.octets.len() as u16 + 8;
-    writer.write_all(&head_of_udp(sum, sent.from_port, sent.to_port, size))?;
-    writer.write_all(sent.octets)
+    put(out, &head_of_udp(sum, sent.from_port, sent.to_port, size))?;
+    put(out, sent.octets)
 }
 
 /// Writes the header of a packet of IPv4 without options (RFC 791), with its checksum.
-fn write_header_v4<W: Write>(
-    writer: &mut W,
+fn write_header_v4(
+    out: &mut Vec<u8>,
     sent: &WrittenDatagram,
     from: [u8; 4],
     to: [u8; 4],
-) -> io::Result<()>
+) -> Result<(), AllocError>
     requires { length sent.now.octets.now ≤ 65507 }
-    ensures { OnOk result (WritesHeader (W.contents writer.old) (W.contents writer.new) (sent_of sent.now) from to) }
+    ensures { OnOk result (WritesHeader out.old.items out.new.items (sent_of sent.now) from to) }
 {
     let size = sent.octets.len() as u16 + 28;
     let sum = checksum_v4(size, sent.identification, from, to);
-    writer.write_all(&front_of_v4(sum, size, sent.identification))?;
-    writer.write_all(&from)?;
-    writer.write_all(&to)
+    put(out, &front_of_v4(sum, size, sent.identification))?;
+    put(out, &from)?;
+    put(out, &to)
 }
 
 /// Writes the header of a packet of IPv6 (RFC 8200).
-fn write_header_v6<W: Write>(
-    writer: &mut W,
+fn write_header_v6(
+    out: &mut Vec<u8>,
     sent: &WrittenDatagram,
     from: [u8; 16],
     to: [u8; 16],
-) -> io::Result<()>
+) -> Result<(), AllocError>
     requires { length sent.now.octets.now ≤ 65527 }
-    ensures { OnOk result (Appends (W.contents writer.old) (W.contents writer.new) (header_v6 (sent_of sent.now) from to)) }
+    ensures { OnOk result (out.new.items ≡ out.old.items ++ (header_v6 (sent_of sent.now) from to)) }
 {
-    writer.write_all(&front_of_v6(sent.octets.len() as u16 + 8))?;
-    writer.write_all(&from)?;
-    writer.write_all(&to)
+    put(out, &front_of_v6(sent.octets.len() as u16 + 8))?;
+    put(out, &from)?;
+    put(out, &to)
 }
 
 /// Writes the record of a datagram over IPv4, whose UDP checksum is 0 (none).
-fn write_v4<W: Write>(
-    writer: &mut W,
+fn write_v4(
+    out: &mut Vec<u8>,
     sent: &WrittenDatagram,
     from: [u8; 4],
     to: [u8; 4],
-) -> io::Result<()>
+) -> Result<(), AllocError>
     requires ends { sent.now.ends ≡ Ends.V4 from to }
     requires size { length sent.now.octets.now ≤ 65507 }
-    ensures { OnOk result (Writes (W.contents writer.old) (W.contents writer.new) (sent_of sent.now)) }
+    ensures { OnOk result (Writes out.old.items out.new.items (sent_of sent.now)) }
 {
-    writer.write_all(&head_of_record(sent, sent.octets.len() as u32 + 28))?;
-    write_header_v4(writer, sent, from, to)?;
-    write_udp(writer, sent, 0)
+    put(out, &head_of_record(sent, sent.octets.len() as u32 + 28))?;
+    write_header_v4(out, sent, from, to)?;
+    write_udp(out, sent, 0)
 }
 
 /// Writes the record of a datagram over IPv6, where the UDP checksum must be.
-fn write_v6<W: Write>(
-    writer: &mut W,
+fn write_v6(
+    out: &mut Vec<u8>,
     sent: &WrittenDatagram,
     from: [u8; 16],
     to: [u8; 16],
-) -> io::Result<()>
+) -> Result<(), AllocError>
     requires ends { sent.now.ends ≡ Ends.V6 from to }
     requires size { length sent.now.octets.now ≤ 65527 }
-    ensures { OnOk result (Writes (W.contents writer.old) (W.contents writer.new) (sent_of sent.now)) }
+    ensures { OnOk result (Writes out.old.items out.new.items (sent_of sent.now)) }
 {
-    writer.write_all(&head_of_record(sent, sent.octets.len() as u32 + 48))?;
-    write_header_v6(writer, sent, from, to)?;
-    write_udp(writer, sent, checksum_v6(sent, from, to))
+    put(out, &head_of_record(sent, sent.octets.len() as u32 + 48))?;
+    write_header_v6(out, sent, from, to)?;
+    write_udp(out, sent, checksum_v6(sent, from, to))
 }
 
 /// Writes the record of a datagram: a packet of IPv4 without options, of UDP without a checksum, or one of IPv6 without
 /// extension headers, of UDP with its checksum.
-pub fn write_datagram<W: Write>(writer: &mut W, sent: &WrittenDatagram) -> io::Result<()>
+pub fn write_datagram(out: &mut Vec<u8>, sent: &WrittenDatagram) -> Result<(), AllocError>
     requires { length sent.now.octets.now ≤ most_octets sent.now.ends }
-    ensures { OnOk result (Writes (W.contents writer.old) (W.contents writer.new) (sent_of sent.now)) }
+    ensures { OnOk result (Writes out.old.items out.new.items (sent_of sent.now)) }
 {
     match sent.ends {
-        Ends::V4 { from, to } => write_v4(writer, sent, from, to),
-        Ends::V6 { from, to } => write_v6(writer, sent, from, to),
+        Ends::V4 { from, to } => write_v4(out, sent, from, to),
+        Ends::V6 { from, to } => write_v6(out, sent, from, to),
     }
 }
 
 /// Writes a capture of these datagrams, in their order.
-pub fn write_capture<W: Write>(writer: &mut W, datagrams: &[WrittenDatagram]) -> io::Result<()>
+pub fn write_capture(out: &mut Vec<u8>, datagrams: &[WrittenDatagram]) -> Result<(), AllocError>
     requires { All (λ sent. length sent.octets.now ≤ most_octets sent.ends) datagrams.now }
-    ensures { OnOk result (WritesAll (W.contents writer.old) (W.contents writer.new) (map sent_of datagrams.now)) }
+    ensures { OnOk result (WritesAll out.old.items out.new.items (map sent_of datagrams.now)) }
 {
-    write_head(writer)?;
+    write_head(out)?;
     for sent in datagrams {
-        write_datagram(writer, sent)?;
+        write_datagram(out, sent)?;
     }
     Ok(())
 }

@@ -1,7 +1,6 @@
 -- What is written, in parts; the sum that a checksum is taken of, from the last octets on.
-use Rattle.std.specs.Prelude.{ℕ, List, [], ◌∷◌, ◌++◌, Option}
+use Rattle.std.specs.Prelude.{ℕ, List, [], ◌∷◌, ◌++◌, ◌≡◌}
 use Rattle.std.specs.Int.{w16, from_be_bytes}
-use Rattle.std.specs.Io.KnownBytes.{Appends}
 use Rattle.gtp_capture.specs.Writing.{Sent, two, four, ones_plus, IsChecksum, header_v4}
 
 -- the number in the first two octets
@@ -32,6 +31,6 @@ udp_head sum from_port to_port size = two from_port ++ two to_port ++ two size +
 abbrev pub pseudo_tail : ℕ → List ℕ
 pseudo_tail size = four size ++ (0 ∷ 0 ∷ 0 ∷ 17 ∷ [])
 
--- known contents grow by a header of IPv4 with its checksum
-abbrev pub WritesHeader : Option (List ℕ) → Option (List ℕ) → Sent → List ℕ → List ℕ → Type 0
-WritesHeader old new d from to = (sum : ℕ) × IsChecksum (header_v4 0 d from to) sum × Appends old new (header_v4 sum d from to)
+-- octets grow by a header of IPv4 with its checksum
+abbrev pub WritesHeader : List ℕ → List ℕ → Sent → List ℕ → List ℕ → Type 0
+WritesHeader old new d from to = (sum : ℕ) × IsChecksum (header_v4 0 d from to) sum × (new ≡ old ++ header_v4 sum d from to)

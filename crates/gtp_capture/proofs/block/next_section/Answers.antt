@@ -1,4 +1,4 @@
-use Rattle.std.proofs.Common.{◌++◌, Some, take, length-take-le, arith, subst}
+use Rattle.std.proofs.Common.{◌++◌, take, length-take-le, arith, subst}
 use Rattle.gtp_capture.specs.Outcome.{Known, IsSectionBehind}
 use Rattle.gtp_capture.proofs.Blocks.{section_short, section_stands, section_unknown}
 use Rattle.gtp_capture.proofs.block.next_section.Goals as goal

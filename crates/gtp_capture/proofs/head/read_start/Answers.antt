@@ -1,4 +1,4 @@
-use Rattle.std.proofs.Common.{◌≡◌, ◌∙◌, take, length-take-le, arith}
+use Rattle.std.proofs.Common.{◌∙◌, take, length-take-le, arith}
 use Rattle.gtp_capture.proofs.Starts.{start_short, start_records, start_other}
 use Rattle.gtp_capture.proofs.head.read_start.Goals as goal
 

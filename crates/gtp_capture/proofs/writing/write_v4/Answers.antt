@@ -5,8 +5,7 @@ use Rattle.gtp_capture.proofs.Heads.{three, packet_v4_size}
 use Rattle.gtp_capture.proofs.writing.write_v4.Goals as goal
 
 pub returns : goal.returns
-returns g c =
-    let held = g.W.Write.contents in
+returns c =
     let d = sent_of c.args.sent.now in
     let from = c.args.from in
     let to = c.args.to in
@@ -17,7 +16,7 @@ returns g c =
     (λ last. (
       packet,
       subst (λ e. IsPacket e d packet) (sym c.requires.ends) (header.0, header.1, refl),
-      three (held c.args.writer.now) (held c.write_all.new.self) (held c.write_header_v4.new.writer) (held c.write_udp.new.writer) c.head_of_record.result (header_v4 header.0 d from to) (udp_octets 0 d) (record_head d (length packet) ++ packet) c.in_ok-write_all.ensures.bytes header.2 last
+      three c.args.out.now.items c.put.new.out.items c.write_header_v4.new.out.items c.write_udp.new.out.items c.head_of_record.result (header_v4 header.0 d from to) (udp_octets 0 d) (record_head d (length packet) ++ packet) c.in_ok-put.ensures header.2 last
           (ap (λ l. l ++ packet) (c.head_of_record.ensures ∙ ap (record_head d) (omega (arith, size, c.requires.size)))),
     ))
     c.write_udp.ensures
