@@ -1,5 +1,9 @@
 //! The table of the codes, in parts.
 
+ghost use Rattle.std.specs.Prelude.{◌≡◌, map};
+ghost use Rattle.gtp_codes.specs.Words.{told_by};
+ghost use Rattle.gtp_codes.specs.Meanings as told;
+
 use crate::explaining::Meaning;
 use crate::words::causes;
 
@@ -11,7 +15,10 @@ macro_rules! rows {
 }
 
 /// Faults of control datagrams: H, and I of elements.
-fn control_faults() -> &'static [Meaning] {
+#[tactic(auto, unfolding(crate::specs::Meanings::control_faults))]
+fn control_faults() -> &'static [Meaning]
+    ensures { map told_by result.now ≡ told.control_faults }
+{
     const ROWS: &[Meaning] = rows![
         "H1" "" "the datagram ends within the header of a message (TS 29.274 7.7.3); held: the octets of the message",
         "H2" "" "the version of GTPv2-C is not 2 (TS 29.274 7.7.2)",
@@ -27,7 +34,10 @@ fn control_faults() -> &'static [Meaning] {
 }
 
 /// Faults of user datagrams.
-fn user_faults() -> &'static [Meaning] {
+#[tactic(auto, unfolding(crate::specs::Meanings::user_faults))]
+fn user_faults() -> &'static [Meaning]
+    ensures { map told_by result.now ≡ told.user_faults }
+{
     const ROWS: &[Meaning] = rows![
         "U1" "" "the datagram ends within the header (TS 29.281 5.1); held: its octets",
         "U2" "" "the version of GTP-U is not 1 (TS 29.281 5.1)",
@@ -43,7 +53,10 @@ fn user_faults() -> &'static [Meaning] {
 }
 
 /// Refused commands; S and B are limits.
-fn refused_commands() -> &'static [Meaning] {
+#[tactic(auto, unfolding(crate::specs::Meanings::refused_commands))]
+fn refused_commands() -> &'static [Meaning]
+    ensures { map told_by result.now ≡ told.refused_commands }
+{
     const ROWS: &[Meaning] = rows![
         "G1" "" "a command is refused: there is no such context",
         "G2" "" "a command is refused: the context is not active",
@@ -59,7 +72,10 @@ fn refused_commands() -> &'static [Meaning] {
 }
 
 /// Dropped datagrams.
-fn drops() -> &'static [Meaning] {
+#[tactic(auto, unfolding(crate::specs::Meanings::drops))]
+fn drops() -> &'static [Meaning]
+    ensures { map told_by result.now ≡ told.drops }
+{
     const ROWS: &[Meaning] = rows![
         "X1" "" "a datagram is dropped: it cannot be decoded; the code of its fault follows (TS 29.274 7.7)",
         "X2" "" "a datagram is dropped: its restart counter is earlier than one that was received (TS 23.007 18)",
@@ -77,7 +93,10 @@ fn drops() -> &'static [Meaning] {
 }
 
 /// Events of a scenario that cannot happen.
-fn impossible_events() -> &'static [Meaning] {
+#[tactic(auto, unfolding(crate::specs::Meanings::impossible_events))]
+fn impossible_events() -> &'static [Meaning]
+    ensures { map told_by result.now ≡ told.impossible_events }
+{
     const ROWS: &[Meaning] = rows![
         "N1" "" "an event cannot happen: there is no such datagram",
         "N2" "" "an event cannot happen: a gateway restarts at most 127 times",
@@ -87,7 +106,9 @@ fn impossible_events() -> &'static [Meaning] {
 }
 
 /// The parts: faults, refused commands, dropped datagrams, impossible events, and causes.
-pub fn parts() -> [&'static [Meaning]; 6] {
+pub fn parts() -> [&'static [Meaning]; 6]
+    ensures { map (λ part. map told_by part.now) result ≡ told.all_parts }
+{
     [
         control_faults(),
         user_faults(),
