@@ -1,5 +1,7 @@
 -- What is told of the lines of a hex dump.
-use Rattle.std.specs.Prelude.{◌≡◌, ℕ, ◌+◌, ◌||◌, ◌⊎◌, Bool, true, false, List, [], ◌∷◌, ◌++◌, Option, codes, decimal}
+use Rattle.std.specs.Prelude.{◌≡◌, ℕ, ◌+◌, ◌||◌, ◌⊎◌, Bool, true, false, List, [], ◌∷◌, ◌++◌, map, length, take, Option, codes, decimal}
+use Rattle.std.specs.List.{flat_map}
+use Rattle.std.specs.Io.BufRead.{take_through}
 use Rattle.std.specs.Io.KnownBytes.{Appends}
 use Rattle.gtp_counted.specs.Counts.{NoneFailed, FailedOnce, ClosedOnce}
 use Rattle.gtp_counted.specs.Lines.{BeginsWithLines}
@@ -9,8 +11,9 @@ use Rattle.gtp_values.specs.declared.plane.Plane.{Plane}
 use Rattle.gtp_lines.specs.Lines.{LinesOf}
 use Rattle.gtp_lines.specs.All.{AllLines}
 use Rattle.gtp_json.specs.Datagram.{DatagramJson}
-use Rattle.gtp_dump.specs.Text.{Spells, IsBlank, IsBad}
-use Rattle.gtp_dump.specs.Flaw.{flaw_text, IsFlaw}
+use Rattle.gtp_dump.specs.Text.{Spells}
+use Rattle.gtp_dump.specs.Flaw.{flaw_text}
+use Rattle.gtp_dump.specs.Entries.{Reading, Nothing, Bad, Datagram, IsEntry}
 use Rattle.gtp_dump.specs.declared.flaw.Flaw.{Flaw}
 use Rattle.gtp_dump.specs.declared.decoding.Asked.{Asked}
 use Rattle.gtp_dump.specs.declared.decoding.Form.{Form}
@@ -56,57 +59,73 @@ Shows form plane octets index text faulty = (lines : List ℕ) × ShowsAs form p
 abbrev pub nothing_read : Tally
 nothing_read = record { lines = 0; datagrams = 0; faulty = false; bad = false }
 
--- a line without digits tells nothing
-pub record TellsNothing (before : Tally) (line : List ℕ) (after : Tally) (out err : List ℕ) : Type 0 where
-  pub blank : IsBlank line
-  pub tally : after ≡ record before { lines = before.lines + 1 }
+-- lines without digits tell nothing
+pub record TellsNothing (before : Tally) (count : ℕ) (after : Tally) (out err : List ℕ) : Type 0 where
+  pub tally : after ≡ record before { lines = before.lines + count }
   pub output : out ≡ []
   pub error : err ≡ []
 
--- of a bad line its number is told, as an error, and why it is bad; lines count from 1
-pub record TellsBad (before : Tally) (line : List ℕ) (after : Tally) (out err : List ℕ) : Type 0 where
-  pub is_bad : IsBad line
-  pub tally : after ≡ record before { lines = before.lines + 1; bad = true }
+-- of a bad line its number is told, as an error, and why it is bad
+pub record TellsBad (before : Tally) (count number : ℕ) (flaw : Flaw) (after : Tally) (out err : List ℕ) : Type 0 where
+  pub tally : after ≡ record before { lines = before.lines + count; bad = true }
   pub output : out ≡ []
-  pub flaw : Flaw
-  pub reason : IsFlaw line flaw
-  pub error : err ≡ bad_text (before.lines + 1) flaw
+  pub error : err ≡ bad_text number flaw
 
 -- a datagram is shown, and its index told, which counts from 0
-pub record TellsDatagram (asked : Asked) (before : Tally) (line : List ℕ) (after : Tally) (out err : List ℕ) : Type 0 where
-  pub plane : Plane
-  pub octets : List ℕ
+pub record TellsDatagram (form : Form) (before : Tally) (count : ℕ) (plane : Plane) (octets : List ℕ) (after : Tally) (out err : List ℕ) : Type 0 where
   pub faulty : Bool
-  pub spells : Spells asked.plane line plane octets
-  pub shows : Shows asked.form plane octets before.datagrams out faulty
-  pub tally : after ≡ record before { lines = before.lines + 1; datagrams = before.datagrams + 1; faulty = before.faulty || faulty }
+  pub shows : Shows form plane octets before.datagrams out faulty
+  pub tally : after ≡ record before { lines = before.lines + count; datagrams = before.datagrams + 1; faulty = before.faulty || faulty }
   pub error : err ≡ []
 
--- what a line adds to the output and to the errors
-abbrev pub Tells : Asked → Tally → List ℕ → Tally → List ℕ → List ℕ → Type 0
-Tells asked before line after out err = TellsNothing before line after out err ⊎ TellsBad before line after out err ⊎ TellsDatagram asked before line after out err
+-- what is told of so many lines that give this: what they add to the output and to the errors
+abbrev pub Tells : Form → Tally → ℕ → Reading → Tally → List ℕ → List ℕ → Type 0
+Tells form before count Nothing after out err = TellsNothing before count after out err
+Tells form before count (Bad number flaw) after out err = TellsBad before count number flaw after out err
+Tells form before count (Datagram plane octets) after out err = TellsDatagram form before count plane octets after out err
 
--- and lines, one after the other
-abbrev pub TellAll : Asked → Tally → List (List ℕ) → Tally → List ℕ → List ℕ → Type 0
-TellAll asked before [] after out err = (after ≡ before) × (out ≡ []) × (err ≡ [])
-TellAll asked before (line ∷ lines) after out err = (next : Tally) × (o : List ℕ) × (os : List ℕ) × (e : List ℕ) × (es : List ℕ)
-    × Tells asked before line next o e × TellAll asked next lines after os es × (out ≡ o ++ os) × (err ≡ e ++ es)
+-- the lines of entries
+abbrev pub lines_of : List (List (List ℕ)) → List (List ℕ)
+lines_of entries = flat_map (λ entry. entry) entries
+
+-- the first of lines that are followed by this one
+abbrev pub first : List (List ℕ) → List ℕ → List ℕ
+first [] next = next
+first (line ∷ lines) next = line
+
+-- entries are told, one after the other, before the next line
+abbrev pub TellAll : Asked → Tally → List (List (List ℕ)) → List ℕ → Tally → List ℕ → List ℕ → Type 0
+TellAll asked before [] next after out err = (after ≡ before) × (out ≡ []) × (err ≡ [])
+TellAll asked before (entry ∷ entries) next after out err =
+    (reading : Reading) × (told : Tally) × (o : List ℕ) × (os : List ℕ) × (e : List ℕ) × (es : List ℕ)
+    × IsEntry asked.plane asked.join before.lines entry (first (lines_of entries) next) reading × Tells asked.form before (length entry) reading told o e
+    × TellAll asked told entries next after os es × (out ≡ o ++ os) × (err ≡ e ++ es)
+
+-- what is looked at of a line: one that is cut is too long
+abbrev pub seen : List ℕ → List ℕ
+seen line = take 1048577 line
+
+-- the lines before the rest are entries, each up to where the next line does not go on, and this is told of them
+pub record TellLines (asked : Asked) (octets rest : List ℕ) (tally : Tally) (text errors : List ℕ) : Type 0 where
+  pub lines : List (List ℕ)
+  pub entries : List (List (List ℕ))
+  pub begins : BeginsWithLines octets lines rest
+  pub split : map seen lines ≡ lines_of entries
+  pub tells : TellAll asked nothing_read entries (seen (take_through 10 rest)) tally text errors
 
 -- the lines before the rest were told, and nothing else
 pub record AreTold (asked : Asked) (octets rest : List ℕ) (tally : Tally) (out out_after err err_after : Option (List ℕ)) : Type 0 where
-  pub lines : List (List ℕ)
   pub text : List ℕ
   pub errors : List ℕ
-  pub begins : BeginsWithLines octets lines rest
-  pub tells : TellAll asked nothing_read lines tally text errors
+  pub tells : TellLines asked octets rest tally text errors
   pub output : Appends out out_after text
   pub error : Appends err err_after errors
 
--- one line was told
-pub record IsTold (asked : Asked) (before : Tally) (line : List ℕ) (after : Tally) (out out_after err err_after : Option (List ℕ)) : Type 0 where
+-- this was told of so many lines
+pub record IsTold (form : Form) (before : Tally) (count : ℕ) (reading : Reading) (after : Tally) (out out_after err err_after : Option (List ℕ)) : Type 0 where
   pub text : List ℕ
   pub errors : List ℕ
-  pub tells : Tells asked before line after text errors
+  pub tells : Tells form before count reading after text errors
   pub output : Appends out out_after text
   pub error : Appends err err_after errors
 
@@ -122,23 +141,21 @@ WriteClosed out out_after err err_after = (ClosedOnce out out_after × NoneFaile
 abbrev pub AreFirstTold : Asked → List ℕ → (out out_after err err_after : Option (List ℕ)) → Type 0
 AreFirstTold asked octets out out_after err err_after = (rest : List ℕ) × (tally : Tally) × AreTold asked octets rest tally out out_after err err_after
 
--- of one line a beginning was told
-pub record IsToldInPart (asked : Asked) (before : Tally) (line : List ℕ) (out out_after err err_after : Option (List ℕ)) : Type 0 where
+-- of so many lines a beginning was told
+pub record IsToldInPart (form : Form) (before : Tally) (count : ℕ) (reading : Reading) (out out_after err err_after : Option (List ℕ)) : Type 0 where
   pub after : Tally
   pub text : List ℕ
   pub errors : List ℕ
-  pub tells : Tells asked before line after text errors
+  pub tells : Tells form before count reading after text errors
   pub output : WritesFront out out_after text
   pub error : WritesFront err err_after errors
 
 -- a beginning of what is told of the first lines was written, and nothing else
 pub record AreToldInPart (asked : Asked) (octets : List ℕ) (out out_after err err_after : Option (List ℕ)) : Type 0 where
-  pub lines : List (List ℕ)
   pub rest : List ℕ
   pub tally : Tally
   pub text : List ℕ
   pub errors : List ℕ
-  pub begins : BeginsWithLines octets lines rest
-  pub tells : TellAll asked nothing_read lines tally text errors
+  pub tells : TellLines asked octets rest tally text errors
   pub output : WritesFront out out_after text
   pub error : WritesFront err err_after errors

@@ -24,6 +24,12 @@ IsFlaw line TooLong = IsTooLong line
 IsFlaw line (Character c place) = (length line ≤ 1048576) × HasWrong line c place
 IsFlaw line Odd = (length line ≤ 1048576) × (named : Option Plane) × (rest : List ℕ) × Names line named rest × (from_wrong rest ≡ [])
 
+-- why a text is bad with which a line ends: it has a wrong character, or else no more than an odd number of digits
+abbrev pub IsFlawFrom : List ℕ → List ℕ → Flaw → Type 0
+IsFlawFrom line rest TooLong = ⊥
+IsFlawFrom line rest (Character c place) = (after : List ℕ) × (from_wrong rest ≡ c ∷ after) × (place ≡ length line - length (c ∷ after))
+IsFlawFrom line rest Odd = from_wrong rest ≡ []
+
 -- how an octet of a text is called
 abbrev pub octet_text : ℕ → List ℕ
 octet_text c = if is_ascii_graphic c then codes "the character " ++ c ∷ [] else codes "the octet " ++ decimal c

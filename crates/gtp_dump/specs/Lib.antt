@@ -1,3 +1,7 @@
 pub mod Text
-pub mod Decoded
+pub mod Row
 pub mod Flaw
+pub mod Entries
+pub mod Held
+pub mod Hint
+pub mod Decoded

@@ -1,5 +1,5 @@
 -- A line of a hex dump.
-use Rattle.std.specs.Prelude.{◌≡◌, ◌≢◌, ℕ, ◌<◌, ◌≤◌, ◌/◌, ◌==◌, ◌||◌, ◌&&◌, ◌⊎◌, Bool, false, if◌then◌else◌, List, [], ◌∷◌, ◌++◌, length, slice_index, codes, Option, Some, None, Ok, IsErr}
+use Rattle.std.specs.Prelude.{◌≡◌, ◌≢◌, ℕ, ◌<◌, ◌≤◌, ◌/◌, ◌==◌, ◌||◌, ◌&&◌, ◌⊎◌, not, Bool, false, if◌then◌else◌, List, [], ◌∷◌, ◌++◌, length, slice_index, codes, Option, Some, None, Ok, IsErr}
 use Rattle.std.specs.Char.{is_ascii_whitespace}
 use Rattle.hex.specs.Hex.{decode_of}
 use Rattle.gtp_values.specs.declared.plane.Plane.{Plane}
@@ -42,6 +42,9 @@ taken c after more = c ∷ more
 
 abbrev pub digits_in : List ℕ → List ℕ
 digits_in text = walked taken text
+
+abbrev pub has_digits : List ℕ → Bool
+has_digits text = not (length (digits_in text) == 0)
 
 -- the text has digits, and they spell these octets
 pub record HasOctets (text octets : List ℕ) : Type 0 where

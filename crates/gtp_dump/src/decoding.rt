@@ -1,12 +1,14 @@
 //! All lines of a hex dump.
 
-ghost use Rattle.std.specs.Prelude.{◌≡◌, ◌≢◌, ◌+◌, ◌++◌, ◌-◌, ◌^◌, ◌<◌, ◌≤◌, ◌⊎◌, [], length, None, Ok, Err, IfOk, IfErr, IfSome, OnOk, OnErr};
+ghost use Rattle.std.specs.Prelude.{◌≡◌, ◌≢◌, ◌+◌, ◌++◌, ◌-◌, ◌^◌, ◌<◌, ◌≤◌, ◌⊎◌, ⊤, List, [], ◌∷◌, ℕ, length, None, Ok, Err, IfOk, IfErr, IfSome, OnOk, OnErr};
 ghost use Rattle.gtp_counted.specs.Counts.{inner_of, failures_of, NoneFailed};
 ghost use Rattle.gtp_dump.specs.declared.decoding.DumpFault.TheVariants as faults;
 ghost use Rattle.gtp_dump.specs.Text.{IsBlank, IsBad};
 ghost use Rattle.gtp_dump.specs.Decoded.{nothing_read, bad_text, index_line, ShowsAs, ShowsOne, Shows, IsTold, IsToldInPart, AreTold, AreFirstTold, AreToldInPart, WriteFailed, WriteClosed};
+ghost use Rattle.gtp_dump.specs.Held.{reading_of, Stands, GoesOnAfter, lines_read, datagrams_begun, Moves, MovesInPart};
 
-use crate::flaw::{Flaw, flaw_of, put_flaw};
+use crate::entry::{Kept, Reading, goes_on, opening, read_alone};
+use crate::flaw::{Flaw, put_flaw};
 use crate::holding::next_line;
 use crate::text::{Dumped, LineFault, read_line};
 use gtp_counted::{Counted, Failed};
@@ -35,6 +37,8 @@ pub struct Asked {
     /// The plane of the datagrams whose lines do not name one; without it their version decides.
     pub plane: Option<Plane>,
     pub form: Form,
+    /// Whether lines of plain hexadecimal are joined, up to one that is none.
+    pub join: bool,
 }
 
 /// What came of the lines of a dump.
@@ -48,6 +52,15 @@ pub struct Tally {
     pub faulty: bool,
     /// Whether a line was no hexadecimal, or too long.
     pub bad: bool,
+}
+
+/// How far a dump was read and told.
+#[derive(Debug, Drop)]
+struct Progress {
+    /// What came of the lines that were told.
+    tally: Tally,
+    /// The lines that are held: those after them.
+    kept: Option<Kept>,
 }
 
 /// Why a dump was not read to its end.
@@ -164,28 +177,29 @@ fn bad_text(alloc: Global, number: u64, flaw: Flaw) -> Result<Vec<u8>, Memory>
     Ok(text)
 }
 
-/// Tells of a line, after these.
+/// Tells of so many lines what they give, after these.
 fn tell<W: Write, E: Write>(
     alloc: Global,
-    asked: Asked,
+    form: Form,
     before: Tally,
-    line: &[u8],
+    count: u64,
+    reading: &Reading,
     out: &mut Counted<W>,
     err: &mut Counted<E>,
 ) -> Result<Tally, DumpFault>
-    requires lines { before.lines < 2 ^ 64 - 1 }
-    requires datagrams { before.datagrams ≤ before.lines }
+    requires lines { before.lines + count < 2 ^ 64 }
+    requires datagrams { before.datagrams < 2 ^ 64 - 1 }
     requires writes { failures_of out.old < 2 ^ 64 - 1 }
     requires errors { failures_of err.old < 2 ^ 64 - 1 }
-    ensures told { IfOk result (λ after. IsTold asked before line.now after
+    ensures told { IfOk result (λ after. IsTold form before count (reading_of reading.now) after
         (W.contents (inner_of out.old)) (W.contents (inner_of out.new))
         (E.contents (inner_of err.old)) (E.contents (inner_of err.new))) }
     ensures front { IfErr result (λ fault. fault ≢ DumpFault.Memory →
-        IsToldInPart asked before line.now
+        IsToldInPart form before count (reading_of reading.now)
         (W.contents (inner_of out.old)) (W.contents (inner_of out.new))
         (E.contents (inner_of err.old)) (E.contents (inner_of err.new))) }
-    ensures number { IfOk result (λ after. after.lines ≡ before.lines + 1) }
-    ensures count { IfOk result (λ after. after.datagrams ≤ after.lines) }
+    ensures number { IfOk result (λ after. after.lines ≡ before.lines + count) }
+    ensures count { IfOk result (λ after. after.datagrams ≤ before.datagrams + 1) }
     ensures memory { result ≡ Err DumpFault.Memory → (out.new ≡ out.old) × (err.new ≡ err.old) }
     ensures write { result ≡ Err DumpFault.Write → WriteFailed out.old out.new err.old err.new }
     ensures closed { result ≡ Err DumpFault.Closed → WriteClosed out.old out.new err.old err.new }
@@ -194,43 +208,146 @@ fn tell<W: Write, E: Write>(
     ensures kind { IfErr result (λ fault. (fault ≡ DumpFault.Memory) ⊎ (fault ≡ DumpFault.Write)
         ⊎ (fault ≡ DumpFault.Closed)) }
 {
-    let number = before.lines + 1;
-    match read_line(alloc, asked.plane, line) {
-        Ok(None) => Ok(Tally {
-            lines: number,
-            ..before
-        }),
-        Ok(Some(dumped)) => {
-            let shown = shown(alloc, asked.form, before.datagrams, &dumped)?;
+    let lines = before.lines + count;
+    match reading {
+        Reading::Nothing => Ok(Tally { lines, ..before }),
+        Reading::Datagram(dumped) => {
+            let shown = shown(alloc, form, before.datagrams, dumped)?;
             if let Err(failed) = out.write_all(&shown.text) {
                 return Err(unwritten(failed));
             }
             Ok(Tally {
-                lines: number,
+                lines,
                 datagrams: before.datagrams + 1,
                 faulty: before.faulty | shown.faulty,
                 ..before
             })
         }
-        Err(LineFault::BadHex) => {
-            let text = bad_text(alloc, number, flaw_of(line))?;
+        Reading::Bad { number, flaw } => {
+            let text = bad_text(alloc, *number, *flaw)?;
             if let Err(failed) = err.write_all(&text) {
                 return Err(unwritten(failed));
             }
             Ok(Tally {
-                lines: number,
+                lines,
                 bad: true,
                 ..before
             })
         }
-        Err(LineFault::Memory) => Err(DumpFault::Memory),
     }
 }
 
-/// Decodes the datagrams of a dump, a line each, and tells what came of its lines. Before the lines of each datagram stands
-/// `datagram <index>`, which counts from 0; before an object none. For a line that is no hexadecimal, or has more than
-/// 1,048,576 octets with its line feed, `bad hex line <number>` is written as an error, and then a line that says why; lines
-/// count from 1. A line ends with a line feed, or with the text. No more than 1,048,577 octets of one are held.
+/// Tells of the lines that are held, where this line does not go on after them.
+fn end_held<W: Write, E: Write>(
+    alloc: Global,
+    asked: Asked,
+    before: Progress,
+    line: &[u8],
+    out: &mut Counted<W>,
+    err: &mut Counted<E>,
+) -> Result<Progress, DumpFault>
+    requires lines { lines_read before < 2 ^ 64 - 1 }
+    requires datagrams { datagrams_begun before ≤ lines_read before }
+    requires writes { failures_of out.old < 2 ^ 64 - 1 }
+    requires errors { failures_of err.old < 2 ^ 64 - 1 }
+    ensures moves { IfOk result (λ after. (held : List (List ℕ)) →
+        Stands asked.join before.tally.lines before.kept held →
+        Moves asked before held [] (λ next. next ≡ line.now) after
+        (W.contents (inner_of out.old)) (W.contents (inner_of out.new))
+        (E.contents (inner_of err.old)) (E.contents (inner_of err.new))) }
+    ensures goes { IfOk result (λ after. GoesOnAfter after.kept line.now) }
+    ensures front { IfErr result (λ fault. fault ≢ DumpFault.Memory → (held : List (List ℕ)) →
+        Stands asked.join before.tally.lines before.kept held →
+        MovesInPart asked before held [] (λ next. next ≡ line.now)
+        (W.contents (inner_of out.old)) (W.contents (inner_of out.new))
+        (E.contents (inner_of err.old)) (E.contents (inner_of err.new))) }
+    ensures number { IfOk result (λ after. lines_read after ≡ lines_read before) }
+    ensures count { IfOk result (λ after. datagrams_begun after ≤ datagrams_begun before) }
+    ensures memory { result ≡ Err DumpFault.Memory → (out.new ≡ out.old) × (err.new ≡ err.old) }
+    ensures write { result ≡ Err DumpFault.Write → WriteFailed out.old out.new err.old err.new }
+    ensures closed { result ≡ Err DumpFault.Closed → WriteClosed out.old out.new err.old err.new }
+    ensures output_on { OnOk result (NoneFailed out.old out.new) }
+    ensures errors_on { OnOk result (NoneFailed err.old err.new) }
+    ensures kind { IfErr result (λ fault. (fault ≡ DumpFault.Memory) ⊎ (fault ≡ DumpFault.Write)
+        ⊎ (fault ≡ DumpFault.Closed)) }
+{
+    let tally = before.tally;
+    match before.kept {
+        None => Ok(Progress { tally, kept: None }),
+        Some(kept) => {
+            if goes_on(&kept, line) {
+                return Ok(Progress {
+                    tally,
+                    kept: Some(kept),
+                });
+            }
+            let count = kept.lines;
+            let reading = kept.read(alloc, asked.plane, tally.lines)?;
+            match tell(alloc, asked.form, tally, count, &reading, out, err) {
+                Ok(tally) => Ok(Progress { tally, kept: None }),
+                Err(fault) => Err(fault),
+            }
+        }
+    }
+}
+
+/// Holds a line that goes on, or begins lines that are read together; tells of another.
+fn take_line<W: Write, E: Write>(
+    alloc: Global,
+    asked: Asked,
+    before: Progress,
+    line: &[u8],
+    out: &mut Counted<W>,
+    err: &mut Counted<E>,
+) -> Result<Progress, DumpFault>
+    requires goes { GoesOnAfter before.kept line.now }
+    requires lines { lines_read before < 2 ^ 64 - 1 }
+    requires datagrams { datagrams_begun before ≤ lines_read before }
+    requires writes { failures_of out.old < 2 ^ 64 - 1 }
+    requires errors { failures_of err.old < 2 ^ 64 - 1 }
+    ensures moves { IfOk result (λ after. (held : List (List ℕ)) →
+        Stands asked.join before.tally.lines before.kept held →
+        Moves asked before held (line.now ∷ []) (λ next. ⊤) after
+        (W.contents (inner_of out.old)) (W.contents (inner_of out.new))
+        (E.contents (inner_of err.old)) (E.contents (inner_of err.new))) }
+    ensures front { IfErr result (λ fault. fault ≢ DumpFault.Memory → (held : List (List ℕ)) →
+        Stands asked.join before.tally.lines before.kept held →
+        MovesInPart asked before held (line.now ∷ []) (λ next. ⊤)
+        (W.contents (inner_of out.old)) (W.contents (inner_of out.new))
+        (E.contents (inner_of err.old)) (E.contents (inner_of err.new))) }
+    ensures number { IfOk result (λ after. lines_read after ≡ lines_read before + 1) }
+    ensures count { IfOk result (λ after. datagrams_begun after ≤ datagrams_begun before + 1) }
+    ensures memory { result ≡ Err DumpFault.Memory → (out.new ≡ out.old) × (err.new ≡ err.old) }
+    ensures write { result ≡ Err DumpFault.Write → WriteFailed out.old out.new err.old err.new }
+    ensures closed { result ≡ Err DumpFault.Closed → WriteClosed out.old out.new err.old err.new }
+    ensures output_on { OnOk result (NoneFailed out.old out.new) }
+    ensures errors_on { OnOk result (NoneFailed err.old err.new) }
+    ensures kind { IfErr result (λ fault. (fault ≡ DumpFault.Memory) ⊎ (fault ≡ DumpFault.Write)
+        ⊎ (fault ≡ DumpFault.Closed)) }
+{
+    let tally = before.tally;
+    if let Some(kept) = before.kept {
+        let number = tally.lines + kept.lines + 1;
+        let kept = Some(kept.add(alloc, number, line)?);
+        return Ok(Progress { tally, kept });
+    }
+    if let Some(is_joined) = opening(asked.join, line) {
+        let kept = Some(Kept::none(alloc, is_joined).add(alloc, tally.lines + 1, line)?);
+        return Ok(Progress { tally, kept });
+    }
+    let reading = read_alone(alloc, asked.plane, tally.lines, line)?;
+    match tell(alloc, asked.form, tally, 1, &reading, out, err) {
+        Ok(tally) => Ok(Progress { tally, kept: None }),
+        Err(fault) => Err(fault),
+    }
+}
+
+/// Decodes the datagrams of a dump, and tells what came of its lines: one of each line, of the rows from an offset of 0 on, and if
+/// that is asked for of lines of plain hexadecimal up to one that is none. Before the lines of each datagram stands
+/// `datagram <index>`, which counts from 0; before an object none. For a line that is no hexadecimal, or with which a text of
+/// more than 1,048,576 octets is read together, `bad hex line <number>` is written as an error, and then a line that says why;
+/// lines count from 1. A line ends with a line feed, or with the text. No more than 1,048,577 octets of one are held, and of lines
+/// that are read together their digits. A line that stands alone is told before the next is read.
 ///
 /// `Read` if a read failed, `Write` if a write did, `Closed` if the reader of the output closed it, `Memory` if an allocation was
 /// refused, `TooLong` if there are 2^64 - 1 octets or more. What was written is that of the first lines, after `Write` and
@@ -272,16 +389,23 @@ pub fn decode_dump<R: BufRead, W: Write, E: Write>(
     ensures long { result ≡ Err DumpFault.TooLong →
         IfSome (R.remaining (inner_of reader.old)) (λ octets. 2 ^ 64 - 1 ≤ length octets) }
 {
-    let mut tally = Tally::nothing_read();
+    let mut progress = Progress {
+        tally: Tally::nothing_read(),
+        kept: None,
+    };
     let mut line = Vec::new(alloc);
     for _ in 0..u64::MAX {
         if let Err(fault) = next_line(reader, &mut line) {
             return Err(fault);
         }
+        progress = match end_held(alloc, asked, progress, &line, out, err) {
+            Ok(after) => after,
+            Err(fault) => return Err(fault),
+        };
         if line.is_empty() {
-            return Ok(tally);
+            return Ok(progress.tally);
         }
-        tally = match tell(alloc, asked, tally, &line, out, err) {
+        progress = match take_line(alloc, asked, progress, &line, out, err) {
             Ok(after) => after,
             Err(fault) => return Err(fault),
         };

@@ -1,7 +1,7 @@
 //! Why a line of a hex dump is bad.
 
 ghost use Rattle.std.specs.Prelude.{◌≡◌, ◌++◌, ◌-◌, OnOk};
-ghost use Rattle.gtp_dump.specs.Flaw.{from_wrong, octet_text, flaw_text, IsFlaw};
+ghost use Rattle.gtp_dump.specs.Flaw.{from_wrong, octet_text, flaw_text, IsFlaw, IsFlawFrom};
 
 use crate::text::{MOST_OCTETS, from_digit, named};
 use gtp_lines::text::{put, put_number};
@@ -32,14 +32,10 @@ fn from_wrong(text: &[u8]) -> &[u8]
     rest
 }
 
-/// Why a line is bad, of which it is known that it is.
-pub fn flaw_of(line: &[u8]) -> Flaw
-    ensures { IsFlaw line.now result }
+/// Why the text is bad with which a line ends, of which it is known that it is.
+pub fn flaw_from(line: &[u8], text: &[u8]) -> Flaw
+    ensures { IsFlawFrom line.now text.now result }
 {
-    if line.len() > MOST_OCTETS {
-        return Flaw::TooLong;
-    }
-    let (_, text) = named(line);
     let wrong = from_wrong(text);
     match wrong.first() {
         Some(octet) => Flaw::Character {
@@ -48,6 +44,17 @@ pub fn flaw_of(line: &[u8]) -> Flaw
         },
         None => Flaw::Odd,
     }
+}
+
+/// Why a line is bad, of which it is known that it is.
+pub fn flaw_of(line: &[u8]) -> Flaw
+    ensures { IsFlaw line.now result }
+{
+    if line.len() > MOST_OCTETS {
+        return Flaw::TooLong;
+    }
+    let (_, text) = named(line);
+    flaw_from(line, text)
 }
 
 /// Appends how an octet of a text is called.

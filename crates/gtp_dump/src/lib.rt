@@ -1,13 +1,18 @@
-//! Datagrams in text, as dumps and logs have them: hexadecimal digits, a datagram a line.
+//! Datagrams in text, as dumps and logs have them: hexadecimal digits, a datagram a line, in the rows of a dump, or in lines that
+//! are joined.
 #![tactic(auto)]
 
 mod decoding;
+mod entry;
 mod flaw;
+mod hint;
 mod holding;
+mod row;
 mod text;
 
 pub use decoding::{Asked, DumpFault, Form, Tally, decode_dump, decode_line};
 pub use flaw::{Flaw, flaw_of};
+pub use hint::{Hint, hint_of};
 pub use text::{Dumped, LineFault, MOST_OCTETS, read_line};
 
 /// What the signatures here name of the crates below.

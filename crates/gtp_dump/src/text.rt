@@ -1,8 +1,8 @@
 //! One line of a hex dump.
 
-ghost use Rattle.std.specs.Prelude.{◌≡◌, ◌≤◌, [], length, IsTrue, None, Ok, Err, IfOk, IfSome, IsErr};
+ghost use Rattle.std.specs.Prelude.{◌≡◌, ◌≤◌, [], length, slice_index, IsTrue, None, Ok, Err, IfOk, IfSome, IsErr};
 ghost use Rattle.hex.specs.Hex.{decode_of};
-ghost use Rattle.gtp_dump.specs.Text.{is_between, begins_prefix, from_digit, digits_in, HasOctets, Names, plane_by_version, Spells, IsBlank, IsBad};
+ghost use Rattle.gtp_dump.specs.Text.{is_between, begins_prefix, from_digit, digits_in, has_digits, HasOctets, Names, plane_by_version, Spells, IsBlank, IsBad};
 
 use gtp_values::{Memory, Plane};
 use hex::FromHexError;
@@ -30,6 +30,16 @@ pub enum LineFault {
     Memory,
 }
 
+/// The character at a place of a text, or 0 behind its end.
+pub fn octet_at(text: &[u8], place: usize) -> u8
+    ensures { result ≡ slice_index text.now place }
+{
+    match text.get(place) {
+        Some(c) => *c,
+        None => 0,
+    }
+}
+
 /// Whether a character may stand between octets: a blank, a colon or a comma.
 fn is_between(c: u8) -> bool
     ensures { result ≡ is_between c }
@@ -38,7 +48,7 @@ fn is_between(c: u8) -> bool
 }
 
 /// Whether a text of this character and what follows begins with `0x` or `0X`.
-fn begins_prefix(first: u8, after: &[u8]) -> bool
+pub fn begins_prefix(first: u8, after: &[u8]) -> bool
     ensures value { result ≡ begins_prefix first after.now }
     ensures one { IsTrue result → 1 ≤ length after.now }
 {
@@ -69,7 +79,7 @@ pub fn from_digit(text: &[u8]) -> &[u8]
 }
 
 /// The digits of a text.
-fn digits_in(alloc: Global, text: &[u8]) -> Result<Vec<u8>, Memory>
+pub fn digits_in(alloc: Global, text: &[u8]) -> Result<Vec<u8>, Memory>
     ensures { IfOk result (λ digits. digits.items ≡ digits_in text.now) }
 {
     let mut digits = Vec::with_capacity(alloc, text.len())?;
@@ -79,6 +89,13 @@ fn digits_in(alloc: Global, text: &[u8]) -> Result<Vec<u8>, Memory>
         rest = from_digit(after);
     }
     Ok(digits)
+}
+
+/// Whether a text has digits.
+pub fn has_digits(text: &[u8]) -> bool
+    ensures { result ≡ has_digits text.now }
+{
+    !from_digit(text).is_empty()
 }
 
 /// The octets of a text that has their digits and no more than blanks before and after them; none of any other text.
@@ -128,7 +145,7 @@ pub fn named(text: &[u8]) -> (Option<Plane>, &[u8])
 }
 
 /// The plane by the version of a datagram.
-fn plane_by_version(octets: &[u8]) -> Plane
+pub fn plane_by_version(octets: &[u8]) -> Plane
     ensures { result ≡ plane_by_version octets.now }
 {
     match octets.first() {

@@ -1,2 +1,3 @@
 pub mod Brief
+pub mod Filter
 pub mod Frames

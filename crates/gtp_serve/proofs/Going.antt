@@ -6,6 +6,8 @@ use Rattle.std.specs.Io.KnownBytes.{Appends, IsAtEnd}
 use Rattle.std.specs.Io.BufRead.{take_through, drop_through, DropsThrough}
 use Rattle.json.specs.Json.{Json}
 use Rattle.gtp_counted.specs.Lines.{BeginsWithLines}
+use Rattle.gtp_counted.specs.Streams.{WritesFront}
+use Rattle.gtp_counted.proofs.Written.{front_whole, front_after, front_before}
 use Rattle.gtp_counted.proofs.Lines.{is_known, content, none_yet, one_more, held_some, both_parts}
 use Rattle.gtp_gateway.specs.GatewayState.{GatewayState}
 use Rattle.gtp_json.specs.Tree.{line_of}
@@ -13,7 +15,7 @@ use Rattle.gtp_machine.specs.declared.role.Role.{Role}
 use Rattle.gtp_serve.specs.Answers.{Answers}
 use Rattle.gtp_serve.specs.Heads.{Head, head_in}
 use Rattle.gtp_serve.specs.Replies.{word_json}
-use Rattle.gtp_serve.specs.Served.{AnswersAll, AreAnswered, AreFirstAnswered, IsAnswered, Known, IsStarted, HasNoHead, IsServed, IsFirstServed, started}
+use Rattle.gtp_serve.specs.Served.{AnswersAll, AreAnswered, AreFirstAnswered, AreAnsweredInPart, IsAnswered, IsAnsweredInPart, Known, IsStarted, HasNoHead, IsServed, IsFirstServed, IsServedInPart, started}
 
 -- what is answered to lines, and to one more
 answers_more : (a b c : GatewayState) (lines : List (List ℕ)) (line text : List ℕ) (answer : Json) → AnswersAll a lines b text → Answers line b answer c → AnswersAll a (lines ++ line ∷ []) c (text ++ line_of answer)
@@ -79,6 +81,31 @@ first_answered (Some xs) (Some ys) begun now a b so = (ys, now, so)
 -- also where the last of them was not answered
 pub still_answered : (first old : Option (List ℕ)) (begun now : GatewayState) (a b c : Option (List ℕ)) → Goes first old begun now a b → b ≡ c → IfSome first (λ octets. AreFirstAnswered octets begun a c)
 still_answered first old begun now a b c so same = first_answered first old begun now a c (subst (λ w. Goes first old begun now a w) same so)
+
+-- all of their answers is a beginning of them
+pub all_in_part : (first old : Option (List ℕ)) (begun now : GatewayState) (a b : Option (List ℕ)) → Goes first old begun now a b → IfSome first (λ octets. AreAnsweredInPart octets begun a b)
+all_in_part None old begun now a b so = tt
+all_in_part (Some xs) None begun now a b so = absurd so
+all_in_part (Some xs) (Some ys) begun now a b so = record { lines = so.lines; rest = ys; last = now; text = so.text; begins = so.begins; answers = so.answers; written = front_whole a b so.text so.written }
+
+-- also where a beginning of the next answer was written
+pub next_in_part : (first old new : Option (List ℕ)) (begun before now : GatewayState) (held : List ℕ) (a b c : Option (List ℕ))
+    → Goes first old begun before a b → IfSome old (λ xs. held ≡ take 1048577 (take_through 10 xs)) → DropsThrough old new 10 → 0 < length held
+    → IsAnsweredInPart held before now b c → IfSome first (λ octets. AreAnsweredInPart octets begun a c)
+next_in_part None old new begun before now held a b c so is drops some told = tt
+next_in_part (Some xs) None new begun before now held a b c so is drops some told = absurd so
+next_in_part (Some xs) (Some ys) None begun before now held a b c so is drops some told = absurd (subst is_known (sym drops) tt)
+next_in_part (Some xs) (Some ys) (Some zs) begun before now held a b c so is drops some (answer, said, written) =
+    let whole = answers_whole (take_through 10 ys) before now answer (subst (λ l. Answers l before answer now) is said) in
+    record {
+      lines = so.lines ++ take_through 10 ys ∷ [];
+      rest = drop_through 10 ys;
+      last = now;
+      text = so.text ++ line_of answer;
+      begins = one_more xs so.lines ys so.begins (held_some 1048577 ys held is some);
+      answers = answers_more begun before now so.lines (take_through 10 ys) so.text answer so.answers whole;
+      written = front_after a b c so.text (line_of answer) so.written written;
+    }
 
 -- ---- the first line
 
@@ -148,3 +175,39 @@ pub long_whole : (a b : Option (List ℕ)) (role : Role) (new : GatewayState) �
 long_whole None b role new begun many = tt
 long_whole (Some xs) None role new begun many = absurd begun
 long_whole (Some xs) (Some ys) role new begun many = omega (arith, many, both_parts xs, ap length begun.rest)
+
+-- a beginning of the line that tells of the start
+pub start_in_part : (a b : Option (List ℕ)) (x y : Option (List ℕ)) (role : Role) (new : GatewayState) → Known (λ octets left. IsStarted octets left role new) a b
+    → WritesFront x y (line_of (word_json (codes "started"))) → IfSome a (λ octets. IsServedInPart octets x y)
+start_in_part None b x y role new begun told = tt
+start_in_part (Some xs) None x y role new begun told = absurd begun
+start_in_part (Some xs) (Some ys) x y role new begun told = inr (record {
+  head = begun.head;
+  fits = begun.fits;
+  says = begun.says;
+  lines = [];
+  rest = drop_through 10 xs;
+  last = started begun.head;
+  text = [];
+  begins = refl;
+  answers = (refl, refl);
+  written = front_before x y (line_of (word_json (codes "started"))) [] told;
+})
+
+-- and of the answers after it
+pub served_in_part : (a b : Option (List ℕ)) (x y z : Option (List ℕ)) (role : Role) (new : GatewayState) → Known (λ octets left. IsStarted octets left role new) a b → Appends x y (line_of (word_json (codes "started")))
+    → IfSome b (λ octets. AreAnsweredInPart octets new y z) → IfSome a (λ octets. IsServedInPart octets x z)
+served_in_part None b x y z role new begun told others = tt
+served_in_part (Some xs) None x y z role new begun told others = absurd begun
+served_in_part (Some xs) (Some ys) x y z role new begun told others = inr (record {
+  head = begun.head;
+  fits = begun.fits;
+  says = begun.says;
+  lines = others.lines;
+  rest = others.rest;
+  last = others.last;
+  text = others.text;
+  begins = subst (λ left. BeginsWithLines left others.lines others.rest) begun.rest others.begins;
+  answers = subst (λ s. AnswersAll s others.lines others.last others.text) begun.starts others.answers;
+  written = front_after x y z (line_of (word_json (codes "started"))) others.text told others.written;
+})

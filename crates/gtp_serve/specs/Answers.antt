@@ -79,3 +79,7 @@ Answers line old answer new =
 -- the line of an answer
 abbrev pub IsLineOf : (GatewayState → Json → GatewayState → Type 0) → GatewayState → GatewayState → List ℕ → Type 0
 IsLineOf Is old new text = (answer : Json) × Is old answer new × (text ≡ line_of answer)
+
+-- the gateway went on as some answer tells, also where nothing was told of it
+abbrev pub HasAnswer : (GatewayState → Json → GatewayState → Type 0) → GatewayState → GatewayState → Type 0
+HasAnswer Is old new = (answer : Json) × Is old answer new

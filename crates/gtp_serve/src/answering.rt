@@ -2,7 +2,7 @@
 
 ghost use Rattle.std.specs.Prelude.{◌≡◌, true, IfOk};
 ghost use Rattle.gtp_world.specs.Commands.{command_of, is_command};
-ghost use Rattle.gtp_serve.specs.Answers.{Does, OrStays, Answers, IsLineOf};
+ghost use Rattle.gtp_serve.specs.Answers.{Does, OrStays, Answers, IsLineOf, HasAnswer};
 ghost use Rattle.gtp_serve.specs.Asked.{IsAsked};
 ghost use Rattle.gtp_serve.specs.Requests.{Commands, Receives, Ticks};
 ghost use Rattle.gtp_serve.specs.Views.{request_by};
@@ -22,6 +22,8 @@ fn command_line(alloc: Global, gateway: &mut Gateway, event: &Event) -> Result<V
     requires { is_command event.now ≡ true }
     ensures answered { IfOk result (λ text. IsLineOf
         (OrStays (Does (Commands (command_of event.now)))) gateway.old gateway.new text.items) }
+    ensures done { HasAnswer
+        (OrStays (Does (Commands (command_of event.now)))) gateway.old gateway.new }
     ensures role { gateway.new.role ≡ gateway.old.role }
 {
     match tell(gateway, alloc, event) {
@@ -42,6 +44,8 @@ fn receive_line(
 ) -> Result<Vec<u8>, AllocError>
     ensures answered { IfOk result (λ text. IsLineOf
         (OrStays (Does (Receives plane source octets.now))) gateway.old gateway.new text.items) }
+    ensures done { HasAnswer
+        (OrStays (Does (Receives plane source octets.now))) gateway.old gateway.new }
     ensures role { gateway.new.role ≡ gateway.old.role }
 {
     match gateway.receive(alloc, source, plane, octets) {
@@ -53,6 +57,7 @@ fn receive_line(
 /// Lets a tick pass, and the line that answers it.
 fn tick_line(alloc: Global, gateway: &mut Gateway) -> Result<Vec<u8>, AllocError>
     ensures answered { IfOk result (λ text. IsLineOf (OrStays (Does Ticks)) gateway.old gateway.new text.items) }
+    ensures done { HasAnswer (OrStays (Does Ticks)) gateway.old gateway.new }
     ensures role { gateway.new.role ≡ gateway.old.role }
 {
     match gateway.tick(alloc) {
@@ -72,6 +77,7 @@ fn request_line(
     requires role { role ≡ gateway.old.role }
     ensures answered { IfOk result (λ text. IsLineOf
         (OrStays (Does (request_by request.now))) gateway.old gateway.new text.items) }
+    ensures done { HasAnswer (OrStays (Does (request_by request.now))) gateway.old gateway.new }
     ensures role { gateway.new.role ≡ gateway.old.role }
 {
     match request {
@@ -86,8 +92,8 @@ fn request_line(
     }
 }
 
-/// Answers a line to a gateway of this role: the line of the answer. The error is that an allocation was refused for it; what
-/// was asked may be done then.
+/// Answers a line to a gateway of this role: the line of the answer. The error is that an allocation was refused for it: then
+/// nothing has changed, or what the line asks was done.
 pub fn answer(
     alloc: Global,
     role: Role,
@@ -96,6 +102,7 @@ pub fn answer(
 ) -> Result<Vec<u8>, AllocError>
     requires { role ≡ gateway.old.role }
     ensures answered { IfOk result (λ text. IsLineOf (Answers line.now) gateway.old gateway.new text.items) }
+    ensures done { HasAnswer (Answers line.now) gateway.old gateway.new }
     ensures role { gateway.new.role ≡ gateway.old.role }
 {
     if line.len() > MOST_OCTETS {

@@ -62,8 +62,8 @@ fn reason_for(alloc: Global, line: &[u8]) -> Result<HeadReason, Memory>
 /// Why a line says no gateway, and `None` where it says one. It reads the line again, so call it only after `serve` has refused
 /// it. `Memory` if an allocation was refused.
 ///
-/// Of several flaws it tells one: `role` comes before the other keys of the head, an unknown key before those that are missing or
-/// bad, which come in the order of `docs/FORMATS.md`, and the keys of the head before those of its `peer`.
+/// Of several flaws it tells one; of the keys of an object that are missing or bad the first, in the order of `docs/FORMATS.md`.
+/// Which of two kinds of flaw it tells, no clause says.
 pub fn head_reason(alloc: Global, line: &[u8]) -> Result<Option<HeadReason>, Memory>
     // There is a reason exactly where the line says no gateway, and what it says of the line is so.
     ensures { IfOk result (λ reason. MatchOption reason (SaysGateway line.now) (IsWhy line.now)) }

@@ -1,11 +1,12 @@
 //! Lines in, lines out.
 
-ghost use Rattle.std.specs.Prelude.{◌≡◌, ◌≢◌, ◌⊎◌, ◌-◌, ◌^◌, ◌<◌, ◌≤◌, [], length, take, Err, IfOk, IfErr, IfSome, OnOk};
+ghost use Rattle.std.specs.Prelude.{◌≡◌, ◌≢◌, ◌⊎◌, ◌-◌, ◌^◌, ◌<◌, ◌≤◌, [], length, take, Err, IfOk, IfErr, IfSome, OnOk, OnErr};
 ghost use Rattle.std.specs.Io.BufRead.{take_through, DropsThrough};
 ghost use Rattle.std.specs.Io.KnownBytes.{Appends, IsAtEnd};
 ghost use Rattle.gtp_counted.specs.Counts.{inner_of, failures_of};
+ghost use Rattle.gtp_counted.specs.Streams.{WritesFront};
 ghost use Rattle.gtp_serve.specs.Stops.{TellsReads, TellsWrites};
-ghost use Rattle.gtp_serve.specs.Served.{AreAnswered, AreFirstAnswered, IsAnswered, Known, IsStarted, IsServed, IsFirstServed, HasNoHead};
+ghost use Rattle.gtp_serve.specs.Served.{AreAnswered, AreFirstAnswered, AreAnsweredInPart, IsAnswered, IsAnsweredInPart, Known, IsStarted, IsServed, IsFirstServed, IsServedInPart, HasNoHead};
 
 use crate::answering::{MOST_OCTETS, answer};
 use crate::head::head_in;
@@ -60,6 +61,8 @@ fn write_line<W: Write>(writer: &mut Counted<W>, line: &[u8]) -> Result<(), Serv
     requires { failures_of writer.old < 2 ^ 64 - 1 }
     ensures written { OnOk result (Appends
         (W.contents (inner_of writer.old)) (W.contents (inner_of writer.new)) line.now) }
+    ensures front { WritesFront
+        (W.contents (inner_of writer.old)) (W.contents (inner_of writer.new)) line.now }
     ensures writes { TellsWrites result writer.old writer.new }
     ensures kind { IfErr result (λ fault. (fault ≡ ServeFault.Write) ⊎ (fault ≡ ServeFault.Closed)) }
 {
@@ -107,6 +110,8 @@ fn answer_line<W: Write>(
     requires writes { failures_of writer.old < 2 ^ 64 - 1 }
     ensures answered { OnOk result (IsAnswered line.now gateway.old gateway.new
         (W.contents (inner_of writer.old)) (W.contents (inner_of writer.new))) }
+    ensures front { IsAnsweredInPart line.now gateway.old gateway.new
+        (W.contents (inner_of writer.old)) (W.contents (inner_of writer.new)) }
     ensures role { gateway.new.role ≡ gateway.old.role }
     ensures memory { result ≡ Err ServeFault.Memory → writer.new ≡ writer.old }
     ensures writes { TellsWrites result writer.old writer.new }
@@ -136,6 +141,9 @@ fn answer_lines<R: BufRead, W: Write>(
         (W.contents (inner_of writer.old)) (W.contents (inner_of writer.new)))) }
     ensures first { IfErr result (λ fault. fault ≢ ServeFault.Write → fault ≢ ServeFault.Closed →
         IfSome (R.remaining (inner_of reader.old)) (λ octets. AreFirstAnswered octets gateway.old
+        (W.contents (inner_of writer.old)) (W.contents (inner_of writer.new)))) }
+    ensures front { OnErr result (IfSome (R.remaining (inner_of reader.old)) (λ octets.
+        AreAnsweredInPart octets gateway.old
         (W.contents (inner_of writer.old)) (W.contents (inner_of writer.new)))) }
     ensures long { result ≡ Err ServeFault.TooLong →
         IfSome (R.remaining (inner_of reader.old)) (λ octets. 2 ^ 64 - 1 ≤ length octets) }
@@ -207,8 +215,8 @@ fn start<R: BufRead>(
 /// `BadHead` if the first line says no gateway: nothing was written, and `head_line` is that line, or its first 1,048,577 octets, of
 /// which `head_reason` says what is wrong. `Read` if a read failed, `Write` if a write did, `Closed` if
 /// the reader of the output closed it, `Memory` if an allocation was refused for the first line, for holding a line or for an
-/// answer, `TooLong` if there are 2^64 - 1 octets or more: except after `Write` and `Closed`, what was written is the answers to
-/// the first lines.
+/// answer, `TooLong` if there are 2^64 - 1 octets or more. What was written is the answers to the first lines, after `Write` and
+/// `Closed` a beginning of them.
 pub fn serve<R: BufRead, W: Write>(
     alloc: Global,
     reader: &mut Counted<R>,
@@ -227,6 +235,8 @@ pub fn serve<R: BufRead, W: Write>(
     ensures first { IfErr result (λ fault. fault ≢ ServeFault.Write → fault ≢ ServeFault.Closed →
         IfSome (R.remaining (inner_of reader.old)) (λ octets. IsFirstServed octets
         (W.contents (inner_of writer.old)) (W.contents (inner_of writer.new)))) }
+    ensures front { OnErr result (IfSome (R.remaining (inner_of reader.old)) (λ octets.
+        IsServedInPart octets (W.contents (inner_of writer.old)) (W.contents (inner_of writer.new)))) }
     ensures long { result ≡ Err ServeFault.TooLong →
         IfSome (R.remaining (inner_of reader.old)) (λ octets. 2 ^ 64 - 1 ≤ length octets) }
     ensures reads { TellsReads result reader.old reader.new }

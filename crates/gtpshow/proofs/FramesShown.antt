@@ -16,22 +16,23 @@ use Rattle.gtp_capture.specs.Seen.{Seen, seen_as, seen_in, datagrams, Takes}
 use Rattle.gtp_capture.specs.declared.captured.Time.{Time}
 use Rattle.gtp_capture.proofs.Lengths.{frames_fit}
 use Rattle.gtp_capture.specs.declared.ports.Ports.{Ports}
-use Rattle.gtpshow.specs.declared.capturing.CaptureForm.{CaptureForm}
+use Rattle.gtpshow.specs.declared.capturing.FramesAsked.{FramesAsked}
 use Rattle.gtp_capture.specs.Outcome.{IsRead, HandsOnSome, StopsAt, TakesSome, TakesNoMore}
 use Rattle.gtp_capture.specs.declared.fault.CaptureFault.TheVariants.{Broken}
-use Rattle.gtpshow.specs.Captured.{nothing_shown, is_cut, counted, AreShown, TakesFrame, IsFull, IsUnshown, RefusesFrame, AreWritten, IsBrokenShown, IsFirstShown}
+use Rattle.gtpshow.specs.Captured.{nothing_shown, is_cut, counted, AreShown, TakesFrame, IsFull, IsUnshown, IsFrameInPart, RefusesFrame, AreWritten, IsBrokenShown, IsFirstShown, IsNextShown}
 use Rattle.gtpshow.specs.Stops.{StopsCapture}
 use Rattle.gtpshow.specs.declared.command.Failure.{Failure}
-use Rattle.gtpshow.specs.declared.command.Failure.TheVariants.{BadWords, BadPort, BadHex, BadCode, BadGateway, BadCapture, BrokenCapture, Memory, Read, TooLong, Write, Closed, NoPacket}
+use Rattle.gtpshow.specs.declared.command.Failure.TheVariants.{BadWords, BadPort, BadFilter, BadHex, BadCode, BadGateway, BadCapture, BrokenCapture, Memory, Read, TooLong, Write, Closed, NoPacket}
 use Rattle.gtpshow.specs.declared.capturing.Counts.{Counts}
 use Rattle.gtpshow.specs.declared.capturing.FrameWriter.{FrameWriter}
 
 -- what a writer has by datagrams
 pub record HasShown {W : Type 0} (contents : W → Option (List ℕ)) (before : FrameWriter W) (ds : List Seen) (after : FrameWriter W) : Type 0 where
   pub text : List ℕ
-  pub lines : AreShown before.form before.counts ds text after.counts
+  pub lines : AreShown before.asked before.counts ds text after.counts
   pub written : Appends (contents (inner_of before.out)) (contents (inner_of after.out)) text
   pub failed : NoneFailed before.out after.out
+  pub asked : after.asked ≡ before.asked
 
 appends_nothing : (known : Option (List ℕ)) → Appends known known []
 appends_nothing None = tt
@@ -44,37 +45,48 @@ has_shown contents before [] after same =
       lines = (refl, sym (ap (λ (w : FrameWriter _). w.counts) same));
       written = subst (λ (w : FrameWriter _). Appends (contents (inner_of before.out)) (contents (inner_of w.out)) []) same (appends_nothing (contents (inner_of before.out)));
       failed = sym (ap (λ (w : FrameWriter _). failures_of w.out) same);
+      asked = sym (ap (λ (w : FrameWriter _). w.asked) same);
     }
-has_shown contents before (d ∷ ds) after (next, (lines, faulty, shows, form, written, counts, failed), later) =
+has_shown contents before (d ∷ ds) after (next, inl (out, same), later) =
     let rest = has_shown contents next ds after later in
-    let others : AreShown before.form (counted before.counts d.packet faulty) ds rest.text after.counts =
-    subst (λ (f : CaptureForm). AreShown f (counted before.counts d.packet faulty) ds rest.text after.counts) form (subst (λ (c : Counts). AreShown next.form c ds rest.text after.counts) counts rest.lines) in
+    record {
+      text = rest.text;
+      lines = inl (out, subst (λ (w : FrameWriter _). AreShown w.asked w.counts ds rest.text after.counts) same rest.lines);
+      written = subst (λ (w : FrameWriter _). Appends (contents (inner_of w.out)) (contents (inner_of after.out)) rest.text) same rest.written;
+      failed = rest.failed ∙ ap (λ (w : FrameWriter _). failures_of w.out) same;
+      asked = rest.asked ∙ ap (λ (w : FrameWriter _). w.asked) same;
+    }
+has_shown contents before (d ∷ ds) after (next, inr (lines, faulty, shows, form, written, counts, failed), later) =
+    let rest = has_shown contents next ds after later in
+    let others : AreShown before.asked (counted before.counts d.packet faulty) ds rest.text after.counts =
+    subst (λ (f : FramesAsked). AreShown f (counted before.counts d.packet faulty) ds rest.text after.counts) form (subst (λ (c : Counts). AreShown next.asked c ds rest.text after.counts) counts rest.lines) in
     record {
       text = lines ++ rest.text;
-      lines = (lines, faulty, rest.text, shows, others, refl);
+      lines = inr (lines, faulty, rest.text, shows, others, refl);
       written = Appends-trans (contents (inner_of before.out)) (contents (inner_of next.out)) (contents (inner_of after.out)) lines rest.text written rest.written;
       failed = rest.failed ∙ failed;
+      asked = rest.asked ∙ form;
     }
 
 pub same_failure : (a b : Failure) → ◌≡◌ {A = Result ℕ Failure} (Err a) (Err b) → a ≡ b
 same_failure a b e = cc
 
 -- so the writer has the lines of these frames' datagrams, and counts them
-pub frames_shown : {W : Type 0} (contents : W → Option (List ℕ)) (ports : Ports) (before after : FrameWriter W) (frames : List Frame) → before.counts ≡ nothing_shown → Takes (TakesFrame contents) before (datagrams ports 1 frames) after → AreWritten before.form ports frames (contents (inner_of before.out)) (contents (inner_of after.out)) after.counts
+pub frames_shown : {W : Type 0} (contents : W → Option (List ℕ)) (ports : Ports) (before after : FrameWriter W) (frames : List Frame) → before.counts ≡ nothing_shown → Takes (TakesFrame contents) before (datagrams ports 1 frames) after → AreWritten before.asked ports frames (contents (inner_of before.out)) (contents (inner_of after.out)) after.counts
 frames_shown contents ports before after frames none taken =
     let shown = has_shown contents before (datagrams ports 1 frames) after taken in
     record {
       text = shown.text;
-      lines = subst (λ (c : Counts). AreShown before.form c (datagrams ports 1 frames) shown.text after.counts) none shown.lines;
+      lines = subst (λ (c : Counts). AreShown before.asked c (datagrams ports 1 frames) shown.text after.counts) none shown.lines;
       written = shown.written;
     }
 
 -- where no record or block stands from an octet on, those of the frames before it
-pub broken_shown : {W : Type 0} (contents : W → Option (List ℕ)) (ports : Ports) (file : List ℕ) (before after : FrameWriter W) (at : ℕ) → before.counts ≡ nothing_shown → IsRead ports (TakesFrame contents) RefusesFrame file before after (Err (Broken at)) → IsBrokenShown before.form ports file (contents (inner_of before.out)) (contents (inner_of after.out)) at
+pub broken_shown : {W : Type 0} (contents : W → Option (List ℕ)) (ports : Ports) (file : List ℕ) (before after : FrameWriter W) (at : ℕ) → before.counts ≡ nothing_shown → IsRead ports (TakesFrame contents) (RefusesFrame contents) file before after (Err (Broken at)) → IsBrokenShown before.asked ports file (contents (inner_of before.out)) (contents (inner_of after.out)) at
 broken_shown contents ports file before after at none (state, frames, rest, hands, broken, place) = (state, frames, rest, after.counts, hands.capture, broken, place, frames_shown contents ports before after frames none hands.taken)
 
 -- where a read failed or memory was wanting, those of some first frames, or none
-pub first_shown : {W : Type 0} (contents : W → Option (List ℕ)) (ports : Ports) (file : List ℕ) (before after : FrameWriter W) → before.counts ≡ nothing_shown → HandsOnSome ports (TakesFrame contents) file before after → IsFirstShown before.form ports file (contents (inner_of before.out)) (contents (inner_of after.out))
+pub first_shown : {W : Type 0} (contents : W → Option (List ℕ)) (ports : Ports) (file : List ℕ) (before after : FrameWriter W) → before.counts ≡ nothing_shown → HandsOnSome ports (TakesFrame contents) file before after → IsFirstShown before.asked ports file (contents (inner_of before.out)) (contents (inner_of after.out))
 first_shown contents ports file before after none (inl same) = inl (ap (λ (w : FrameWriter _). contents (inner_of w.out)) same)
 first_shown contents ports file before after none (inr (state, frames, rest, hands)) = inr (state, frames, rest, after.counts, hands.capture, frames_shown contents ports before after frames none hands.taken)
 
@@ -93,6 +105,7 @@ refusal_by before middle after Write few kept is = let failed = is (omega (arith
 refusal_by before middle after Closed few kept is = let failed = is (omega (arith, few, kept)) in (failed.0 ∙ ap (λ n. n + 1) kept, failed.1)
 refusal_by before middle after BadWords few kept is = absurd is
 refusal_by before middle after BadPort few kept is = absurd is
+refusal_by before middle after BadFilter few kept is = absurd is
 refusal_by before middle after BadHex few kept is = absurd is
 refusal_by before middle after BadCode few kept is = absurd is
 refusal_by before middle after BadGateway few kept is = absurd is
@@ -102,17 +115,17 @@ refusal_by before middle after Read few kept is = absurd is
 refusal_by before middle after (NoPacket number) few kept is = absurd is
 
 -- why the writer notes that it did not show one
-noted_why : {W : Type 0} (middle after : FrameWriter W) (d : Seen) (why : Failure) → RefusesFrame middle d after → after.unshown ≡ Some why → IsUnshown why middle after
-noted_why middle after d why (noted, says, is) also =
+noted_why : {W : Type 0} (contents : W → Option (List ℕ)) (middle after : FrameWriter W) (d : Seen) (why : Failure) → RefusesFrame contents middle d after → after.unshown ≡ Some why → IsUnshown why middle after
+noted_why contents middle after d why (noted, says, is, front) also =
     let same : noted ≡ why = cc in
     subst (λ (f : Failure). IsUnshown f middle after) same is
 
-pub noted_as : {W : Type 0} (takes : FrameWriter W → Seen → FrameWriter W → Type 0) (before after : FrameWriter W) (why : Failure) → TakesNoMore takes RefusesFrame before after → why ≡ unwrap_or after.unshown Memory → after.unshown ≡ Some why
-noted_as takes before after why (middle, d, took, (noted, says, is)) told = says ∙ ap (λ (f : Failure). Some f) (sym (told ∙ ap (λ (o : Option Failure). unwrap_or o Memory) says))
+pub noted_as : {W : Type 0} (contents : W → Option (List ℕ)) (takes : FrameWriter W → Seen → FrameWriter W → Type 0) (before after : FrameWriter W) (why : Failure) → TakesNoMore takes (RefusesFrame contents) before after → why ≡ unwrap_or after.unshown Memory → after.unshown ≡ Some why
+noted_as contents takes before after why (middle, d, took, (noted, says, is, front)) told = says ∙ ap (λ (f : Failure). Some f) (sym (told ∙ ap (λ (o : Option Failure). unwrap_or o Memory) says))
 
-pub refusal : {W : Type 0} (contents : W → Option (List ℕ)) (before after : FrameWriter W) (why : Failure) → failures_of before.out < 2 ^ 64 - 1 → TakesNoMore (TakesFrame contents) RefusesFrame before after → after.unshown ≡ Some why → Refusal why before after
+pub refusal : {W : Type 0} (contents : W → Option (List ℕ)) (before after : FrameWriter W) (why : Failure) → failures_of before.out < 2 ^ 64 - 1 → TakesNoMore (TakesFrame contents) (RefusesFrame contents) before after → after.unshown ≡ Some why → Refusal why before after
 refusal contents before after why few (middle, d, took, refused) noted =
-    refusal_by before middle after why few (has_shown contents before took.0 middle took.1).failed (noted_why middle after d why refused noted)
+    refusal_by before middle after why few (has_shown contents before took.0 middle took.1).failed (noted_why contents middle after d why refused noted)
 
 -- no write failed, if it is not that
 pub refusal_else : {W : Type 0} (before after : FrameWriter W) (why : Failure) → Refusal why before after → why ≢ Write → why ≢ Closed → NoneFailed before.out after.out
@@ -122,6 +135,7 @@ refusal_else before after Write is unwritten unclosed = absurd (unwritten refl)
 refusal_else before after Closed is unwritten unclosed = absurd (unclosed refl)
 refusal_else before after BadWords is unwritten unclosed = absurd is
 refusal_else before after BadPort is unwritten unclosed = absurd is
+refusal_else before after BadFilter is unwritten unclosed = absurd is
 refusal_else before after BadHex is unwritten unclosed = absurd is
 refusal_else before after BadCode is unwritten unclosed = absurd is
 refusal_else before after BadGateway is unwritten unclosed = absurd is
@@ -137,6 +151,7 @@ refusal_stops before after Write is = tt
 refusal_stops before after Closed is = tt
 refusal_stops before after BadWords is = absurd is
 refusal_stops before after BadPort is = absurd is
+refusal_stops before after BadFilter is = absurd is
 refusal_stops before after BadHex is = absurd is
 refusal_stops before after BadCode is = absurd is
 refusal_stops before after BadGateway is = absurd is
@@ -168,11 +183,11 @@ nothing_more middle after why (inl memory) is = subst (λ (f : Failure). IsUnsho
 nothing_more middle after why (inr long) is = (subst (λ (f : Failure). IsUnshown f middle after) long is).0
 
 -- so too where the writer wanted memory, or a count was at its end
-pub first_refused : {W : Type 0} (contents : W → Option (List ℕ)) (ports : Ports) (file : List ℕ) (before after : FrameWriter W) (why : Failure) → before.counts ≡ nothing_shown → after.unshown ≡ Some why → (why ≡ Memory) ⊎ (why ≡ TooLong) → StopsAt ports (TakesFrame contents) RefusesFrame file before after → IsFirstShown before.form ports file (contents (inner_of before.out)) (contents (inner_of after.out))
+pub first_refused : {W : Type 0} (contents : W → Option (List ℕ)) (ports : Ports) (file : List ℕ) (before after : FrameWriter W) (why : Failure) → before.counts ≡ nothing_shown → after.unshown ≡ Some why → (why ≡ Memory) ⊎ (why ≡ TooLong) → StopsAt ports (TakesFrame contents) (RefusesFrame contents) file before after → IsFirstShown before.asked ports file (contents (inner_of before.out)) (contents (inner_of after.out))
 first_refused contents ports file before after why none noted which stops =
-    let same = nothing_more stops.middle after why which (noted_why stops.middle after stops.refused.0 why stops.refused.2 noted) in
+    let same = nothing_more stops.middle after why which (noted_why contents stops.middle after stops.refused.0 why stops.refused.2 noted) in
     let written = frames_shown contents ports before stops.middle stops.frames none stops.taken.taken in
-    inr (stops.state, stops.frames, stops.rest, stops.middle.counts, stops.taken.capture, subst (λ (w : Counted _). AreWritten before.form ports stops.frames (contents (inner_of before.out)) (contents (inner_of w)) stops.middle.counts) (sym same) written)
+    inr (stops.state, stops.frames, stops.rest, stops.middle.counts, stops.taken.capture, subst (λ (w : Counted _). AreWritten before.asked ports stops.frames (contents (inner_of before.out)) (contents (inner_of w)) stops.middle.counts) (sym same) written)
 
 -- no more is counted than there are datagrams
 pub record AtMost (most : ℕ) (c : Counts) : Type 0 where
@@ -193,15 +208,18 @@ one_more most c p faulty few = record {
   fragments = omega (arith, few.fragments, bool_few p.fragment);
 }
 
-shown_few : (form : CaptureForm) (most : ℕ) (before : Counts) (ds : List Seen) (text : List ℕ) (after : Counts) → AtMost most before → AreShown form before ds text after → AtMost (most + length ds) after
-shown_few form most before [] text after few (none, same) = record {
+shown_few : (asked : FramesAsked) (most : ℕ) (before : Counts) (ds : List Seen) (text : List ℕ) (after : Counts) → AtMost most before → AreShown asked before ds text after → AtMost (most + length ds) after
+shown_few asked most before [] text after few (none, same) = record {
   gtp = omega (arith, few.gtp, ap (λ (c : Counts). c.gtp) same);
   faults = omega (arith, few.faults, ap (λ (c : Counts). c.faults) same);
   cut = omega (arith, few.cut, ap (λ (c : Counts). c.cut) same);
   fragments = omega (arith, few.fragments, ap (λ (c : Counts). c.fragments) same);
 }
-shown_few form most before (d ∷ ds) text after few (lines, faulty, rest, shows, more, joined) =
-    let later = shown_few form (most + 1) (counted before d.packet faulty) ds rest after (one_more most before d.packet faulty few) more in
+shown_few asked most before (d ∷ ds) text after few (inl (out, more)) =
+    let later = shown_few asked most before ds text after few more in
+    record { gtp = omega (arith, later.gtp); faults = omega (arith, later.faults); cut = omega (arith, later.cut); fragments = omega (arith, later.fragments) }
+shown_few asked most before (d ∷ ds) text after few (inr (lines, faulty, rest, shows, more, joined)) =
+    let later = shown_few asked (most + 1) (counted before d.packet faulty) ds rest after (one_more most before d.packet faulty few) more in
     record { gtp = omega (arith, later.gtp); faults = omega (arith, later.faults); cut = omega (arith, later.cut); fragments = omega (arith, later.fragments) }
 
 seen_few : (n : ℕ) (time : Time) (p : Option Packet) → length (seen_as n time p) ≤ 1
@@ -220,10 +238,36 @@ full_long most c few (inr (inr (inl is))) = omega (arith, is, few.cut)
 full_long most c few (inr (inr (inr is))) = omega (arith, is, few.fragments)
 
 -- a count is at its end only in a file of so many octets
-pub long_refused : {W : Type 0} (contents : W → Option (List ℕ)) (ports : Ports) (file : List ℕ) (before after : FrameWriter W) → before.counts ≡ nothing_shown → after.unshown ≡ Some TooLong → StopsAt ports (TakesFrame contents) RefusesFrame file before after → 2 ^ 64 - 1 ≤ length file
+pub long_refused : {W : Type 0} (contents : W → Option (List ℕ)) (ports : Ports) (file : List ℕ) (before after : FrameWriter W) → before.counts ≡ nothing_shown → after.unshown ≡ Some TooLong → StopsAt ports (TakesFrame contents) (RefusesFrame contents) file before after → 2 ^ 64 - 1 ≤ length file
 long_refused contents ports file before after none noted stops =
     let written = frames_shown contents ports before stops.middle stops.frames none stops.taken.taken in
-    let full = (noted_why stops.middle after stops.refused.0 TooLong stops.refused.2 noted).1 in
+    let full = (noted_why contents stops.middle after stops.refused.0 TooLong stops.refused.2 noted).1 in
     let nothing : AtMost 0 nothing_shown = record { gtp = omega arith; faults = omega arith; cut = omega arith; fragments = omega arith } in
-    let few = shown_few before.form 0 nothing_shown (datagrams ports 1 stops.frames) written.text stops.middle.counts nothing written.lines in
+    let few = shown_few before.asked 0 nothing_shown (datagrams ports 1 stops.frames) written.text stops.middle.counts nothing written.lines in
     omega (arith, full_long (0 + length (datagrams ports 1 stops.frames)) stops.middle.counts few full, datagrams_few ports 1 stops.frames, frames_fit file stops.state stops.frames stops.rest stops.taken.capture)
+
+-- a beginning of the lines of the datagram at which a write failed
+front_noted : {W : Type 0} (contents : W → Option (List ℕ)) (middle after : FrameWriter W) (d : Seen) (why : Failure) → RefusesFrame contents middle d after → after.unshown ≡ Some why → (why ≡ Write) ⊎ (why ≡ Closed) → IsFrameInPart middle.asked d (contents (inner_of middle.out)) (contents (inner_of after.out))
+front_noted contents middle after d why (noted, says, is, front) also which =
+    let same : noted ≡ why = cc in
+    front (subst (λ (f : Failure). (f ≡ Write) ⊎ (f ≡ Closed)) (sym same) which)
+
+pub next_shown : {W : Type 0} (contents : W → Option (List ℕ)) (ports : Ports) (file : List ℕ) (before after : FrameWriter W) (why : Failure) → before.counts ≡ nothing_shown → after.unshown ≡ Some why → (why ≡ Write) ⊎ (why ≡ Closed) → StopsAt ports (TakesFrame contents) (RefusesFrame contents) file before after → IsNextShown before.asked ports file (contents (inner_of before.out)) (contents (inner_of after.out))
+next_shown contents ports file before after why none noted which stops =
+    let (d, carries, refuses) = stops.refused in
+    let form = (has_shown contents before (datagrams ports 1 stops.frames) stops.middle stops.taken.taken).asked in
+    record {
+      state = stops.state;
+      frames = stops.frames;
+      rest = stops.rest;
+      capture = stops.taken.capture;
+      shown = contents (inner_of stops.middle.out);
+      counts = stops.middle.counts;
+      written = frames_shown contents ports before stops.middle stops.frames none stops.taken.taken;
+      next = stops.next;
+      later = stops.later;
+      stands = stops.stands;
+      datagram = d;
+      carries = carries;
+      front = subst (λ (f : FramesAsked). IsFrameInPart f d (contents (inner_of stops.middle.out)) (contents (inner_of after.out))) form (front_noted contents stops.middle after d why refuses noted which);
+    }

@@ -4,3 +4,4 @@ pub mod Shown
 pub mod Replayed
 pub mod Words
 pub mod Captured
+pub mod Flags

@@ -2,6 +2,7 @@
 use Rattle.std.specs.Prelude.{◌≡◌, ℕ, Bool, true, false, if◌then◌else◌, List, [], Option, Ok}
 use Rattle.std.specs.Io.KnownBytes.{Appends}
 use Rattle.hex.specs.Hex.{decode_of}
+use Rattle.gtp_counted.specs.Streams.{WritesFront}
 use Rattle.gtp_values.specs.declared.plane.Plane.{Plane}
 use Rattle.gtp_lines.specs.Lines.{LinesOf}
 use Rattle.gtp_dump.specs.Decoded.{ShowsOne, AreTold}
@@ -19,10 +20,19 @@ IsShown plane digits before now status =
     (octets : List ℕ) × (text : List ℕ) × (faulty : Bool) × (decode_of digits ≡ Ok octets) × LinesOf plane octets text faulty
     × Appends before now text × (status ≡ status_shown faulty)
 
+-- or a beginning of them
+abbrev pub IsShownInPart : Plane → List ℕ → Option (List ℕ) → Option (List ℕ) → Type 0
+IsShownInPart plane digits before now =
+    (octets : List ℕ) × (text : List ℕ) × (faulty : Bool) × (decode_of digits ≡ Ok octets) × LinesOf plane octets text faulty × WritesFront before now text
+
 -- the word spells a datagram, as a line of a dump does, and this was written of it
 abbrev pub IsWordShown : Asked → List ℕ → Option (List ℕ) → Option (List ℕ) → ℕ → Type 0
 IsWordShown asked word before now status =
     (text : List ℕ) × (faulty : Bool) × ShowsOne asked word text faulty × Appends before now text × (status ≡ status_shown faulty)
+
+-- or a beginning of this
+abbrev pub IsWordShownInPart : Asked → List ℕ → Option (List ℕ) → Option (List ℕ) → Type 0
+IsWordShownInPart asked word before now = (text : List ℕ) × (faulty : Bool) × ShowsOne asked word text faulty × WritesFront before now text
 
 -- the exit status of a dump: 2 where a line was bad
 abbrev pub dump_status : Tally → ℕ

@@ -1,7 +1,7 @@
 -- What the program says where nothing could be shown or replayed, and how a replay ends.
 use Rattle.std.specs.Prelude.{ℕ, List, ◌++◌, codes, decimal}
 use Rattle.gtpshow.specs.declared.command.Failure.{Failure}
-use Rattle.gtpshow.specs.declared.command.Failure.TheVariants.{BadWords, BadPort, BadHex, BadCode, BadGateway, BadCapture, BrokenCapture, Memory, Read, TooLong, Write, Closed, NoPacket}
+use Rattle.gtpshow.specs.declared.command.Failure.TheVariants.{BadWords, BadPort, BadFilter, BadHex, BadCode, BadGateway, BadCapture, BrokenCapture, Memory, Read, TooLong, Write, Closed, NoPacket}
 use Rattle.gtp_replay.specs.declared.verdict.Verdict.{Verdict}
 use Rattle.gtp_replay.specs.declared.verdict.Verdict.TheVariants.{Expected, Unexpected, Bad}
 use Rattle.gtp_replay.specs.declared.verdict.ReplayFault.{ReplayFault}
@@ -11,6 +11,7 @@ use Rattle.gtp_replay.specs.declared.verdict.ReplayFault.TheVariants as faults
 abbrev pub status_of : Failure → ℕ
 status_of BadWords = 2
 status_of BadPort = 2
+status_of BadFilter = 2
 status_of BadHex = 2
 status_of BadCode = 2
 status_of BadGateway = 2
@@ -27,6 +28,7 @@ status_of (NoPacket number) = 3
 abbrev pub failure_text : Failure → List ℕ
 failure_text BadWords = codes "bad words: an argument is not UTF-8"
 failure_text BadPort = codes "bad port: a number from 0 to 65535 is wanted"
+failure_text BadFilter = codes "bad filter"
 failure_text BadHex = codes "bad hex"
 failure_text BadCode = codes "bad code"
 failure_text BadGateway = codes "bad gateway head"

@@ -25,16 +25,23 @@ with_form_words app = with_rule (with_rule app (flag_word (codes "all"))) (flag_
 
 -- to show datagrams
 abbrev pub decode_words : App
-decode_words = with_rule (with_form_words (with_rule (new_app (codes "decode")) (flag_word (codes "user")))) (needed_word (codes "octets"))
+decode_words =
+    with_rule (with_rule (with_form_words (with_rule (new_app (codes "decode")) (flag_word (codes "user")))) (flag_word (codes "join"))) (needed_word (codes "octets"))
 
 -- further ports of each plane
 abbrev pub with_port_words : App → App
 with_port_words app = with_rule (with_rule app (option_word (codes "control-port"))) (option_word (codes "user-port"))
 
+-- what chooses datagrams
+abbrev pub with_filter_words : App → App
+with_filter_words app =
+    with_rule (with_rule (with_rule (with_rule (with_rule app
+    (flag_word (codes "faults"))) (option_word (codes "type"))) (option_word (codes "imsi"))) (option_word (codes "teid"))) (option_word (codes "address"))
+
 -- to show a capture
 abbrev pub capture_words : App
 capture_words =
-    with_rule (with_port_words (with_form_words (with_rule (new_app (codes "capture")) (flag_word (codes "brief"))))) (plain_word (codes "file"))
+    with_rule (with_port_words (with_filter_words (with_form_words (with_rule (new_app (codes "capture")) (flag_word (codes "brief")))))) (plain_word (codes "file"))
 
 -- to replay a scenario
 abbrev pub replay_words : App

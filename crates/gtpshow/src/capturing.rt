@@ -3,9 +3,10 @@
 ghost use Rattle.std.specs.Prelude.{◌≡◌, ◌≢◌, ◌-◌, ◌^◌, ◌<◌, ◌≤◌, ◌⊎◌, ◌++◌, ℕ, length, decimal, Err, IfOk, IfErr, IfSome, IfNone, OnOk};
 ghost use Rattle.std.specs.Io.KnownBytes.{Appends};
 ghost use Rattle.gtp_counted.specs.Counts.{inner_of, failures_of};
+ghost use Rattle.gtp_counted.specs.Streams.{WritesFront};
 ghost use Rattle.gtp_capture.specs.Seen.{seen_of};
 ghost use Rattle.gtp_capture.specs.reading.Packet.{packet_of};
-ghost use Rattle.gtpshow.specs.Captured.{nothing_shown, is_cut, counted, counts_line, counts_json, last_line, capture_status, IsShownAs, IsFull, TakesFrame, RefusesFrame, AreFramesShown, IsCaptureShown, IsBrokenShown, IsFirstShown, IsNoCapture};
+ghost use Rattle.gtpshow.specs.Captured.{nothing_shown, is_cut, counted, counts_line, counts_json, last_line, capture_status, IsShownAs, IsFull, TakesFrame, RefusesFrame, AreFramesShown, IsCaptureShown, IsBrokenShown, IsFirstShown, IsNextShown, IsCountShown, IsNoCapture};
 ghost use Rattle.gtpshow.specs.Stops.{TellsReads, TellsClosed, StopsCounts, StopsCapture};
 
 use crate::command::Failure;
@@ -15,7 +16,7 @@ use crate::kept::Watched;
 use crate::replaying::unopened;
 use gtp_capture::{CaptureFault, Captured, Packet, Ports, Refused, Sink, Stop, read_capture};
 use gtp_counted::{Counted, Failed};
-use gtp_frames::{Form, Shown, frame_lines};
+use gtp_frames::{Filter, Form, Shown, frame_lines};
 use gtp_json::{Members, frame_json};
 use gtp_lines::text::{put, put_number};
 use gtp_values::Memory;
@@ -138,6 +139,16 @@ pub enum CaptureForm {
     Json(Members),
 }
 
+/// Which datagrams of a capture are shown, and in which form.
+#[derive(Clone, Copy)]
+pub struct FramesAsked {
+    pub form: CaptureForm,
+    /// What they have to have.
+    pub filter: Filter,
+    /// Whether only those at fault are shown.
+    pub only_faults: bool,
+}
+
 /// What is shown of a datagram.
 fn shown_as(alloc: Global, form: CaptureForm, captured: &Captured) -> Result<Shown, Memory>
     ensures { IfOk result (λ shown.
@@ -153,7 +164,7 @@ fn shown_as(alloc: Global, form: CaptureForm, captured: &Captured) -> Result<Sho
 #[derive(Drop)]
 pub struct FrameWriter<W> {
     alloc: Global,
-    form: CaptureForm,
+    asked: FramesAsked,
     out: Counted<W>,
     counts: Counts,
     /// Why a datagram was not shown.
@@ -162,15 +173,15 @@ pub struct FrameWriter<W> {
 
 impl<W: Write> FrameWriter<W> {
     /// A writer that has shown no datagram.
-    fn new(alloc: Global, form: CaptureForm, out: W) -> FrameWriter<W>
-        ensures form { result.form ≡ form }
+    fn new(alloc: Global, asked: FramesAsked, out: W) -> FrameWriter<W>
+        ensures asked { result.asked ≡ asked }
         ensures out { inner_of result.out ≡ out }
         ensures writes { failures_of result.out ≡ 0 }
         ensures counts { result.counts ≡ nothing_shown }
     {
         FrameWriter {
             alloc,
-            form,
+            asked,
             out: Counted::new(out),
             counts: Counts {
                 gtp: 0,
@@ -186,13 +197,19 @@ impl<W: Write> FrameWriter<W> {
 impl<W: Write> Sink for FrameWriter<W> {
     ghost takes = { λ before d after. TakesFrame W.contents before d after };
 
-    ghost refuses = { λ before d after. RefusesFrame before d after };
+    ghost refuses = { λ before d after. RefusesFrame W.contents before d after };
 
     fn take(&mut self, captured: &Captured) -> Result<(), Refused> {
-        let Ok(shown) = shown_as(self.alloc, self.form, captured) else {
+        if !self.asked.filter.chooses(&captured.packet) {
+            return Ok(());
+        }
+        let Ok(shown) = shown_as(self.alloc, self.asked.form, captured) else {
             self.unshown = Some(Failure::Memory);
             return Err(Refused);
         };
+        if self.asked.only_faults && !shown.faulty {
+            return Ok(());
+        }
         let Some(counts) = self.counts.counted(&captured.packet, shown.faulty) else {
             self.unshown = Some(Failure::TooLong);
             return Err(Refused);
@@ -218,19 +235,23 @@ fn frames_from<I: Read, W: Write>(
     requires reads { failures_of reader.old < 2 ^ 64 - 1 }
     requires writes { failures_of writer.old.out < 2 ^ 64 - 1 }
     ensures shown { IfOk result (λ frames. IfSome (I.remaining (inner_of reader.old)) (λ file.
-        AreFramesShown writer.old.form ports file
+        AreFramesShown writer.old.asked ports file
         (W.contents (inner_of writer.old.out)) (W.contents (inner_of writer.new.out))
         frames writer.new.counts)) }
     ensures broken { (at : ℕ) → result ≡ Err (Failure.BrokenCapture at) →
         IfSome (I.remaining (inner_of reader.old)) (λ file.
-        IsBrokenShown writer.old.form ports file
+        IsBrokenShown writer.old.asked ports file
         (W.contents (inner_of writer.old.out)) (W.contents (inner_of writer.new.out)) at) }
     ensures bad { result ≡ Err Failure.BadCapture →
         IfSome (I.remaining (inner_of reader.old)) (λ file. IsNoCapture file
         (W.contents (inner_of writer.old.out)) (W.contents (inner_of writer.new.out))) }
     ensures first { (result ≡ Err Failure.Memory) ⊎ (result ≡ Err Failure.Read)
         ⊎ (result ≡ Err Failure.TooLong) → IfSome (I.remaining (inner_of reader.old)) (λ file.
-        IsFirstShown writer.old.form ports file
+        IsFirstShown writer.old.asked ports file
+        (W.contents (inner_of writer.old.out)) (W.contents (inner_of writer.new.out))) }
+    ensures next { (result ≡ Err Failure.Write) ⊎ (result ≡ Err Failure.Closed) →
+        IfSome (I.remaining (inner_of reader.old)) (λ file.
+        IsNextShown writer.old.asked ports file
         (W.contents (inner_of writer.old.out)) (W.contents (inner_of writer.new.out))) }
     ensures long { result ≡ Err Failure.TooLong →
         IfSome (I.remaining (inner_of reader.old)) (λ file. 2 ^ 64 - 1 ≤ length file) }
@@ -252,6 +273,7 @@ fn frames_from<I: Read, W: Write>(
 }
 
 /// Writes the last line of a capture of so many frames, and returns the exit status.
+#[tactic(auto, using(gtp_counted::proofs::Written::front_none))]
 fn count_from<W: Write>(
     alloc: Global,
     form: CaptureForm,
@@ -262,6 +284,9 @@ fn count_from<W: Write>(
     ensures counted { OnOk result (Appends
         (W.contents (inner_of writer.old.out)) (W.contents (inner_of writer.new.out))
         (last_line form frames writer.old.counts)) }
+    ensures front { WritesFront
+        (W.contents (inner_of writer.old.out)) (W.contents (inner_of writer.new.out))
+        (last_line form frames writer.old.counts) }
     ensures status { IfOk result (λ status. status ≡ capture_status writer.old.counts) }
     ensures memory { result ≡ Err Failure.Memory → writer.new ≡ writer.old }
     ensures writes { TellsClosed result writer.old.out writer.new.out }
@@ -280,7 +305,7 @@ fn count_from<W: Write>(
 /// Writes the lines of the datagrams of a capture, by these ports, and then a line that counts, and returns the exit status: 0,
 /// or 1 if a datagram had a fault. `BadCapture` for no capture, `BrokenCapture` for one that is cut off or has a record of more
 /// than 262,144 octets; `Memory` if an allocation was refused, `Read` if a read failed, `Write` or `Closed` if a write did,
-/// `TooLong` if the capture has 2^64 - 1 octets or more. What came before is written.
+/// `TooLong` if the capture has 2^64 - 1 octets or more. What came before is written, after `Write` and `Closed` a beginning of it.
 fn capture_from<I: Read, W: Write>(
     alloc: Global,
     ports: Ports,
@@ -291,19 +316,25 @@ fn capture_from<I: Read, W: Write>(
     requires reads { failures_of reader.old < 2 ^ 64 - 1 }
     requires writes { failures_of writer.old.out < 2 ^ 64 - 1 }
     ensures shown { IfOk result (λ status. IfSome (I.remaining (inner_of reader.old)) (λ file.
-        IsCaptureShown writer.old.form ports file
+        IsCaptureShown writer.old.asked ports file
         (W.contents (inner_of writer.old.out)) (W.contents (inner_of writer.new.out)) status)) }
     ensures small { IfOk result (λ status. status ≤ 1) }
     ensures broken { (at : ℕ) → result ≡ Err (Failure.BrokenCapture at) →
         IfSome (I.remaining (inner_of reader.old)) (λ file.
-        IsBrokenShown writer.old.form ports file
+        IsBrokenShown writer.old.asked ports file
         (W.contents (inner_of writer.old.out)) (W.contents (inner_of writer.new.out)) at) }
     ensures bad { result ≡ Err Failure.BadCapture →
         IfSome (I.remaining (inner_of reader.old)) (λ file. IsNoCapture file
         (W.contents (inner_of writer.old.out)) (W.contents (inner_of writer.new.out))) }
     ensures first { (result ≡ Err Failure.Memory) ⊎ (result ≡ Err Failure.Read)
         ⊎ (result ≡ Err Failure.TooLong) → IfSome (I.remaining (inner_of reader.old)) (λ file.
-        IsFirstShown writer.old.form ports file
+        IsFirstShown writer.old.asked ports file
+        (W.contents (inner_of writer.old.out)) (W.contents (inner_of writer.new.out))) }
+    ensures next { (result ≡ Err Failure.Write) ⊎ (result ≡ Err Failure.Closed) →
+        IfSome (I.remaining (inner_of reader.old)) (λ file.
+        IsNextShown writer.old.asked ports file
+        (W.contents (inner_of writer.old.out)) (W.contents (inner_of writer.new.out))
+        ⊎ IsCountShown writer.old.asked ports file
         (W.contents (inner_of writer.old.out)) (W.contents (inner_of writer.new.out))) }
     ensures long { result ≡ Err Failure.TooLong →
         IfSome (I.remaining (inner_of reader.old)) (λ file. 2 ^ 64 - 1 ≤ length file) }
@@ -311,7 +342,7 @@ fn capture_from<I: Read, W: Write>(
     ensures writes { TellsClosed result writer.old.out writer.new.out }
     ensures kind { IfErr result StopsCapture }
 {
-    let form = writer.form;
+    let form = writer.asked.form;
     match frames_from(alloc, ports, reader, writer) {
         Ok(frames) => count_from(alloc, form, frames, writer),
         Err(failure) => Err(failure),
@@ -321,7 +352,7 @@ fn capture_from<I: Read, W: Write>(
 /// How a capture is shown.
 #[derive(Clone, Copy)]
 pub struct CaptureAsked {
-    pub form: CaptureForm,
+    pub frames: FramesAsked,
     pub ports: Ports,
 }
 
@@ -343,7 +374,7 @@ fn capture_printed<R: Print + Eprint, I: Read + Drop>(
         |_| Failure::Memory,
     )?;
     let mut reader = Counted::new(reader);
-    let mut writer = FrameWriter::new(alloc, asked.form, out);
+    let mut writer = FrameWriter::new(alloc, asked.frames, out);
     let shown = capture_from(alloc, asked.ports, &mut reader, &mut writer);
     writer.out.flush().map_err(unwritten)?;
     let read = reader.into_inner().into_inner();

@@ -4,7 +4,7 @@ ghost use Rattle.std.specs.Prelude.{◌≡◌, false, IfOk, Some};
 ghost use Rattle.clap.specs.Words.{app_of, rule_of, with_rule};
 ghost use Rattle.clap.specs.declared.builder.command.Command.TheViews.{out-Command as fields_of};
 ghost use Rattle.gtpshow.specs.Status.{status_of, failure_by, failure_text};
-ghost use Rattle.gtpshow.specs.Words.{flag_word, option_word, plain_word, with_form_words, with_port_words, decode_words, capture_words, replay_words, gateway_words, explain_words, program_words};
+ghost use Rattle.gtpshow.specs.Words.{flag_word, option_word, plain_word, with_form_words, with_filter_words, with_port_words, decode_words, capture_words, replay_words, gateway_words, explain_words, program_words};
 
 use clap::{Arg, ArgAction, Command};
 use gtp_replay::ReplayFault;
@@ -23,7 +23,7 @@ Examples:
 
 A message of any interface is judged by the rules of the interface S5/S8 (3GPP TS 29.274).
 Exit status: 0 shown, or as expected; 1 a fault, or an event that came to something else; 2 bad words,
-hexadecimal, port, code, capture, scenario or gateway; 3 no memory, or a failed read or write";
+hexadecimal, port, filter, code, capture, scenario or gateway; 3 no memory, or a failed read or write";
 
 const SCENARIO: &str = "\
 A scenario:
@@ -130,6 +130,14 @@ fn decode_command<'a>(alloc: Global) -> Result<Command<'a>, AllocError>
         flag(alloc, "user", "The datagram is of the user plane (GTP-U)"),
     )?;
     let command = with_forms(alloc, command)?;
+    let command = taking(
+        command,
+        flag(
+            alloc,
+            "join",
+            "Joins lines of plain hexadecimal, up to a line without digits",
+        ),
+    )?;
     taking(command, octets)
 }
 
@@ -159,6 +167,54 @@ fn with_ports<'a>(alloc: Global, command: Command<'a>) -> Result<Command<'a>, Al
     )
 }
 
+/// A command that takes what chooses datagrams too.
+fn with_filters<'a>(alloc: Global, command: Command<'a>) -> Result<Command<'a>, AllocError>
+    requires command { (fields_of command).has_globals ≡ false }
+    ensures words { IfOk result (λ r. app_of r ≡ with_filter_words (app_of command.entry)) }
+    ensures own { IfOk result (λ r. (fields_of r).has_globals ≡ false) }
+{
+    let command = taking(
+        command,
+        flag(alloc, "faults", "Shows only datagrams at fault"),
+    )?;
+    let command = taking(
+        command,
+        option(
+            alloc,
+            "type",
+            "NAME",
+            "Shows only messages of this type, as create-session-request or 32",
+        ),
+    )?;
+    let command = taking(
+        command,
+        option(
+            alloc,
+            "imsi",
+            "DIGITS",
+            "Shows only messages that tell this subscriber",
+        ),
+    )?;
+    let command = taking(
+        command,
+        option(
+            alloc,
+            "teid",
+            "HEX",
+            "Shows only messages with this TEID, in the header or in an F-TEID",
+        ),
+    )?;
+    taking(
+        command,
+        option(
+            alloc,
+            "address",
+            "ADDRESS",
+            "Shows only datagrams from or to this address",
+        ),
+    )
+}
+
 /// The arguments of `capture`.
 fn capture_command<'a>(alloc: Global) -> Result<Command<'a>, AllocError>
     ensures words { IfOk result (λ command. app_of command ≡ capture_words) }
@@ -169,6 +225,7 @@ fn capture_command<'a>(alloc: Global) -> Result<Command<'a>, AllocError>
     );
     let command = taking(command, flag(alloc, "brief", "Shows one line a datagram"))?;
     let command = with_forms(alloc, command)?;
+    let command = with_filters(alloc, command)?;
     let command = with_ports(alloc, command)?;
     taking(
         command,
@@ -280,6 +337,8 @@ pub enum Failure {
     BadWords,
     /// The word for a port is no number from 0 to 65,535.
     BadPort,
+    /// A word says no type of message, IMSI, TEID or address.
+    BadFilter,
     /// The octets of a datagram are not hexadecimal digits, or their number is odd.
     BadHex,
     /// No code is called so.
@@ -312,6 +371,7 @@ impl Failure {
         match self {
             Failure::BadWords
             | Failure::BadPort
+            | Failure::BadFilter
             | Failure::BadHex
             | Failure::BadCode
             | Failure::BadGateway
@@ -347,6 +407,7 @@ impl fmt::Display for Failure {
         match self {
             Failure::BadWords => write!(f, "bad words: an argument is not UTF-8"),
             Failure::BadPort => write!(f, "bad port: a number from 0 to 65535 is wanted"),
+            Failure::BadFilter => write!(f, "bad filter"),
             Failure::BadHex => write!(f, "bad hex"),
             Failure::BadCode => write!(f, "bad code"),
             Failure::BadGateway => write!(f, "bad gateway head"),

@@ -4,7 +4,7 @@ ghost use Rattle.std.specs.Prelude.{◌≤◌, IfOk};
 
 use crate::capturing::unwritten;
 use crate::command::Failure;
-use crate::hinting::hint_of_dump;
+use crate::hinting::{hint_of_dump, hint_of_pasted};
 use crate::kept::Watched;
 use crate::showing::show_dump;
 use gtp_counted::Counted;
@@ -61,8 +61,12 @@ pub fn dump_printed<R: Print + Eprint + Input>(
         &mut Counted::new(Errors { to: rt }),
     );
     out.flush().map_err(unwritten)?;
+    let first = reader.into_inner().into_inner().first;
     if shown == Ok(2) {
-        let _ = hint_of_dump(rt, &reader.into_inner().into_inner().first);
+        let _ = hint_of_dump(rt, &first);
+    }
+    if shown == Ok(1) {
+        let _ = hint_of_pasted(rt, alloc, &first);
     }
     shown
 }

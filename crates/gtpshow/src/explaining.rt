@@ -3,6 +3,7 @@
 ghost use Rattle.std.specs.Prelude.{◌≡◌, ◌≢◌, ◌-◌, ◌^◌, ◌<◌, [], Err, IfOk, IfErr, OnOk, map, option_map};
 ghost use Rattle.std.specs.Io.KnownBytes.{Appends};
 ghost use Rattle.gtp_counted.specs.Counts.{inner_of, failures_of};
+ghost use Rattle.gtp_counted.specs.Streams.{WritesFront};
 ghost use Rattle.gtp_codes.specs.Explained.{explanation};
 ghost use Rattle.gtpshow.specs.Stops.{TellsClosed, StopsExplain};
 
@@ -16,6 +17,7 @@ use std::io::Write;
 /// Writes the lines of those of the codes of these parts that a word asks for, or of all codes without one, and returns the
 /// exit status, 0. `BadCode` if no code is called so, `Memory` if an allocation was refused, `Write` or `Closed` if the write
 /// failed.
+#[tactic(auto, using(gtp_counted::proofs::Written::front_none))]
 pub fn explain_code<W: Write>(
     alloc: Global,
     parts: &[&[Meaning]],
@@ -25,6 +27,8 @@ pub fn explain_code<W: Write>(
     requires { failures_of out.old < 2 ^ 64 - 1 }
     ensures written { OnOk result (Appends (W.contents (inner_of out.old)) (W.contents (inner_of out.new))
         (explanation (option_map (λ w. w.now) word.entry) (map (λ part. part.now) parts.now))) }
+    ensures front { WritesFront (W.contents (inner_of out.old)) (W.contents (inner_of out.new))
+        (explanation (option_map (λ w. w.now) word.entry) (map (λ part. part.now) parts.now)) }
     ensures status { IfOk result (λ status. status ≡ 0) }
     // No code is called so exactly where nothing would be written.
     ensures code { result ≡ Err Failure.BadCode → (out.new ≡ out.old) ×

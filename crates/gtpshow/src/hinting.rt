@@ -1,13 +1,15 @@
 //! What standard error says after the first line of a failure: the word or the file, and the reason.
 
 use crate::command::{Failure, command};
+use crate::flags::{imsi_of, kinds_of, teid_of};
 use crate::kept::Watched;
 use clap::ArgMatches;
 use gtp_capture::begins_as_capture;
-use gtp_dump::{Flaw, LineFault, flaw_of, read_line};
-use gtp_lines::{Plane, decode_lines};
+use gtp_dump::{Flaw, Hint, LineFault, flaw_of, hint_of, read_line};
+use gtp_lines::{Plane, decode_lines, fault_context};
 use gtp_scenario::reason_of;
 use gtp_serve::head_reason;
+use gtp_v2::view;
 use std::alloc::Global;
 use std::rt::{Env, Files};
 use std::{env, fs, io};
@@ -20,9 +22,15 @@ fn hint_of_character<R: Eprint>(rt: &R, place: usize, c: char) -> io::Result<()>
 /// Says why a word is no hexadecimal.
 fn hint_of_digits<R: Eprint>(rt: &R, word: &str) -> io::Result<()> {
     for (place, c) in word.char_indices() {
-        if !c.is_ascii_hexdigit() {
-            return hint_of_character(rt, place, c);
+        if c.is_ascii_hexdigit() {
+            continue;
         }
+        if c.is_ascii_whitespace() || c == ':' || c == ',' {
+            return eprintln!(rt;
+                "gtpshow: 'decode -' reads octets with blanks, colons or commas between them, from standard input"
+            );
+        }
+        return hint_of_character(rt, place, c);
     }
     eprintln!(rt; "gtpshow: the word has an odd number of digits")
 }
@@ -97,6 +105,38 @@ pub fn hint_of_dump<R: Eprint>(rt: &R, first: &[u8]) -> io::Result<()> {
     Ok(())
 }
 
+/// Says what the first line of standard input spells in place of a datagram, where it begins as a frame, a packet or an offset does.
+pub fn hint_of_pasted<R: Eprint>(rt: &R, alloc: Global, first: &[u8]) -> io::Result<()> {
+    let end = first
+        .iter()
+        .position(|octet| *octet == b'\n')
+        .unwrap_or(first.len());
+    let line = &first[..end];
+    // The last digit of a line that is not held whole may be half of an octet.
+    let found = match read_line(alloc, None, line) {
+        Err(LineFault::BadHex) => read_line(alloc, None, &line[..line.len().saturating_sub(1)]),
+        found => found,
+    };
+    let Ok(Some(dumped)) = found else {
+        return Ok(());
+    };
+    match hint_of(&dumped.octets) {
+        Some(Hint::Offset) | None => Ok(()),
+        Some(hint) => eprintln!(rt; "gtpshow: standard input, line 1: {hint}"),
+    }
+}
+
+/// Says what the octets of a word are in place of a datagram.
+pub fn hint_of_octets<R: Eprint>(rt: &R, alloc: Global, word: &str) -> io::Result<()> {
+    let Ok(octets) = hex::decode(alloc, word) else {
+        return Ok(());
+    };
+    match hint_of(&octets) {
+        Some(hint) => eprintln!(rt; "gtpshow: {hint}"),
+        None => Ok(()),
+    }
+}
+
 /// Says why a file, or standard input, is no capture.
 pub fn hint_of_capture<R: Eprint, I>(rt: &R, name: &str, read: &Watched<I>) -> io::Result<()> {
     if begins_as_compressed(&read.first) {
@@ -139,24 +179,63 @@ pub fn hint_of_broken<R: Eprint, I>(
     eprintln!(rt; "gtpshow: {name}: the record at octet {at} states more than 262144 octets")
 }
 
-/// Says what a control datagram is that is not of version 2, where it is of version 1.
-pub fn hint_of_version<R: Eprint>(rt: &R, alloc: Global, word: &str) -> io::Result<()> {
-    let Ok(octets) = hex::decode(alloc, word) else {
-        return Ok(());
-    };
-    match octets.first() {
-        Some(first) if *first >> 5 == 1 => {}
-        _ => return Ok(()),
-    }
-    match decode_lines(alloc, Plane::User, &octets) {
+/// Says what a datagram of version 1 is, which was read as one of the control plane.
+fn hint_of_user_plane<R: Eprint>(rt: &R, alloc: Global, octets: &[u8]) -> io::Result<()> {
+    match decode_lines(alloc, Plane::User, octets) {
         Ok(shown) if !shown.faulty => {
-            eprintln!(rt; "gtpshow: version 1 is GTP-U: with --user this is a datagram")
+            eprintln!(rt;
+                "gtpshow: version 1 is GTP-U: with --user this is a datagram, and 'decode -' tells both planes apart"
+            )
         }
         _ => {
             eprintln!(rt;
                 "gtpshow: version 1 is GTP-U, which --user reads, or GTPv1-C, which is not read"
             )
         }
+    }
+}
+
+/// Says what a datagram of version 2 is, which was read as one of the user plane.
+fn hint_of_control_plane<R: Eprint>(rt: &R, alloc: Global, octets: &[u8]) -> io::Result<()> {
+    match decode_lines(alloc, Plane::Control, octets) {
+        Ok(shown) if !shown.faulty => {
+            eprintln!(rt;
+                "gtpshow: version 2 is GTPv2-C: without --user this is a datagram, and 'decode -' tells both planes apart"
+            )
+        }
+        _ => eprintln!(rt; "gtpshow: version 2 is GTPv2-C, which is read without --user"),
+    }
+}
+
+/// Says of which plane a datagram is, where its version is that of the other plane.
+pub fn hint_of_version<R: Eprint>(
+    rt: &R,
+    alloc: Global,
+    plane: Plane,
+    word: &str,
+) -> io::Result<()> {
+    let Ok(octets) = hex::decode(alloc, word) else {
+        return Ok(());
+    };
+    let version = octets.first().map(|first| *first >> 5);
+    match (plane, version) {
+        (Plane::Control, Some(1)) => hint_of_user_plane(rt, alloc, &octets),
+        (Plane::User, Some(2)) => hint_of_control_plane(rt, alloc, &octets),
+        _ => Ok(()),
+    }
+}
+
+/// Says in which bearer context an element of a control datagram is at fault or missing, where it is in one.
+pub fn hint_of_context<R: Eprint>(rt: &R, alloc: Global, word: &str) -> io::Result<()> {
+    let Ok(octets) = hex::decode(alloc, word) else {
+        return Ok(());
+    };
+    let Err(fault) = view(&octets) else {
+        return Ok(());
+    };
+    match fault_context(&octets, &fault) {
+        Some(number) => eprintln!(rt; "gtpshow: the fault is in bearer-context {number}"),
+        None => Ok(()),
     }
 }
 
@@ -225,6 +304,35 @@ fn hint_of_port<R: Eprint>(rt: &R, asked: &ArgMatches) -> io::Result<()> {
     Ok(())
 }
 
+/// Says which word chooses no datagrams, and what is wanted of it.
+fn hint_of_filter<R: Eprint>(rt: &R, asked: &ArgMatches) -> io::Result<()> {
+    if let Some(word) = asked.get_str("type") {
+        if kinds_of(Some(word)).is_err() {
+            return eprintln!(rt;
+                "gtpshow: no message is called {word}: --type wants a name, as create-session-request or g-pdu, or a number from 0 to 255"
+            );
+        }
+    }
+    if let Some(word) = asked.get_str("imsi") {
+        if imsi_of(Some(word)).is_err() {
+            return eprintln!(rt; "gtpshow: the word '{word}' of --imsi is not 6 to 15 digits");
+        }
+    }
+    if let Some(word) = asked.get_str("teid") {
+        if teid_of(Some(word)).is_err() {
+            return eprintln!(rt;
+                "gtpshow: the word '{word}' of --teid is not eight hexadecimal digits"
+            );
+        }
+    }
+    match asked.get_str("address") {
+        Some(word) => eprintln!(rt;
+            "gtpshow: the word '{word}' of --address is no address: 10.0.0.1, or 32 hexadecimal digits"
+        ),
+        None => Ok(()),
+    }
+}
+
 /// Says what a failure is about, after its own line.
 pub fn hint<R: Eprint + Env + Files + AllocGlobal>(rt: &R, failure: Failure) -> io::Result<()> {
     let alloc: Global = rt.alloc();
@@ -239,6 +347,7 @@ pub fn hint<R: Eprint + Env + Files + AllocGlobal>(rt: &R, failure: Failure) -> 
         Failure::BadHex => hint_of_hex(rt, alloc, asked),
         Failure::BadCode => hint_of_code(rt, asked.get_str("code").unwrap_or("")),
         Failure::BadPort => hint_of_port(rt, asked),
+        Failure::BadFilter => hint_of_filter(rt, asked),
         Failure::Read | Failure::TooLong if name == "capture" || name == "replay" => {
             hint_of_read(rt, asked.get_str("file").unwrap_or("-"))
         }

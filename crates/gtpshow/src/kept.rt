@@ -1,5 +1,7 @@
 //! Readers that keep what they have read, or note how it begins and where it ends.
 
+ghost use Rattle.std.specs.Prelude.{◌≡◌};
+
 use std::alloc::Global;
 use std::io::{self, Read};
 
@@ -14,7 +16,9 @@ pub struct Kept<R> {
 
 impl<R> Kept<R> {
     /// A reader from which nothing was read.
-    pub fn new(alloc: Global, inner: R) -> Kept<R> {
+    pub fn new(alloc: Global, inner: R) -> Kept<R>
+        ensures { result.inner ≡ inner }
+    {
         Kept {
             inner,
             octets: Vec::new(alloc),
@@ -44,7 +48,7 @@ impl<R: Read> Read for Kept<R> {
 }
 
 /// How many of its first octets are noted of a reader, at least.
-const NOTED: usize = 4;
+const NOTED: usize = 256;
 
 /// A reader of which is noted how it begins, how many octets were read, and whether its end was met.
 #[derive(Drop)]
@@ -58,7 +62,9 @@ pub struct Watched<R> {
 
 impl<R> Watched<R> {
     /// A reader from which nothing was read.
-    pub fn new(alloc: Global, inner: R) -> Watched<R> {
+    pub fn new(alloc: Global, inner: R) -> Watched<R>
+        ensures { result.inner ≡ inner }
+    {
         Watched {
             inner,
             first: Vec::new(alloc),

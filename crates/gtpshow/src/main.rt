@@ -5,6 +5,7 @@ mod capturing;
 mod command;
 mod dumping;
 mod explaining;
+mod flags;
 mod hinting;
 mod kept;
 mod replaying;
@@ -13,22 +14,21 @@ mod showing;
 
 ghost use Rattle.std.specs.Prelude.{◌≤◌, IfOk};
 
-use crate::capturing::{CaptureAsked, CaptureForm, capture_file};
+use crate::capturing::capture_file;
 use crate::command::{Failure, command};
 use crate::dumping::dump_printed;
 use crate::explaining::explain_code;
-use crate::hinting::{hint, hint_of_version, hint_of_words};
+use crate::flags::{
+    capture_asked, dump_asked, plane_of, replay_form_asked, status_printed, unread_words,
+};
+use crate::hinting::{hint, hint_of_context, hint_of_octets, hint_of_version, hint_of_words};
 use crate::replaying::replay_file;
 use crate::serving::gateway_printed;
 use crate::showing::{show, show_word};
 use clap::ArgMatches;
 use clap::error::ErrorKind;
-use gtp_capture::Ports;
 use gtp_codes::parts;
 use gtp_counted::Counted;
-use gtp_dump::Asked;
-use gtp_frames::Form;
-use gtp_json::Members;
 use gtp_lines::Plane;
 use std::alloc::Global;
 use std::process::ExitCode;
@@ -44,111 +44,59 @@ fn decode<R: Print + Eprint + Input>(
     ensures { IfOk result (λ status. status ≤ 2) }
 {
     let digits = asked.get_str("octets").unwrap_or("");
-    let form = match (asked.get_flag("json"), asked.get_flag("all")) {
-        (true, true) => gtp_dump::Form::Json(Members::All),
-        (true, false) => gtp_dump::Form::Json(Members::Plain),
-        (false, true) => gtp_dump::Form::All,
-        (false, false) => gtp_dump::Form::Lines,
-    };
-    let plane = if asked.get_flag("user") {
-        Some(Plane::User)
-    } else {
-        None
-    };
+    let asked = dump_asked(asked);
     if digits == "-" {
-        return dump_printed(rt, alloc, Asked { plane, form });
+        return dump_printed(rt, alloc, asked);
     }
-    if form != gtp_dump::Form::Lines {
-        return show_word(
-            alloc,
-            &mut Counted::new(io::writer(rt)),
-            Asked { plane, form },
-            digits,
-        );
+    if asked.form != gtp_dump::Form::Lines {
+        return show_word(alloc, &mut Counted::new(io::writer(rt)), asked, digits);
     }
-    let plane = plane.unwrap_or(Plane::Control);
+    let plane = plane_of(asked.plane);
     let status = show(alloc, &mut Counted::new(io::writer(rt)), plane, digits)?;
+    if status == 1 {
+        let _ = hint_of_version(rt, alloc, plane, digits);
+    }
     if status == 1 && plane == Plane::Control {
-        let _ = hint_of_version(rt, alloc, digits);
+        let _ = hint_of_context(rt, alloc, digits);
+        let _ = hint_of_octets(rt, alloc, digits);
     }
     Ok(status)
 }
 
-/// The port of an option, where it has one.
-fn port_of(asked: &ArgMatches, name: &str) -> Result<Option<u16>, Failure> {
-    match asked.get_str(name) {
-        Some(word) => match word.parse::<u16>() {
-            Ok(port) => Ok(Some(port)),
-            Err(_) => Err(Failure::BadPort),
-        },
-        None => Ok(None),
-    }
-}
-
 /// Shows the capture of the arguments, and returns the exit status.
-fn capture_asked<R: Print + Eprint + Input + Files>(
+fn capture<R: Print + Eprint + Input + Files>(
     rt: &R,
     alloc: Global,
     asked: &ArgMatches,
 ) -> Result<u8, Failure>
     ensures { IfOk result (λ status. status ≤ 2) }
 {
-    let is_all = asked.get_flag("all");
-    let form = if asked.get_flag("json") && is_all {
-        CaptureForm::Json(Members::All)
-    } else if asked.get_flag("json") {
-        CaptureForm::Json(Members::Plain)
-    } else if asked.get_flag("brief") {
-        CaptureForm::Text(Form::Brief)
-    } else if is_all {
-        CaptureForm::Text(Form::All)
-    } else {
-        CaptureForm::Text(Form::Lines)
-    };
-    let ports = Ports {
-        control: port_of(asked, "control-port")?,
-        user: port_of(asked, "user-port")?,
-    };
     capture_file(
         rt,
         alloc,
-        CaptureAsked { form, ports },
+        capture_asked(asked)?,
         asked.get_str("file").unwrap_or("-"),
     )
 }
 
 /// Replays the scenario of the arguments, and returns the exit status.
-fn replay_asked<R: Print + Eprint + Input + Files>(
+fn replay<R: Print + Eprint + Input + Files>(
     rt: &R,
     alloc: Global,
     asked: &ArgMatches,
 ) -> Result<u8, Failure>
     ensures { IfOk result (λ status. status ≤ 2) }
 {
-    let form = if asked.get_flag("json") {
-        gtp_replay::Form::Json
-    } else if asked.get_flag("pcap") {
-        gtp_replay::Form::Capture
-    } else if asked.get_flag("svg") {
-        gtp_replay::Form::Svg
-    } else if asked.get_flag("diagram") {
-        gtp_replay::Form::Diagram
-    } else {
-        gtp_replay::Form::Report
-    };
-    replay_file(rt, alloc, form, asked.get_str("file").unwrap_or("-"))
-}
-
-/// The error for arguments that cannot be read.
-fn unread_words(error: io::Error) -> Failure {
-    match error.kind() {
-        io::ErrorKind::InvalidData => Failure::BadWords,
-        _ => Failure::Memory,
-    }
+    replay_file(
+        rt,
+        alloc,
+        replay_form_asked(asked),
+        asked.get_str("file").unwrap_or("-"),
+    )
 }
 
 /// Explains the code of the arguments, or all codes, and returns the exit status.
-fn explain_asked<R: Print>(rt: &R, alloc: Global, asked: &ArgMatches) -> Result<u8, Failure>
+fn explain<R: Print>(rt: &R, alloc: Global, asked: &ArgMatches) -> Result<u8, Failure>
     ensures { IfOk result (λ status. status ≤ 2) }
 {
     let mut out = Counted::new(io::writer(rt));
@@ -165,10 +113,10 @@ fn carry_out<R: Print + Eprint + Input + Files>(
 {
     match matches.subcommand() {
         Some(("decode", asked)) => decode(rt, alloc, asked),
-        Some(("capture", asked)) => capture_asked(rt, alloc, asked),
-        Some(("replay", asked)) => replay_asked(rt, alloc, asked),
+        Some(("capture", asked)) => capture(rt, alloc, asked),
+        Some(("replay", asked)) => replay(rt, alloc, asked),
         Some(("gateway", _)) => gateway_printed(rt, alloc),
-        Some(("explain", asked)) => explain_asked(rt, alloc, asked),
+        Some(("explain", asked)) => explain(rt, alloc, asked),
         _ => Ok(2),
     }
 }
@@ -187,11 +135,11 @@ fn run<R: Print + Eprint + Input + Env + Files + AllocGlobal>(rt: &R) -> Result<
         Ok(matches) => matches,
         Err(error) if error.kind() == ErrorKind::OutOfMemory => return Err(Failure::Memory),
         Err(error) => {
-            error.print(rt).map_err(|_| Failure::Write)?;
+            let status = status_printed(error.print(rt), error.use_stderr())?;
             if error.kind() == ErrorKind::UnknownArgument {
                 let _ = hint_of_words(rt, &words);
             }
-            return Ok(if error.use_stderr() { 2 } else { 0 });
+            return Ok(status);
         }
     };
     carry_out(rt, alloc, &matches)

@@ -75,7 +75,14 @@ fn replay_told<R: Eprint, I: Read + Drop, W: Write>(
     writer: &mut Counted<W>,
 ) -> Result<u8, Failure>
     requires { failures_of writer.old < 2 ^ 64 - 1 }
-    ensures { IfOk result (λ status. status ≤ 2) }
+    ensures replayed { IfOk result (λ status. IfSome (I.remaining reader) (λ octets.
+        IsReplayed form octets (W.contents (inner_of writer.old))
+        (W.contents (inner_of writer.new)) status)) }
+    ensures small { IfOk result (λ status. status ≤ 2) }
+    ensures writes { TellsWrites result writer.old writer.new }
+    ensures unread { result ≡ Err Failure.Read → writer.new ≡ writer.old }
+    ensures memory { result ≡ Err Failure.Memory → writer.new ≡ writer.old }
+    ensures kind { IfErr result StopsReplay }
 {
     let mut reader = Counted::new(Kept::new(alloc, reader));
     let status = replay_from(alloc, form, &mut reader, writer)?;

@@ -1,9 +1,9 @@
 //! One gateway behind standard input and output.
 
-ghost use Rattle.std.specs.Prelude.{◌≡◌, ◌≢◌, ◌-◌, ◌^◌, ◌<◌, ◌≤◌, Err, IfOk, IfErr, IfSome, length, take};
+ghost use Rattle.std.specs.Prelude.{◌≡◌, ◌≢◌, ◌-◌, ◌^◌, ◌<◌, ◌≤◌, Err, IfOk, IfErr, IfSome, OnErr, length, take};
 ghost use Rattle.std.specs.Io.BufRead.{take_through};
 ghost use Rattle.gtp_counted.specs.Counts.{inner_of, failures_of};
-ghost use Rattle.gtp_serve.specs.Served.{IsServed, IsFirstServed, HasNoHead};
+ghost use Rattle.gtp_serve.specs.Served.{IsServed, IsFirstServed, IsServedInPart, HasNoHead};
 ghost use Rattle.gtpshow.specs.Stops.{TellsReads, TellsClosed, StopsGateway};
 
 use crate::command::Failure;
@@ -37,6 +37,8 @@ fn serve_from<R: BufRead, W: Write>(
     ensures first { IfErr result (λ failure. failure ≢ Failure.Write → failure ≢ Failure.Closed →
         IfSome (R.remaining (inner_of reader.old)) (λ octets. IsFirstServed octets
         (W.contents (inner_of out.old)) (W.contents (inner_of out.new)))) }
+    ensures front { OnErr result (IfSome (R.remaining (inner_of reader.old)) (λ octets.
+        IsServedInPart octets (W.contents (inner_of out.old)) (W.contents (inner_of out.new)))) }
     ensures long { result ≡ Err Failure.TooLong →
         IfSome (R.remaining (inner_of reader.old)) (λ octets. 2 ^ 64 - 1 ≤ length octets) }
     ensures reads { TellsReads result reader.old reader.new }

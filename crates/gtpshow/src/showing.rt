@@ -1,11 +1,11 @@
 //! Showing one datagram.
 
-ghost use Rattle.std.specs.Prelude.{◌≡◌, ◌≢◌, ◌-◌, ◌^◌, ◌<◌, ◌≤◌, ◌⊎◌, length, IsErr, Err, IfOk, IfErr, IfSome};
+ghost use Rattle.std.specs.Prelude.{◌≡◌, ◌≢◌, ◌-◌, ◌^◌, ◌<◌, ◌≤◌, ◌⊎◌, length, IsErr, Err, IfOk, IfErr, IfSome, OnErr};
 ghost use Rattle.hex.specs.Hex.{decode_of};
 ghost use Rattle.gtp_counted.specs.Counts.{inner_of, failures_of, NoneFailed};
-ghost use Rattle.gtp_dump.specs.Decoded.{AreFirstTold, WriteFailed, WriteClosed};
+ghost use Rattle.gtp_dump.specs.Decoded.{AreFirstTold, AreToldInPart, WriteFailed, WriteClosed};
 ghost use Rattle.gtp_dump.specs.Text.{IsBlank, IsBad};
-ghost use Rattle.gtpshow.specs.Shown.{IsShown, IsWordShown, IsDumpShown};
+ghost use Rattle.gtpshow.specs.Shown.{IsShown, IsShownInPart, IsWordShown, IsWordShownInPart, IsDumpShown};
 ghost use Rattle.gtpshow.specs.Stops.{TellsReads, TellsWrites, TellsClosed, StopsShow, StopsWord, StopsDump};
 
 use crate::capturing::unwritten;
@@ -29,6 +29,8 @@ pub fn show<W: Write>(
     // The lines are written, and nothing else.
     ensures shown { IfOk result
         (IsShown plane digits.now (W.contents (inner_of out.old)) (W.contents (inner_of out.new))) }
+    ensures front { result ≡ Err Failure.Write →
+        IsShownInPart plane digits.now (W.contents (inner_of out.old)) (W.contents (inner_of out.new)) }
     ensures writes { TellsWrites result out.old out.new }
     ensures only { result ≡ Err Failure.BadHex → IsErr (decode_of digits.now) }
     ensures bad { IsErr (decode_of digits.now) →
@@ -62,6 +64,9 @@ pub fn show_word<W: Write>(
     requires { failures_of out.old < 2 ^ 64 - 1 }
     ensures shown { IfOk result (IsWordShown asked word.now
         (W.contents (inner_of out.old)) (W.contents (inner_of out.new))) }
+    ensures front { (result ≡ Err Failure.Write) ⊎ (result ≡ Err Failure.Closed) →
+        IsWordShownInPart asked word.now
+        (W.contents (inner_of out.old)) (W.contents (inner_of out.new)) }
     ensures bad { result ≡ Err Failure.BadHex → (IsBlank word.now ⊎ IsBad word.now) × (out.new ≡ out.old) }
     ensures memory { result ≡ Err Failure.Memory → out.new ≡ out.old }
     ensures writes { TellsClosed result out.old out.new }
@@ -100,6 +105,10 @@ pub fn show_dump<R: BufRead, W: Write, E: Write>(
     ensures first { IfErr result (λ failure. failure ≢ Failure.Write → failure ≢ Failure.Closed →
         IfSome (R.remaining (inner_of reader.old)) (λ octets.
         AreFirstTold asked octets
+        (W.contents (inner_of out.old)) (W.contents (inner_of out.new))
+        (E.contents (inner_of err.old)) (E.contents (inner_of err.new)))) }
+    ensures front { OnErr result (IfSome (R.remaining (inner_of reader.old)) (λ octets.
+        AreToldInPart asked octets
         (W.contents (inner_of out.old)) (W.contents (inner_of out.new))
         (E.contents (inner_of err.old)) (E.contents (inner_of err.new)))) }
     ensures long { result ≡ Err Failure.TooLong →

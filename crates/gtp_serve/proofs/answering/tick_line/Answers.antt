@@ -12,3 +12,12 @@ pub returns-in-Err-clause-answered : goal.returns-in-Err-clause-answered
 returns-in-Err-clause-answered c =
     let still : c.tick.new.self ≡ c.args.gateway.now = search rules in
     IfOk-weaker c.word_line.result _ _ (λ text is. (word_json (codes "no memory"), inr (refl, still), is)) c.word_line.ensures
+
+pub returns-in-Ok-clause-done : goal.returns-in-Ok-clause-done
+returns-in-Ok-clause-done c =
+    (reply_json (of_tick c.in-Ok.ticked), inl (record { ticked = c.in-Ok.ticked; passed = c.in-Ok.ensures.ticked; counts = c.in-Ok.ensures.counts; told = refl }))
+
+pub returns-in-Err-clause-done : goal.returns-in-Err-clause-done
+returns-in-Err-clause-done c =
+    let still : c.tick.new.self ≡ c.args.gateway.now = search rules in
+    (word_json (codes "no memory"), inr (refl, still))

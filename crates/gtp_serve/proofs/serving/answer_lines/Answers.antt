@@ -1,8 +1,8 @@
 use Rattle.std.proofs.Common.{◌<◌, inl, inr, Err, length, ap, sym, subst, rules}
 use Rattle.gtp_counted.specs.Counts.{inner_of}
 use Rattle.gtp_counted.proofs.Lines.{lasts_more}
-use Rattle.gtp_serve.specs.Served.{IsAnswered}
-use Rattle.gtp_serve.proofs.Going.{goes_on, first_answered, still_answered}
+use Rattle.gtp_serve.specs.Served.{IsAnswered, IsAnsweredInPart}
+use Rattle.gtp_serve.proofs.Going.{goes_on, first_answered, still_answered, all_in_part, next_in_part}
 use Rattle.gtp_serve.proofs.serving.answer_lines.Goals as goal
 
 pub returns-in-Err-clause-first : goal.returns-in-Err-clause-first
@@ -29,3 +29,16 @@ loop-preserved g c =
 
 pub returns-clause-first : goal.returns-clause-first
 returns-clause-first g c other unclosed = first_answered _ _ _ _ _ _ c.loop.invariant.goes
+
+pub returns-in-Err-clause-front : goal.returns-in-Err-clause-front
+returns-in-Err-clause-front g c = all_in_part _ _ _ _ _ _ c.loop.invariant.goes
+
+pub returns-in-Err-answer_line-clause-front : goal.returns-in-Err-answer_line-clause-front
+returns-in-Err-answer_line-clause-front g c =
+    let some : 0 < length c.next_line.new.line.items = search rules in
+    let write = g.W.Write.contents in
+    next_in_part _ _ _ _ c.loop.gateway c.answer_line.new.gateway c.next_line.new.line.items _ _ _ c.loop.invariant.goes c.in_default.ensures.held c.in_default.ensures.rest some
+    (subst (λ l. IsAnsweredInPart l c.loop.gateway c.answer_line.new.gateway (write c.loop.writer.inner) (write c.answer_line.new.writer.inner)) c.deref.ensures.value c.in-Err-answer_line.ensures.front)
+
+pub returns-clause-front : goal.returns-clause-front
+returns-clause-front g c = all_in_part _ _ _ _ _ _ c.loop.invariant.goes

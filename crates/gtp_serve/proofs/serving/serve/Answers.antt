@@ -1,8 +1,9 @@
 use Rattle.std.proofs.Common.{◌≡◌, ◌∙◌, subst, arith}
-use Rattle.std.proofs.lemmas.Result.{on_ok_weaker, IfErr-weaker}
+use Rattle.std.proofs.lemmas.Result.{on_ok_weaker, on_err_weaker, IfErr-weaker}
 use Rattle.std.specs.Io.KnownBytes.{Appends}
 use Rattle.gtp_counted.specs.Counts.{failures_of}
-use Rattle.gtp_serve.proofs.Going.{all_served, first_served, long_whole}
+use Rattle.gtp_counted.specs.Streams.{WritesFront}
+use Rattle.gtp_serve.proofs.Going.{all_served, first_served, start_in_part, served_in_part, long_whole}
 use Rattle.gtp_serve.proofs.serving.serve.Goals as goal
 
 pub returns-clause-served : goal.returns-clause-served
@@ -20,6 +21,14 @@ returns-clause-first g c =
     IfErr-weaker c.answer_lines.result _ _
     (λ fault first other unclosed. first_served (g.R.Read.remaining c.args.reader.now.inner) (g.R.Read.remaining c.start.new.reader.inner)
     (write c.args.writer.now.inner) (write c.write_line.new.writer.inner) (write c.answer_lines.new.writer.inner) c.in-Ok.started.0 c.in-Ok.started.1 c.in-Ok.ensures.started begins (first other unclosed)) c.answer_lines.ensures.first
+
+pub returns-clause-front : goal.returns-clause-front
+returns-clause-front g c =
+    let write = g.W.Write.contents in
+    let begins = subst (Appends (write c.args.writer.now.inner) (write c.write_line.new.writer.inner)) (c.deref.ensures.value ∙ c.in-Ok-word_line.ensures) c.in_default-write_line.ensures.written in
+    on_err_weaker c.answer_lines.result
+    (served_in_part (g.R.Read.remaining c.args.reader.now.inner) (g.R.Read.remaining c.start.new.reader.inner)
+    (write c.args.writer.now.inner) (write c.write_line.new.writer.inner) (write c.answer_lines.new.writer.inner) c.in-Ok.started.0 c.in-Ok.started.1 c.in-Ok.ensures.started begins) c.answer_lines.ensures.front
 
 pub returns-clause-long : goal.returns-clause-long
 returns-clause-long g c e = long_whole (g.R.Read.remaining c.args.reader.now.inner) (g.R.Read.remaining c.start.new.reader.inner) c.in-Ok.started.0 c.in-Ok.started.1 c.in-Ok.ensures.started (c.answer_lines.ensures.long e)
@@ -42,3 +51,10 @@ returns-clause-writes g c =
       closed = λ e. let after = c.answer_lines.ensures.writes.closed e in (omega (arith, after.0, before), after.1);
       otherwise = λ n m. let after = c.answer_lines.ensures.writes.otherwise n m in after ∙ before;
     }
+
+pub returns-in-Err-write_line-clause-front : goal.returns-in-Err-write_line-clause-front
+returns-in-Err-write_line-clause-front g c =
+    let write = g.W.Write.contents in
+    start_in_part (g.R.Read.remaining c.args.reader.now.inner) (g.R.Read.remaining c.start.new.reader.inner)
+    (write c.args.writer.now.inner) (write c.write_line.new.writer.inner) c.in-Ok.started.0 c.in-Ok.started.1 c.in-Ok.ensures.started
+    (subst (WritesFront (write c.args.writer.now.inner) (write c.write_line.new.writer.inner)) (c.deref.ensures.value ∙ c.in-Ok-word_line.ensures) c.in-Err-write_line.ensures.front)

@@ -9,7 +9,7 @@ use Rattle.gtp_capture.specs.declared.fault.Stop.{Stop}
 use Rattle.gtp_capture.specs.declared.fault.Stop.TheVariants.{TooLong, Memory, Read, Refused}
 use Rattle.gtpshow.specs.declared.command.Failure.{Failure}
 use Rattle.gtpshow.specs.declared.command.Failure.TheVariants as failures
-use Rattle.gtpshow.proofs.FramesShown.{Refusal, frames_shown, broken_shown, first_shown, first_refused, long_refused, noted_as, refusal, refusal_first, refusal_else, refusal_stops, same_failure, took_all}
+use Rattle.gtpshow.proofs.FramesShown.{Refusal, frames_shown, broken_shown, first_shown, first_refused, long_refused, next_shown, noted_as, refusal, refusal_first, refusal_else, refusal_stops, same_failure, took_all}
 use Rattle.gtpshow.proofs.capturing.frames_from.Goals as goal
 
 pub returns-in-Ok-clause-shown : goal.returns-in-Ok-clause-shown
@@ -20,31 +20,31 @@ returns-in-Ok-clause-shown g c =
 pub returns-in-Err-Broken-clause-broken : goal.returns-in-Err-Broken-clause-broken
 returns-in-Err-Broken-clause-broken g c at same =
     let place : c.in-Err-Broken.at ≡ at = cc in
-    subst (λ n. IfSome (g.I.Read.remaining c.args.reader.now.inner) (λ file. IsBrokenShown c.args.writer.now.form c.args.ports file (g.W.Write.contents c.args.writer.now.out.inner) (g.W.Write.contents c.read_capture.new.sink.out.inner) n)) place
+    subst (λ n. IfSome (g.I.Read.remaining c.args.reader.now.inner) (λ file. IsBrokenShown c.args.writer.now.asked c.args.ports file (g.W.Write.contents c.args.writer.now.out.inner) (g.W.Write.contents c.read_capture.new.sink.out.inner) n)) place
     (IfSome_then (g.I.Read.remaining c.args.reader.now.inner) c.in-Err-Broken.ensures.read (λ file is.
     broken_shown g.W.Write.contents c.args.ports file c.args.writer.now c.read_capture.new.sink c.in-Err-Broken.at c.requires.counts
-    (subst (λ (fault : CaptureFault). IsRead c.args.ports (TakesFrame g.W.Write.contents) RefusesFrame file c.args.writer.now c.read_capture.new.sink (Err fault)) c.in-Err-Broken.field-0-is is)))
+    (subst (λ (fault : CaptureFault). IsRead c.args.ports (TakesFrame g.W.Write.contents) (RefusesFrame g.W.Write.contents) file c.args.writer.now c.read_capture.new.sink (Err fault)) c.in-Err-Broken.field-0-is is)))
 
 pub returns-in-Err-Stopped-Memory-clause-first : goal.returns-in-Err-Stopped-Memory-clause-first
 returns-in-Err-Stopped-Memory-clause-first g c any =
     let fault : c.in-Err-Stopped-Memory.field-0 ≡ Stopped Memory = c.in-Err-Stopped-Memory.field-0-is ∙ ap (λ (stop : Stop). Stopped stop) c.in-Err-Stopped-Memory.field-0-0-is in
     IfSome_then (g.I.Read.remaining c.args.reader.now.inner) c.in-Err-Stopped-Memory.ensures.read (λ file is.
     first_shown g.W.Write.contents c.args.ports file c.args.writer.now c.read_capture.new.sink c.requires.counts
-    (subst (λ (f : CaptureFault). IsRead c.args.ports (TakesFrame g.W.Write.contents) RefusesFrame file c.args.writer.now c.read_capture.new.sink (Err f)) fault is))
+    (subst (λ (f : CaptureFault). IsRead c.args.ports (TakesFrame g.W.Write.contents) (RefusesFrame g.W.Write.contents) file c.args.writer.now c.read_capture.new.sink (Err f)) fault is))
 
 pub returns-in-Err-Stopped-Read-clause-first : goal.returns-in-Err-Stopped-Read-clause-first
 returns-in-Err-Stopped-Read-clause-first g c any =
     let fault : c.in-Err-Stopped-Read.field-0 ≡ Stopped Read = c.in-Err-Stopped-Read.field-0-is ∙ ap (λ (stop : Stop). Stopped stop) c.in-Err-Stopped-Read.field-0-0-is in
     IfSome_then (g.I.Read.remaining c.args.reader.now.inner) c.in-Err-Stopped-Read.ensures.read (λ file is.
     first_shown g.W.Write.contents c.args.ports file c.args.writer.now c.read_capture.new.sink c.requires.counts
-    (subst (λ (f : CaptureFault). IsRead c.args.ports (TakesFrame g.W.Write.contents) RefusesFrame file c.args.writer.now c.read_capture.new.sink (Err f)) fault is))
+    (subst (λ (f : CaptureFault). IsRead c.args.ports (TakesFrame g.W.Write.contents) (RefusesFrame g.W.Write.contents) file c.args.writer.now c.read_capture.new.sink (Err f)) fault is))
 
 pub returns-in-Err-Stopped-TooLong-clause-first : goal.returns-in-Err-Stopped-TooLong-clause-first
 returns-in-Err-Stopped-TooLong-clause-first g c any =
     let fault : c.in-Err-Stopped-TooLong.field-0 ≡ Stopped TooLong = c.in-Err-Stopped-TooLong.field-0-is ∙ ap (λ (stop : Stop). Stopped stop) c.in-Err-Stopped-TooLong.field-0-0-is in
     IfSome_then (g.I.Read.remaining c.args.reader.now.inner) c.in-Err-Stopped-TooLong.ensures.read (λ file is.
     first_shown g.W.Write.contents c.args.ports file c.args.writer.now c.read_capture.new.sink c.requires.counts
-    (subst (λ (f : CaptureFault). IsRead c.args.ports (TakesFrame g.W.Write.contents) RefusesFrame file c.args.writer.now c.read_capture.new.sink (Err f)) fault is).0)
+    (subst (λ (f : CaptureFault). IsRead c.args.ports (TakesFrame g.W.Write.contents) (RefusesFrame g.W.Write.contents) file c.args.writer.now c.read_capture.new.sink (Err f)) fault is).0)
 
 pub returns-in-Err-Stopped-Refused : goal.returns-in-Err-Stopped-Refused
 returns-in-Err-Stopped-Refused g c =
@@ -53,7 +53,7 @@ returns-in-Err-Stopped-Refused g c =
     let why = c.unwrap_or.result in
     let fault : c.in-Err-Stopped-Refused.field-0 ≡ Stopped Refused = c.in-Err-Stopped-Refused.field-0-is ∙ ap (λ (stop : Stop). Stopped stop) c.in-Err-Stopped-Refused.field-0-0-is in
     let refused = c.in-Err-Stopped-Refused.ensures.refused (ap (λ (f : CaptureFault). Err f) fault) in
-    let noted = noted_as (TakesFrame g.W.Write.contents) before after why refused c.unwrap_or.ensures in
+    let noted = noted_as g.W.Write.contents (TakesFrame g.W.Write.contents) before after why refused c.unwrap_or.ensures in
     let is = refusal g.W.Write.contents before after why c.requires.writes refused noted in
     let only = same_failure why in
     record {
@@ -63,10 +63,14 @@ returns-in-Err-Stopped-Refused g c =
       first = λ which. IfSome_then (g.I.Read.remaining c.args.reader.now.inner) c.in-Err-Stopped-Refused.ensures.read (λ file read.
           first_refused g.W.Write.contents c.args.ports file before after why c.requires.counts noted
           (refusal_first before after why is (elim which [ inl e ↦ inl (only failures.Memory e) | inr (inl e) ↦ inr (inl (only failures.Read e)) | inr (inr e) ↦ inr (inr (only failures.TooLong e)) ]))
-          (subst (λ (f : CaptureFault). IsRead c.args.ports (TakesFrame g.W.Write.contents) RefusesFrame file before after (Err f)) fault read));
+          (subst (λ (f : CaptureFault). IsRead c.args.ports (TakesFrame g.W.Write.contents) (RefusesFrame g.W.Write.contents) file before after (Err f)) fault read));
+      next = λ which. IfSome_then (g.I.Read.remaining c.args.reader.now.inner) c.in-Err-Stopped-Refused.ensures.read (λ file read.
+          next_shown g.W.Write.contents c.args.ports file before after why c.requires.counts noted
+          (elim which [ inl e ↦ inl (only failures.Write e) | inr e ↦ inr (only failures.Closed e) ])
+          (subst (λ (f : CaptureFault). IsRead c.args.ports (TakesFrame g.W.Write.contents) (RefusesFrame g.W.Write.contents) file before after (Err f)) fault read));
       long = λ e. IfSome_then (g.I.Read.remaining c.args.reader.now.inner) c.in-Err-Stopped-Refused.ensures.read (λ file read.
           long_refused g.W.Write.contents c.args.ports file before after c.requires.counts (noted ∙ ap (λ (f : Failure). Some f) (only failures.TooLong e))
-          (subst (λ (f : CaptureFault). IsRead c.args.ports (TakesFrame g.W.Write.contents) RefusesFrame file before after (Err f)) fault read));
+          (subst (λ (f : CaptureFault). IsRead c.args.ports (TakesFrame g.W.Write.contents) (RefusesFrame g.W.Write.contents) file before after (Err f)) fault read));
       reads = record { read = λ e. absurd (subst (λ (f : Failure). Refusal f before after) (only failures.Read e) is); otherwise = search rules };
       writes = record {
         write = λ e. subst (λ (f : Failure). Refusal f before after) (only failures.Write e) is;
