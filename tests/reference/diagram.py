@@ -149,10 +149,10 @@ ARROWS = ('<defs><marker id="arrow" viewBox="0 0 8 8" refX="8" refY="4" markerWi
 def arrow_svg(world, number, kind, label):
     """The arrow of a datagram, whose octets are its tooltip."""
     sender, plane, octets = world.datagrams[number]
-    start, end, short = (150, 650, 460) if sender == SERVING else (650, 150, 340)
+    start, end, short = (150, 650, 600) if sender == SERVING else (650, 150, 200)
     way = f'M{start} 0H{short}" marker-end="url(#cross)' if kind == "lost" else f'M{start} 0H{end}" marker-end="url(#arrow)'
     return (f'<g class="{" ".join([plane, kind]).strip()}"><title>{octets.hex() or "-"}</title><path d="{way}"/>'
-            f'<text class="label" x="400" y="-5">{label}</text></g>')
+            f'<text class="label" x="400" y="-8">{label}</text></g>')
 
 
 def mark_svg(node, kind, label):
@@ -181,15 +181,39 @@ def row_svg(world, kind, what, more):
     return place + seen + ("" if do == "tick" else outcome_svg(what.told))
 
 
+def sample(kind, x, y, mark, label, at):
+    return f'<g class="{kind}" transform="translate({x},{y})">{mark}<text x="{at}" y="4">{label}</text></g>'
+
+
+def legend():
+    """What lines and squares mean, and the heads of the columns."""
+    arrow, square = '<path d="M0 0H40" marker-end="url(#arrow)"/>', '<rect x="0" y="-5" width="10" height="10"/>'
+    cross = '<path d="M0 0H36" marker-end="url(#cross)"/>'
+    lines = [("control", 150), ("user", 270), ("again", 370), ("cut", 470), ("lost", 570)]
+    yield "".join(sample(kind, x, 20, cross if kind == "lost" else arrow, kind, 48) for kind, x in lines)
+    yield ("".join(sample(kind, x, 40, square, kind, 18) for kind, x in [("event", 150), ("restart", 270), ("tick", 370)])
+           + '<text class="refused" x="470" y="44">refused or dropped</text>')
+    yield ('<text class="place" x="60" y="66">event</text><text class="label" x="150" y="66">serving</text>'
+           '<text class="label" x="650" y="66">packet</text><text x="680" y="66">outcome</text>')
+
+
+def address_of(world, node, plane):
+    octets = getattr(world.setups[node], plane)
+    return ".".join(map(str, octets)) if len(octets) == 4 else octets.hex()
+
+
 def svg_lines(world, story):
     groups = [row_svg(world, *row) for row in rows(world, story)]
-    height = 60 + 30 * len(groups)
-    yield f'<svg xmlns="http://www.w3.org/2000/svg" width="900" height="{height}" font-family="monospace" font-size="12">'
+    height = 130 + 30 * len(groups)
+    yield f'<svg xmlns="http://www.w3.org/2000/svg" width="1000" height="{height}" font-family="monospace" font-size="12">'
     yield STYLE
     yield ARROWS
     yield '<rect width="100%" height="100%" fill="#fff"/>'
-    yield '<text class="label" x="150" y="25">serving</text><text class="label" x="650" y="25">packet</text>'
-    yield f'<path class="life" d="M150 35V{height}M650 35V{height}"/>'
+    yield from legend()
+    for x, node in (150, SERVING), (650, PACKET):
+        for y, plane in (82, "control"), (98, "user"):
+            yield f'<text class="label" x="{x}" y="{y}">{plane} {address_of(world, node, plane)}</text>'
+    yield f'<path class="life" d="M150 105V{height}M650 105V{height}"/>'
     for index, group in enumerate(groups):
-        yield f'<g transform="translate(0,{60 + 30 * index})">{group}</g>'
+        yield f'<g transform="translate(0,{130 + 30 * index})">{group}</g>'
     yield "</svg>"

@@ -29,9 +29,9 @@ def fault_of(plane, octets):
 
 
 def context_of(plane, octets):
-    """The number of the bearer context in which an element at fault lies, or None."""
+    """The number of the bearer context in which an element at fault lies or is missing, or None."""
     fault = first_fault(plane, octets)
-    return fault.context if fault and fault.code == "H7" else None
+    return fault.context if fault and plane == "control" else None
 
 
 def control_head(octets):
@@ -203,6 +203,58 @@ def members_of_json(it):
     if "second" in it:
         kept["second"] = members_of_json(it["second"])
     return kept
+
+
+def elements_behind(octets):
+    """Type and body of each element in octets; none where one is not whole."""
+    found = []
+    while octets:
+        if len(octets) < 4 or len(octets) < 4 + int.from_bytes(octets[1:3], "big"):
+            return []
+        end = 4 + int.from_bytes(octets[1:3], "big")
+        found.append((octets[0], octets[4:end]))
+        octets = octets[end:]
+    return found
+
+
+def is_tunnel_end(body):
+    """Whether a body is an F-TEID with an address and all of its octets (clause 8.22)."""
+    return len(body) >= 5 and body[0] & 0xC0 and len(body) >= 5 + 4 * (body[0] >> 7) + 16 * (body[0] >> 6 & 1)
+
+
+def teids_among(elements):
+    """The TEIDs of elements, with those inside bearer contexts."""
+    for kind, body in elements:
+        if kind == 87 and is_tunnel_end(body):
+            yield body[1:5].hex()
+        if kind == 93:
+            yield from (inner[1:5].hex() for inner_kind, inner in elements_behind(body) if inner_kind == 87 and is_tunnel_end(inner))
+
+
+def imsi_body(digits):
+    filled = digits + "f" * (len(digits) % 2)
+    return bytes(int(high + low, 16) for low, high in zip(filled[::2], filled[1::2]))
+
+
+def message_has(octets, kind, imsi, teid):
+    """Whether a message of the control plane has this type, tells this subscriber and has this TEID, of those that are asked for."""
+    head = control_head(octets)
+    if head is None:
+        return False
+    elements = elements_behind(octets[head[4]:])
+    return (kind in (None, head[0]) and (imsi is None or (1, imsi_body(imsi)) in elements)
+            and (teid is None or teid == head[1] or teid in teids_among(elements)))
+
+
+def is_chosen(plane, octets, kind=None, imsi=None, teid=None):
+    """Whether one message of a datagram has all that is asked for."""
+    if kind is None and imsi is None and teid is None:
+        return True
+    if plane == "control":
+        front, back = messages_of(octets)
+        return any(message_has(it, kind, imsi, teid) for it in (front, back) if it)
+    has_head = len(octets) >= 8 and octets[0] >> 4 == 3
+    return bool(has_head and kind in (None, octets[1]) and imsi is None and teid in (None, octets[4:8].hex()))
 
 
 def words_in_all(plane, octets):

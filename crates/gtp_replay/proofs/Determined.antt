@@ -3,26 +3,27 @@ use Rattle.std.proofs.Common.{◌≡◌, ℕ, Bool, true, false, List, [], ◌�
 use Rattle.std.specs.Prelude.{IsTrue, MatchResult, if◌then◌else◌}
 use Rattle.std.specs.FinMap.{entries}
 use Rattle.gtp_machine.specs.declared.role.Role.TheVariants.{Serving, Packet}
-use Rattle.gtp_world.specs.Record.{Log}
+use Rattle.gtp_machine.specs.World.{Event}
+use Rattle.gtp_world.specs.Determined.{WorldsAlike}
+use Rattle.gtp_world.specs.Record.{Log, WorldRecord}
 use Rattle.gtp_world.specs.Naming.{Pair, session_pairs, bearer_pairs, mutual_pairs, AgreeAt, DoAgree}
 use Rattle.gtp_world.proofs.Determined.Runs.{follow_one}
 use Rattle.gtp_scenario.specs.declared.fault.Refusal.{Refusal}
 use Rattle.gtp_scenario.specs.Scenarios.{Scenario, scenario_of}
 use Rattle.gtp_replay.specs.Contexts.{node_text}
-use Rattle.gtp_replay.specs.Determined.{WorldsHaveOneReport, OctetsHaveOneText, OfOneRun, FormsAreOfOneRun}
+use Rattle.gtp_replay.specs.Determined.{OfOneRun, FormsAreOfOneRun}
 use Rattle.gtp_replay.specs.Events.{events_text}
 use Rattle.gtp_outcomes.specs.Owed.{WasOwed}
-use Rattle.gtp_replay.specs.Report.{late_line}
+use Rattle.gtp_replay.specs.Report.{IsReport, late_line}
 use Rattle.gtp_replay.specs.Told.{TellsScenario, TellsRefusal, Tells, events_of}
 use Rattle.gtp_outcomes.specs.Each.{TellsEach}
 use Rattle.gtp_replay.specs.Verdicts.{mutual_line, taken_line}
 use Rattle.gtp_replay.specs.declared.replaying.Form.{Form}
-use Rattle.gtp_replay.specs.declared.replaying.Form.TheVariants.{Report}
 use Rattle.gtp_replay.specs.declared.verdict.Verdict.{Verdict}
 use Rattle.gtp_replay.specs.declared.verdict.Verdict.TheVariants.{Expected, Unexpected}
 use Rattle.gtp_replay.specs.Expected.{all_met}
 
-one_verdict : (a b : Bool) → (IsTrue a → IsTrue b) → (IsTrue b → IsTrue a) → a ≡ b
+pub one_verdict : (a b : Bool) → (IsTrue a → IsTrue b) → (IsTrue b → IsTrue a) → a ≡ b
 one_verdict true b there back = sym (there refl)
 one_verdict false true there back = back refl
 one_verdict false false there back = refl
@@ -35,7 +36,7 @@ each_one P Q line (x ∷ xs) a b there back (v, others, holds, rest, is) (w, oth
     let lines : others ≡ others_too = each_one P Q line xs others others_too there back rest rest_too in
     is ∙ ((λ i. line x (verdict i) ++ lines i) ∙ sym is_too)
 
-pub report_one : WorldsHaveOneReport
+pub report_one : (events : List Event) (one other : WorldRecord) (text other_text : List ℕ) → WorldsAlike one other → IsReport events one text → IsReport events other other_text → text ≡ other_text
 report_one events one other text other_text alike r s =
     let serving : one.serving.state.node ≡ other.serving.state.node = alike.serving.state.node in
     let packet : one.packet.state.node ≡ other.packet.state.node = alike.packet.state.node in
@@ -51,24 +52,6 @@ report_one events one other text other_text alike r s =
     (λ e o. subst (λ (l : Log). WasOwed l e) (sym alike.log) o)
     r.owed (subst (λ (l : Log). TellsEach (WasOwed other.log) taken_line l.accepted s.taken) (sym alike.log) s.owed) in
     r.whole ∙ ((λ i. events_text events (alike.log i).datagrams (alike.log i).notes ++ node_text Serving (serving i) ++ node_text Packet (packet i) ++ agreeing i ++ owed i ++ late_line (alike.log i).late) ∙ sym s.whole)
-
-scenario_one : (scenario : Scenario) (text other_text : List ℕ) (verdict other_verdict : Verdict) → TellsScenario Report scenario text verdict → TellsScenario Report scenario other_text other_verdict → (text ≡ other_text) × (verdict ≡ other_verdict)
-scenario_one scenario text other_text verdict other_verdict r s =
-    let alike = follow_one scenario.setup (events_of scenario) r.world s.world r.run.comes s.run.comes in (
-      report_one (events_of scenario) r.world s.world text other_text alike r.text_is s.text_is,
-      r.verdict_is ∙ (ap (λ (l : Log). if all_met scenario.entries l.notes then Expected else Unexpected) alike.log ∙ sym s.verdict_is),
-    )
-
-refusal_one : (refusal : Refusal) (text other_text : List ℕ) (verdict other_verdict : Verdict) → TellsRefusal refusal text verdict → TellsRefusal refusal other_text other_verdict → (text ≡ other_text) × (verdict ≡ other_verdict)
-refusal_one refusal text other_text verdict other_verdict r s = (r.line ∙ sym s.line, r.verdict_is ∙ sym s.verdict_is)
-
-pub tell_one : OctetsHaveOneText
-unfolding Tells
-tell_one octets text other_text verdict other_verdict r s = by_scenario (scenario_of octets) r s
-  where
-    by_scenario : (o : Result Scenario Refusal) → MatchResult o (λ scenario. TellsScenario Report scenario text verdict) (λ refusal. TellsRefusal refusal text verdict) → MatchResult o (λ scenario. TellsScenario Report scenario other_text other_verdict) (λ refusal. TellsRefusal refusal other_text other_verdict) → (text ≡ other_text) × (verdict ≡ other_verdict)
-    by_scenario (Ok scenario) p q = scenario_one scenario text other_text verdict other_verdict p q
-    by_scenario (Err refusal) p q = refusal_one refusal text other_text verdict other_verdict p q
 
 scenario_forms : (form other : Form) (scenario : Scenario) (text other_text : List ℕ) (verdict other_verdict : Verdict) → TellsScenario form scenario text verdict → TellsScenario other scenario other_text other_verdict → (verdict ≡ other_verdict) × OfOneRun form other scenario text other_text
 scenario_forms form other scenario text other_text verdict other_verdict r s =

@@ -2,6 +2,7 @@
 use Rattle.std.proofs.Common.{arith, ◌≡◌, ◌∙◌, ℕ, ◌+◌, ◌-◌, ◌<◌, ◌≤◌, List, [], ◌∷◌, ◌++◌, map, length, take, get_or, replicate, codes, refl, sym, subst, ap, append_assoc}
 use Rattle.std.proofs.lemmas.List.{append-nil, take_all, take_more, map_push}
 use Rattle.std.specs.List.{enumerate_from}
+use Rattle.gtp_machine.specs.Config.{Addresses}
 use Rattle.gtp_replay.specs.Rows.{Row}
 use Rattle.gtp_replay.specs.Svg.{IsGroup, height_of, svg_head, IsSvg}
 use Rattle.gtp_replay.specs.Diagram.{filled, EachHas, IsLine, IsDiagram, diagram_head}
@@ -36,26 +37,27 @@ enumerate_push n (x ∷ xs) y =
     let next : n + 1 + length xs ≡ n + length (x ∷ xs) = omega arith in
     ap (λ l. (n, x) ∷ l) (enumerate_push (n + 1) xs y ∙ ap (λ (m : ℕ). enumerate_from (n + 1) xs ++ (m, y) ∷ []) next)
 
--- the picture of so many rows up to the groups of the first of them
-pub record DrawnSoFar (count : ℕ) (rows : List Row) (text : List ℕ) : Type 0 where
+-- a picture that begins so, up to the groups of the first rows
+pub record DrawnSoFar (head : List ℕ) (rows : List Row) (text : List ℕ) : Type 0 where
   pub groups : List ℕ
   pub each : EachHas IsGroup (enumerate_from 0 rows) groups
-  pub whole : text ≡ svg_head (height_of count) ++ groups
+  pub whole : text ≡ head ++ groups
 
-pub none_drawn : (count : ℕ) (text : List ℕ) → text ≡ svg_head (height_of count) → DrawnSoFar count [] text
-none_drawn count text is = record { groups = []; each = refl; whole = is ∙ sym (append-nil (svg_head (height_of count))) }
+pub none_drawn : (head text : List ℕ) → text ≡ head → DrawnSoFar head [] text
+none_drawn head text is = record { groups = []; each = refl; whole = is ∙ sym (append-nil head) }
 
 -- a group more
-pub group_more : (count : ℕ) (rows : List Row) (row : Row) (place : ℕ) (text group new : List ℕ) → length rows ≡ place → DrawnSoFar count rows text → IsGroup (place, row) group → new ≡ text ++ group → DrawnSoFar count (rows ++ row ∷ []) new
-group_more count rows row place text group new at so is more =
+pub group_more : (head : List ℕ) (rows : List Row) (row : Row) (place : ℕ) (text group new : List ℕ) → length rows ≡ place → DrawnSoFar head rows text → IsGroup (place, row) group → new ≡ text ++ group → DrawnSoFar head (rows ++ row ∷ []) new
+group_more head rows row place text group new at so is more =
     let number : place ≡ 0 + length rows = omega (arith, at) in
     let here : (place, row) ≡ (0 + length rows, row) = ap (λ (n : ℕ). (n, row)) number in
     record {
       groups = so.groups ++ group;
       each = subst (λ rs. EachHas IsGroup rs (so.groups ++ group)) (sym (enumerate_push 0 rows row)) (each_more IsGroup (enumerate_from 0 rows) (0 + length rows, row) so.groups group so.each (subst (λ r. IsGroup r group) here is));
-      whole = more ∙ (ap (λ l. l ++ group) so.whole ∙ append_assoc (svg_head (height_of count)) so.groups group);
+      whole = more ∙ (ap (λ l. l ++ group) so.whole ∙ append_assoc head so.groups group);
     }
 
 -- and the end
-pub all_drawn : (rows : List Row) (text new : List ℕ) → DrawnSoFar (length rows) rows text → new ≡ text ++ codes "</svg>\n" → IsSvg rows new
-all_drawn rows text new so is = (so.groups, so.each, is ∙ (ap (λ l. l ++ codes "</svg>\n") so.whole ∙ append_assoc (svg_head (height_of (length rows))) so.groups (codes "</svg>\n")))
+pub all_drawn : (serving packet : Addresses) (rows : List Row) (text new : List ℕ) → DrawnSoFar (svg_head serving packet (height_of (length rows))) rows text → new ≡ text ++ codes "</svg>\n" → IsSvg serving packet rows new
+all_drawn serving packet rows text new so is =
+    (so.groups, so.each, is ∙ (ap (λ l. l ++ codes "</svg>\n") so.whole ∙ append_assoc (svg_head serving packet (height_of (length rows))) so.groups (codes "</svg>\n")))

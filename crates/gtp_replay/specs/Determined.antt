@@ -3,28 +3,26 @@ use Rattle.std.specs.Prelude.{◌≡◌, ℕ, List, MatchResult}
 use Rattle.gtp_machine.specs.World.{Event}
 use Rattle.gtp_world.specs.Determined.{WorldsAlike}
 use Rattle.gtp_world.specs.Record.{WorldRecord}
-use Rattle.gtp_replay.specs.Report.{IsReport}
 use Rattle.gtp_scenario.specs.Scenarios.{Scenario, scenario_of}
 use Rattle.gtp_replay.specs.Told.{Tells, IsText, events_of}
 use Rattle.gtp_replay.specs.declared.replaying.Form.{Form}
-use Rattle.gtp_replay.specs.declared.replaying.Form.TheVariants.{Report}
 use Rattle.gtp_replay.specs.declared.verdict.Verdict.{Verdict}
 
--- Worlds that are alike have one report.
-abbrev pub WorldsHaveOneReport : Type 0
-WorldsHaveOneReport =
-    (events : List Event) (one other : WorldRecord) (text other_text : List ℕ)
+-- Worlds that are alike have one text in each form: one report, one diagram, one picture, one capture and one JSON.
+abbrev pub WorldsHaveOneText : Type 0
+WorldsHaveOneText =
+    (form : Form) (events : List Event) (one other : WorldRecord) (text other_text : List ℕ)
     → WorldsAlike one other
-    → IsReport events one text
-    → IsReport events other other_text
+    → IsText form events one text
+    → IsText form events other other_text
     → text ≡ other_text
 
--- Whatever octets come, there is one report of them, or one line of a refusal, and one verdict.
+-- Whatever octets come, there is one text of them in each form, or one line of a refusal, and one verdict.
 abbrev pub OctetsHaveOneText : Type 0
 OctetsHaveOneText =
-    (octets text other_text : List ℕ) (verdict other_verdict : Verdict)
-    → Tells Report octets text verdict
-    → Tells Report octets other_text other_verdict
+    (form : Form) (octets text other_text : List ℕ) (verdict other_verdict : Verdict)
+    → Tells form octets text verdict
+    → Tells form octets other_text other_verdict
     → (text ≡ other_text) × (verdict ≡ other_verdict)
 
 -- What is written of a scenario in two forms is of worlds that are alike.

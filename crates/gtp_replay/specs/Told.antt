@@ -2,8 +2,11 @@
 use Rattle.std.specs.Prelude.{◌≡◌, ℕ, List, ◌++◌, MatchResult, codes, decimal, if◌then◌else◌, Option}
 use Rattle.std.specs.Io.KnownBytes.{Appends}
 use Rattle.std.specs.List.{flat_map}
+use Rattle.gtp_machine.specs.Config.{Addresses}
 use Rattle.gtp_machine.specs.World.{Event}
-use Rattle.gtp_world.specs.Record.{WorldRecord}
+use Rattle.gtp_machine.specs.declared.role.Role.{Role}
+use Rattle.gtp_machine.specs.declared.role.Role.TheVariants.{Serving, Packet}
+use Rattle.gtp_world.specs.Record.{WorldRecord, gateway_in}
 use Rattle.gtp_world.specs.Runs.{RanWhole}
 use Rattle.gtp_scenario.specs.declared.fault.Refusal.{Refusal}
 use Rattle.gtp_scenario.specs.declared.fault.Refusal.TheVariants as refusals
@@ -34,11 +37,15 @@ verdict_on scenario world = if all_met scenario.entries world.log.notes then Exp
 abbrev pub rows_in : List Event → WorldRecord → List Row
 rows_in events world = rows_of events world.log.datagrams world.log.notes
 
+-- the addresses of a gateway of a world
+abbrev pub own_in : WorldRecord → Role → Addresses
+own_in world role = (gateway_in world role).settings.config.own
+
 -- a text of a world in which these events happened, in a form
 abbrev pub IsText : Form → List Event → WorldRecord → List ℕ → Type 0
 IsText Report events world text = IsReport events world text
 IsText Diagram events world text = IsDiagram (rows_in events world) text
-IsText Svg events world text = IsSvg (rows_in events world) text
+IsText Svg events world text = IsSvg (own_in world Serving) (own_in world Packet) (rows_in events world) text
 IsText Capture events world text = IsCaptureOf world text
 IsText Json events world text = IsRunJson events world text
 

@@ -151,8 +151,6 @@ pub fn capture(alloc: Global, world: &World) -> Result<Vec<u8>, NoCapture>
     }
     let frames = all_frames(alloc, datagrams, world.outcomes())?;
     let mut text = Vec::new(alloc);
-    match write_capture(&mut text, &frames) {
-        Ok(()) => Ok(text),
-        Err(_) => Err(NoCapture::Memory),
-    }
+    write_capture(&mut text, &frames)?;
+    Ok(text)
 }

@@ -23,7 +23,7 @@ use crate::log::{Datagram, Entry, Note};
 use crate::mutual::{Mutual, Mutuals, do_agree};
 use crate::run::RunFault;
 use crate::sides::Sides;
-use gtp_gateway::{Gateway, Memory, Role, SessionSpec};
+use gtp_gateway::{Config, Gateway, Memory, Role, SessionSpec};
 use std::alloc::Global;
 use std::marker::Model;
 
@@ -186,6 +186,13 @@ impl World {
         ensures { result.now ≡ (gateway_in self.now role).state }
     {
         &self.sides.side(role).gateway
+    }
+
+    /// With which settings the gateway of this role starts. Allocates nothing.
+    pub fn settings(&self, role: Role) -> &Config
+        ensures { result.now ≡ (gateway_in self.now role).settings }
+    {
+        &self.sides.side(role).config
     }
 
     /// The number of contexts that the receiver of the datagram with this number has made, since it last started, on
