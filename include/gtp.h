@@ -64,7 +64,8 @@ struct gtp_end { struct gtp_address address; uint16_t port; };
 /* ---- Reading a datagram in place. No memory is taken. ---- */
 
 struct gtp_fault {              /* the first fault; what does not belong to it is 0. docs/PROTOCOL.md has the numbers */
-    uint64_t at;                /* the place, from the start of the datagram */
+    uint64_t at;                /* the place, from the start of the datagram; of H6 that of the bearer context that lacks the
+                                 * element, and 0 where the message itself does */
     uint64_t stated, held;      /* the stated length, and how many octets there are */
     uint8_t number;             /* H1 to H7 on the control plane, U1 to U9 on the user plane */
     uint8_t detail;             /* of H7: I1 to I3 */
@@ -215,6 +216,14 @@ struct gtp_setup {
                                            access point that has one the packet gateway asks for such a bearer, in a second message of
                                            the datagram that answers for the session (TS 29.274 5.5.1) */
 };
+enum gtp_setup_value {
+    GTP_SETUP_GOOD,             /* none */
+    GTP_SETUP_ROLE, GTP_SETUP_OWN_CONTROL, GTP_SETUP_OWN_USER, GTP_SETUP_PEER_CONTROL, GTP_SETUP_PEER_USER,
+    GTP_SETUP_ACCESS_POINTS, GTP_SETUP_T3, GTP_SETUP_N3, GTP_SETUP_HOLD, GTP_SETUP_POOL, GTP_SETUP_POOL6,
+    GTP_SETUP_TEMPLATE_COUNT, GTP_SETUP_TEMPLATES
+};
+/* The first value, in this order, for which gtp_gateway_new answers GTP_BAD_VALUE. No memory is taken. */
+uint8_t gtp_setup_bad_value(const struct gtp_setup *setup, const uint8_t *access_points, size_t len);
 /* Opens a gateway in `gateway`, which is empty. access_points: names with commas between them, as "internet,ims", at most 16.
  * A setup is looked at before memory is taken: one that is bad is always GTP_BAD_VALUE. The room for all datagrams that may ever wait
  * is taken now, some 300 KB, so no later call lacks it. */
@@ -281,6 +290,14 @@ static inline struct gtp_imsi gtp_imsi_of(const char *text) {
     if (text[imsi.count] != '\0') imsi.count = 0;
     return imsi;
 }
+enum gtp_session_value {
+    GTP_SESSION_GOOD,           /* none */
+    GTP_SESSION_IMSI, GTP_SESSION_ACCESS_POINT, GTP_SESSION_IDENTITY, GTP_SESSION_NETWORK, GTP_SESSION_QUALITY,
+    GTP_SESSION_SELECTION, GTP_SESSION_PDN
+};
+/* The first value, in this order, for which gtp_gateway_create_session answers GTP_BAD_VALUE. No memory is taken. */
+uint8_t gtp_session_bad_value(const struct gtp_session *session, const struct gtp_imsi *imsi,
+                              const uint8_t *access_point, size_t access_point_len);
 /* Commands of the serving gateway. access_point: a name, as "internet". */
 uint8_t gtp_gateway_create_session(gtp_gateway *gateway, const struct gtp_session *session, const struct gtp_imsi *imsi,
                                    const uint8_t *access_point, size_t access_point_len, struct gtp_told *told);

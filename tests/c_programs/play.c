@@ -184,6 +184,52 @@ static void empty(gtp_gateway *g) {
     CHECK(!g->hidden && !g->count);
 }
 
+/* Which value of a setup is bad, of several the first. */
+static void bad_setups(const struct gtp_setup *s) {
+    struct gtp_setup bad;
+    char many[17 * 2];
+    for (int i = 0; i < 34; i++) many[i] = i % 2 ? ',' : 'a';
+#define NAMES(value, change) bad = *s; change; CHECK(gtp_setup_bad_value(&bad, text("internet"), 8) == value)
+    NAMES(GTP_SETUP_GOOD, bad.counter = 255);
+    NAMES(GTP_SETUP_ROLE, bad.role = 2);
+    NAMES(GTP_SETUP_OWN_CONTROL, bad.own_control.version = 5);
+    NAMES(GTP_SETUP_OWN_USER, bad.own_user.version = 0; bad.t3 = 0);
+    NAMES(GTP_SETUP_PEER_CONTROL, bad.peer_control.version = 255);
+    NAMES(GTP_SETUP_PEER_USER, bad.peer_user.version = 7);
+    NAMES(GTP_SETUP_T3, bad.t3 = 0);
+    NAMES(GTP_SETUP_T3, bad.t3 = 1001);
+    NAMES(GTP_SETUP_N3, bad.n3 = 101);
+    NAMES(GTP_SETUP_HOLD, bad.hold = 0);
+    NAMES(GTP_SETUP_HOLD, bad.hold = 100001);
+    NAMES(GTP_SETUP_POOL, bad.pool_count = 65537);
+    NAMES(GTP_SETUP_POOL, bad.pool = 0xffffffff; bad.pool_count = 2);
+    NAMES(GTP_SETUP_POOL6, bad.pool6_count = 65537);
+    NAMES(GTP_SETUP_TEMPLATE_COUNT, bad.template_count = 17);
+    NAMES(GTP_SETUP_TEMPLATES, bad.template_count = 1; bad.templates[0].access_point = 1);
+    NAMES(GTP_SETUP_TEMPLATES, bad.template_count = 1; bad.templates[0].access_point = 0; bad.templates[0].quality.pl = 16);
+#undef NAMES
+    CHECK(gtp_setup_bad_value(s, text("inter..net"), 10) == GTP_SETUP_ACCESS_POINTS);
+    CHECK(gtp_setup_bad_value(s, text(many), 31) == GTP_SETUP_GOOD && gtp_setup_bad_value(s, text(many), 33) == GTP_SETUP_ACCESS_POINTS);
+}
+
+/* And which one of what a session is asked for with. */
+static void bad_sessions(void) {
+    struct gtp_session bad;
+    struct gtp_imsi imsi = gtp_imsi_of("001010123456789"), none = gtp_imsi_of("00101x");
+#define NAMES(value, change) bad = wish(1); change; CHECK(gtp_session_bad_value(&bad, &imsi, text("internet"), 8) == value)
+    NAMES(GTP_SESSION_GOOD, bad.rat = 255);
+    NAMES(GTP_SESSION_IDENTITY, bad.identity = 4);
+    NAMES(GTP_SESSION_NETWORK, bad.network[0] = 10; bad.pdn = 8);
+    NAMES(GTP_SESSION_QUALITY, bad.quality.pl = 16);
+    NAMES(GTP_SESSION_QUALITY, bad.quality.mbr_down = 1ull << 40);
+    NAMES(GTP_SESSION_SELECTION, bad.selection = 4);
+    NAMES(GTP_SESSION_PDN, bad.pdn = 8);
+#undef NAMES
+    bad = wish(1);
+    CHECK(gtp_session_bad_value(&bad, &none, text(""), 0) == GTP_SESSION_IMSI);
+    CHECK(gtp_session_bad_value(&bad, &imsi, text(""), 0) == GTP_SESSION_ACCESS_POINT);
+}
+
 static void handles(void) {
     gtp_gateway g = {0}, moved;
     struct gtp_setup s = setup_of(GTP_PACKET, false), bad;
@@ -202,6 +248,7 @@ static void handles(void) {
     bad.templates[0].access_point = 0; bad.templates[0].quality.pl = 16;
     CHECK(gtp_gateway_new(&g, &bad, text("internet"), 8) == GTP_BAD_VALUE);
     CHECK(gtp_gateway_new(&g, &s, text("a\xff"), 2) == GTP_BAD_VALUE);
+    bad_setups(&s);
     empty(&g);
     CHECK(gtp_gateway_new(&g, &s, text("internet"), 8) == GTP_DONE && gtp_gateway_new(&g, &s, text("internet"), 8) == GTP_NOT_EMPTY);
     moved = g; memset(&g, 0, sizeof g);
@@ -222,6 +269,7 @@ static void refusals(void) {
     memset(&told, 0, sizeof told);
     CHECK(gtp_gateway_new(&packet, &s, text("internet"), 8) == GTP_DONE);
     CHECK(create(&packet, "001010123456789", 1, &told) == GTP_REFUSED && told.outcome.kind == GTP_NOT_BEGUN && told.outcome.cause == 3);
+    bad_sessions();
     CHECK(create(&packet, "00101x", 1, &told) == GTP_BAD_VALUE && create(&packet, "001010123456789", 8, &told) == GTP_BAD_VALUE);
     CHECK(gtp_gateway_release_session(&packet, 1, &told) == GTP_REFUSED && told.outcome.cause == 1);
     CHECK(gtp_gateway_delete_bearer(&packet, 1, 4, &told) == GTP_BAD_VALUE && gtp_gateway_delete_bearer(&packet, 1, 6, &told) == GTP_REFUSED);

@@ -1,5 +1,5 @@
 -- What C is told of a fault, in numbers.
-use Rattle.std.specs.Prelude.{ℕ}
+use Rattle.std.specs.Prelude.{ℕ, unwrap_or}
 use Rattle.gtp_ie.specs.Codes.{number_of as element_number}
 use Rattle.gtp_ie.specs.declared.fault.IeFault.{IeFault}
 use Rattle.gtp_ie.specs.declared.fault.IeFault.TheVariants as elements
@@ -32,7 +32,7 @@ control_told (control.Version version) = record (no_fault 2) { version = version
 control_told (control.Length stated held) = record (no_fault 3) { stated = stated; held = held }
 control_told (control.FlagT kind) = record (no_fault 4) { message = kind }
 control_told (control.BadPiggyback at) = record (no_fault 5) { at = at }
-control_told (control.Missing kind instance conditional head) = record (no_fault 6) { message = head.kind; element = kind; instance = instance; conditional = flag conditional }
+control_told (control.Missing kind instance conditional group head) = record (no_fault 6) { at = unwrap_or group 0; message = head.kind; element = kind; instance = instance; conditional = flag conditional }
 control_told (control.Element fault head) = element_told head.kind fault
 control_told control.Memory = no_fault 8
 control_told control.TooLong = no_fault 9

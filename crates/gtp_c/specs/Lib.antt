@@ -1,3 +1,4 @@
+pub mod BadValues
 pub mod Behind
 pub mod Bodies
 pub mod Commands

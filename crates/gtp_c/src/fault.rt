@@ -90,8 +90,10 @@ impl Fault {
                 kind,
                 instance,
                 conditional,
+                group,
                 head,
             } => {
+                told.at = group.unwrap_or(0) as u64;
                 told.message = head.kind;
                 told.element = kind;
                 told.instance = instance;

@@ -3,6 +3,7 @@
 #![tactic(auto)]
 
 mod asked;
+mod bad_values;
 mod behind;
 mod bodies;
 mod coming;

@@ -40,7 +40,7 @@ pub struct Setup {
 }
 
 /// The role of this number.
-fn role_of(number: u8) -> Option<Role>
+pub(crate) fn role_of(number: u8) -> Option<Role>
     ensures some { IsSome result ↔ (number ≤ 1) }
     ensures value { IfSome result (λ role. role_at role ≡ number) }
 {
@@ -73,7 +73,7 @@ impl Setup {
     }
 
     /// The templates that are asked for.
-    fn templates(&self) -> Option<&[Template]>
+    pub(crate) fn templates(&self) -> Option<&[Template]>
         ensures some { IsSome result ↔ (self.now.template_count ≤ 16) }
         ensures value { IfSome result (λ templates. templates.now ≡ templates_in self.now) }
     {

@@ -243,6 +243,9 @@ pub enum ControlFault {
         instance: u8,
         /// Whether the standard calls it conditional; else it is mandatory.
         is_conditional: bool,
+        /// The place of the bearer context that lacks it, counted from the start of the datagram; none where the
+        /// message itself does.
+        group: Option<u64>,
     },
     /// H7 I1: the element at this place does not end in the message.
     Truncated {
@@ -278,7 +281,10 @@ impl ControlFault {
             (3, _) => ControlFault::Length { stated: f.stated, held: f.held },
             (4, _) => ControlFault::TeidFlag { kind: f.message },
             (5, _) => ControlFault::Piggyback { at },
-            (6, _) => ControlFault::Missing { kind, instance, is_conditional: f.conditional != 0 },
+            (6, _) => {
+                let group = (at != 0).then_some(at);
+                ControlFault::Missing { kind, instance, is_conditional: f.conditional != 0, group }
+            }
             (_, 1) => ControlFault::Truncated { at },
             (_, 2) => ControlFault::ShortValue { kind, instance, at },
             _ => ControlFault::BadValue { kind, instance, at },
@@ -294,7 +300,7 @@ impl fmt::Display for ControlFault {
             ControlFault::Length { stated, held } => write!(f, "H3 stated {stated} held {held}"),
             ControlFault::TeidFlag { kind } => write!(f, "H4 type {kind}"),
             ControlFault::Piggyback { at } => write!(f, "H5 at {at}"),
-            ControlFault::Missing { kind, instance, is_conditional } => {
+            ControlFault::Missing { kind, instance, is_conditional, .. } => {
                 let mark = if *is_conditional { "conditional" } else { "mandatory" };
                 write!(f, "H6 type {kind} instance {instance} {mark}")
             }

@@ -364,6 +364,13 @@ extern "C" {
     ) -> u8;
 
     pub fn gtp_gateway_new(gateway: *mut Gateway, setup: *const Setup, access_points: *const u8, len: usize) -> u8;
+    pub fn gtp_setup_bad_value(setup: *const Setup, access_points: *const u8, len: usize) -> u8;
+    pub fn gtp_session_bad_value(
+        session: *const Session,
+        imsi: *const Imsi,
+        access_point: *const u8,
+        access_point_len: usize,
+    ) -> u8;
     pub fn gtp_gateway_free(gateway: *mut Gateway) -> u8;
     pub fn gtp_gateway_receive(
         gateway: *mut Gateway,

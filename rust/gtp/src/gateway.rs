@@ -35,11 +35,9 @@ impl Gateway {
     /// A gateway that has just started.
     ///
     /// # Errors
-    /// `BadValue` if a value of the setup is out of its range, an access point's name is none or has a comma, or a template names no
-    /// access point of the setup; `NoMemory`.
+    /// `BadValue` if a value of the setup is out of its range, which [`Setup::bad_value`] names; `NoMemory`.
     pub fn new(setup: &Setup<'_>) -> Result<Gateway, Error> {
-        // The library cuts a text at each comma, and an empty one has no names.
-        if setup.access_points.iter().any(|name| name.is_empty() || name.contains(',')) {
+        if setup.has_bad_names() {
             return Err(Error::BadValue);
         }
         let names = setup.access_points.join(",");

@@ -51,7 +51,7 @@ pub mod element {
     /// Bearer Traffic Flow Template.
     pub const BEARER_TFT: u8 = 84;
     /// Fully Qualified Tunnel Endpoint Identifier.
-    pub const F_TEID: u8 = 87;
+    pub const FTEID: u8 = 87;
     /// Bearer Context: a group of elements.
     pub const BEARER_CONTEXT: u8 = 93;
     /// Charging ID.

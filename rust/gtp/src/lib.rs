@@ -2,7 +2,7 @@
 //! serving or packet gateway. A safe face of `libgtp_c`, whose code is proved; docs/C.md says what is.
 //!
 //! Nothing here needs a clock or a socket. The caller hands a [`Gateway`] what came, sends what it takes from it, and calls
-//! [`Gateway::tick`] at even intervals.
+//! [`Gateway::tick`] at even intervals. Formatted with `{:x?}`, TEIDs are hexadecimal, as lines and reports have them.
 //!
 //! ```
 //! use gtp::kinds::{element::RECOVERY, message::ECHO_REQUEST};
@@ -38,7 +38,7 @@ pub use element::{Element, Elements};
 pub use error::{CommandError, ControlFault, Error, Refusal, TooSmall, UserFault, ValueError, WriteError};
 pub use gateway::{Gateway, Sent};
 pub use report::{Outcome, Received, Ticked};
-pub use setup::{Addresses, Role, SessionRequest, Setup, Template, Timers};
+pub use setup::{Addresses, Role, SessionRequest, SessionValue, Setup, SetupValue, Template, Timers};
 pub use user::{Extension, Extensions, UserMessage};
 pub use value::{Ambr, Cause, FTeid, Paa, Quality, Value};
 pub use write::{version, write_element, write_message, write_packet, write_user, write_value, Header, UserHeader};

@@ -1,6 +1,7 @@
 //! With what a gateway starts, and with what a session is asked for.
 
 use crate::ffi;
+use crate::value::digits_of;
 use crate::{Ambr, Quality};
 use std::net::{IpAddr, Ipv4Addr, Ipv6Addr};
 
@@ -123,6 +124,55 @@ impl Setup<'_> {
     }
 }
 
+/// A value of a [`Setup`].
+#[derive(Clone, Copy, Debug, PartialEq, Eq, Hash)]
+pub enum SetupValue {
+    /// The names of the access points: one is none or has a comma, or they are more than 16.
+    AccessPoints,
+    /// The time after which a request goes out again.
+    T3Response,
+    /// How often it goes out again.
+    N3Requests,
+    /// The time for which an answer is held.
+    Hold,
+    /// The IPv4 addresses.
+    Pool,
+    /// The IPv6 addresses.
+    Pool6,
+    /// The templates: there are more than 16, or one names no access point of the setup, has more than 255 octets, or a quality that
+    /// is out of its range.
+    Templates,
+}
+
+impl Setup<'_> {
+    /// The first value for which [`Gateway::new`](crate::Gateway::new) answers `BadValue`; `None` if there is none.
+    pub fn bad_value(&self) -> Option<SetupValue> {
+        if self.has_bad_names() {
+            return Some(SetupValue::AccessPoints);
+        }
+        let names = self.access_points.join(",");
+        let Some(setup) = self.raw() else {
+            return Some(SetupValue::Templates);
+        };
+        // SAFETY: the pointers are to a struct and to a slice of this length.
+        match unsafe { ffi::gtp_setup_bad_value(&setup, names.as_ptr(), names.len()) } {
+            6 => Some(SetupValue::AccessPoints),
+            7 => Some(SetupValue::T3Response),
+            8 => Some(SetupValue::N3Requests),
+            9 => Some(SetupValue::Hold),
+            10 => Some(SetupValue::Pool),
+            11 => Some(SetupValue::Pool6),
+            12 | 13 => Some(SetupValue::Templates),
+            _ => None,
+        }
+    }
+
+    /// The library cuts a text at each comma, and an empty one has no names.
+    pub(crate) fn has_bad_names(&self) -> bool {
+        self.access_points.iter().any(|name| name.is_empty() || name.contains(','))
+    }
+}
+
 /// With what a session is asked for (TS 29.274 table 7.2.1-1).
 #[derive(Clone, Debug, PartialEq, Eq)]
 pub struct SessionRequest<'a> {
@@ -148,6 +198,25 @@ pub struct SessionRequest<'a> {
     pub quality: Quality,
 }
 
+/// A value of a [`SessionRequest`].
+#[derive(Clone, Copy, Debug, PartialEq, Eq, Hash)]
+pub enum SessionValue {
+    /// The subscriber.
+    Imsi,
+    /// The name of the access point.
+    AccessPoint,
+    /// The EPS bearer identity.
+    Identity,
+    /// The codes of the serving network.
+    Network,
+    /// The quality of service.
+    Quality,
+    /// The selection mode.
+    Selection,
+    /// The PDN type.
+    Pdn,
+}
+
 /// The digits of a network's codes: 001 and 01 are 0, 0, 1 and 0, 1, 15. What is no code has a digit that is none.
 pub(crate) fn network_digits(mcc: &str, mnc: &str) -> [u8; 6] {
     let mut digits = [15; 6];
@@ -171,6 +240,23 @@ impl SessionRequest<'_> {
             rat: self.rat,
             selection: self.selection,
             pdn: self.pdn,
+        }
+    }
+
+    /// The first value for which [`Gateway::create_session`](crate::Gateway::create_session) answers `BadValue`; `None` if there is
+    /// none.
+    pub fn bad_value(&self) -> Option<SessionValue> {
+        let (session, imsi, name) = (self.raw(), digits_of(self.imsi), self.access_point);
+        // SAFETY: the pointers are to structs and to a slice of this length.
+        match unsafe { ffi::gtp_session_bad_value(&session, &imsi, name.as_ptr(), name.len()) } {
+            1 => Some(SessionValue::Imsi),
+            2 => Some(SessionValue::AccessPoint),
+            3 => Some(SessionValue::Identity),
+            4 => Some(SessionValue::Network),
+            5 => Some(SessionValue::Quality),
+            6 => Some(SessionValue::Selection),
+            7 => Some(SessionValue::Pdn),
+            _ => None,
         }
     }
 }

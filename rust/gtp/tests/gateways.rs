@@ -182,6 +182,7 @@ fn a_template_that_is_none_is_refused() {
         Template { tft: &[0; 256], ..good },
     ] {
         assert_eq!(opens(&[bad]), Err(Error::BadValue), "{bad:?}");
+        assert_eq!(Setup { templates: &[bad], ..setup(Role::Packet) }.bad_value(), Some(SetupValue::Templates), "{bad:?}");
     }
 }
 
@@ -271,18 +272,21 @@ fn what_is_refused_changes_nothing() {
     let mut pair = Pair::new();
     assert_eq!(pair.serving.delete_session(1), Err(CommandError::Refused(Refusal::NoSuchContext)));
     assert_eq!(pair.packet.create_session(&request()), Err(CommandError::Refused(Refusal::WrongRole)));
-    for bad in [
-        SessionRequest { imsi: "12345", ..request() },
-        SessionRequest { imsi: "00101012345678x", ..request() },
-        SessionRequest { access_point: "a..b", ..request() },
-        SessionRequest { identity: 4, ..request() },
-        SessionRequest { mcc: "01", ..request() },
-        SessionRequest { mnc: "0x", ..request() },
-        SessionRequest { mnc: "01f", ..request() },
-        SessionRequest { pdn: 8, ..request() },
-        SessionRequest { quality: Quality { pl: 16, ..Quality::default() }, ..request() },
+    assert_eq!(request().bad_value(), None);
+    for (value, bad) in [
+        (SessionValue::Imsi, SessionRequest { imsi: "12345", ..request() }),
+        (SessionValue::Imsi, SessionRequest { imsi: "00101012345678x", pdn: 8, ..request() }),
+        (SessionValue::AccessPoint, SessionRequest { access_point: "a..b", ..request() }),
+        (SessionValue::Identity, SessionRequest { identity: 4, ..request() }),
+        (SessionValue::Network, SessionRequest { mcc: "01", ..request() }),
+        (SessionValue::Network, SessionRequest { mnc: "0x", ..request() }),
+        (SessionValue::Network, SessionRequest { mnc: "01f", ..request() }),
+        (SessionValue::Selection, SessionRequest { selection: 4, ..request() }),
+        (SessionValue::Pdn, SessionRequest { pdn: 8, ..request() }),
+        (SessionValue::Quality, SessionRequest { quality: Quality { pl: 16, ..Quality::default() }, ..request() }),
     ] {
         assert_eq!(pair.serving.create_session(&bad), Err(CommandError::BadValue), "{bad:?}");
+        assert_eq!(bad.bad_value(), Some(value), "{bad:?}");
     }
     assert_eq!(pair.serving.sessions().count(), 0);
     for names in [&["a,b"][..], &[""], &["a", ""]] {
@@ -290,11 +294,23 @@ fn what_is_refused_changes_nothing() {
             matches!(Gateway::new(&Setup { access_points: names, ..setup(Role::Packet) }), Err(Error::BadValue)),
             "{names:?}"
         );
+        assert_eq!(Setup { access_points: names, ..setup(Role::Packet) }.bad_value(), Some(SetupValue::AccessPoints));
     }
-    assert!(matches!(
-        Gateway::new(&Setup { timers: Timers { t3: 0, n3: 0, hold: 1 }, ..setup(Role::Packet) }),
-        Err(Error::BadValue)
-    ));
+    assert_eq!(setup(Role::Packet).bad_value(), None);
+    for (value, timers) in [
+        (SetupValue::T3Response, Timers { t3: 0, n3: 0, hold: 1 }),
+        (SetupValue::T3Response, Timers { t3: 1_001, n3: 101, hold: 0 }),
+        (SetupValue::N3Requests, Timers { t3: 1_000, n3: 101, hold: 1 }),
+        (SetupValue::Hold, Timers { t3: 1, n3: 100, hold: 100_001 }),
+    ] {
+        let bad = Setup { timers, ..setup(Role::Packet) };
+        assert!(matches!(Gateway::new(&bad), Err(Error::BadValue)), "{bad:?}");
+        assert_eq!(bad.bad_value(), Some(value));
+    }
+    let bad = Setup { pool: (Ipv4Addr::BROADCAST, 2), ..setup(Role::Packet) };
+    assert_eq!(bad.bad_value(), Some(SetupValue::Pool));
+    let bad = Setup { pool6: (Ipv6Addr::UNSPECIFIED, 65_537), ..setup(Role::Packet) };
+    assert_eq!(bad.bad_value(), Some(SetupValue::Pool6));
 }
 
 #[test]
