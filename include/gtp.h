@@ -222,7 +222,7 @@ enum gtp_setup_value {
     GTP_SETUP_ACCESS_POINTS, GTP_SETUP_T3, GTP_SETUP_N3, GTP_SETUP_HOLD, GTP_SETUP_POOL, GTP_SETUP_POOL6,
     GTP_SETUP_TEMPLATE_COUNT, GTP_SETUP_TEMPLATES
 };
-/* The first value, in this order, for which gtp_gateway_new answers GTP_BAD_VALUE. No memory is taken. */
+/* A value for which gtp_gateway_new answers GTP_BAD_VALUE, of several one of them. No memory is taken. */
 uint8_t gtp_setup_bad_value(const struct gtp_setup *setup, const uint8_t *access_points, size_t len);
 /* Opens a gateway in `gateway`, which is empty. access_points: names with commas between them, as "internet,ims", at most 16.
  * A setup is looked at before memory is taken: one that is bad is always GTP_BAD_VALUE. The room for all datagrams that may ever wait
@@ -295,7 +295,7 @@ enum gtp_session_value {
     GTP_SESSION_IMSI, GTP_SESSION_ACCESS_POINT, GTP_SESSION_IDENTITY, GTP_SESSION_NETWORK, GTP_SESSION_QUALITY,
     GTP_SESSION_SELECTION, GTP_SESSION_PDN
 };
-/* The first value, in this order, for which gtp_gateway_create_session answers GTP_BAD_VALUE. No memory is taken. */
+/* A value for which gtp_gateway_create_session answers GTP_BAD_VALUE, of several one of them. No memory is taken. */
 uint8_t gtp_session_bad_value(const struct gtp_session *session, const struct gtp_imsi *imsi,
                               const uint8_t *access_point, size_t access_point_len);
 /* Commands of the serving gateway. access_point: a name, as "internet". */

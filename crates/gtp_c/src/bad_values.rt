@@ -9,7 +9,7 @@ use crate::template::are_templates;
 use crate::values::Identity;
 use gtp_gateway::{Ebi, Pool, Prefixes};
 
-/// The first value for which no gateway can be set up so, in the order of `enum gtp_setup_value`; 0 where one can. Takes no memory.
+/// A value for which no gateway can be set up so, by its number in `enum gtp_setup_value`; 0 exactly where one can. Takes no memory.
 #[unsafe(no_mangle)]
 pub extern "C" fn gtp_setup_bad_value(setup: &Setup, access_points: &[u8]) -> u8
     ensures { NamesBadSetup setup.now access_points.now result }
@@ -56,7 +56,7 @@ pub extern "C" fn gtp_setup_bad_value(setup: &Setup, access_points: &[u8]) -> u8
     0
 }
 
-/// The first value for which no session can be asked for, in the order of `enum gtp_session_value`; 0 where one can. Takes no
+/// A value for which no session can be asked for, by its number in `enum gtp_session_value`; 0 exactly where one can. Takes no
 /// memory.
 #[unsafe(no_mangle)]
 pub extern "C" fn gtp_session_bad_value(

@@ -145,7 +145,7 @@ pub enum SetupValue {
 }
 
 impl Setup<'_> {
-    /// The first value for which [`Gateway::new`](crate::Gateway::new) answers `BadValue`; `None` if there is none.
+    /// A value for which [`Gateway::new`](crate::Gateway::new) answers `BadValue`; `None` if there is none.
     pub fn bad_value(&self) -> Option<SetupValue> {
         if self.has_bad_names() {
             return Some(SetupValue::AccessPoints);
@@ -243,7 +243,7 @@ impl SessionRequest<'_> {
         }
     }
 
-    /// The first value for which [`Gateway::create_session`](crate::Gateway::create_session) answers `BadValue`; `None` if there is
+    /// A value for which [`Gateway::create_session`](crate::Gateway::create_session) answers `BadValue`; `None` if there is
     /// none.
     pub fn bad_value(&self) -> Option<SessionValue> {
         let (session, imsi, name) = (self.raw(), digits_of(self.imsi), self.access_point);
