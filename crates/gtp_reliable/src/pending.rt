@@ -312,6 +312,20 @@ impl<P: Copy> Pending<P> {
         number
     }
 
+    /// The number that the next request will have: `None` where 256 are pending. Allocates nothing.
+    pub fn next_number(&self) -> Option<Seq>
+        ensures some { IfSome result (λ seq. IsNextFree self.now.next self.now.waiting seq) }
+        ensures few { IfSome result (λ _. length self.now.waiting < 256) }
+        ensures none { IfNone result (256 ≤ length self.now.waiting) }
+        // What holds of the requests at all times.
+        ensures always { AreRequests self.now }
+    {
+        if self.is_full() {
+            return None;
+        }
+        Some(Seq::new(self.next_free()))
+    }
+
     /// The number that the next request would have, if those whose purpose passes the test were no longer pending:
     /// `None` where 256 would be pending still. Allocates nothing. `meets` is the test as contracts see it; the caller
     /// chooses it.

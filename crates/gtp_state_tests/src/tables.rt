@@ -9,10 +9,10 @@ fn teid(number: u32) -> Teid {
     Teid(number.wrapping_add(0x0700_0000))
 }
 
-/// The bearer of this number, of the eleven of each session; perhaps with the peer's TEID, which is its number.
-fn bearer(number: u32, remote: Option<Teid>) -> Result<Bearer, Fail> {
+/// The bearer of this number, of the eleven of each session, without the TEID of the peer.
+fn bearer(number: u32) -> Result<Bearer, Fail> {
     Ok(Bearer {
-        remote,
+        remote: None,
         session: Teid(number / 11),
         identity: Some(Ebi::try_new((5 + number % 11) as u8)?),
         kind: Kind::Default,
@@ -21,14 +21,15 @@ fn bearer(number: u32, remote: Option<Teid>) -> Result<Bearer, Fail> {
     })
 }
 
-/// Adds the bearer of this number without the peer's TEID, and opens it with it.
+/// Adds the bearer of this number, and opens it with the TEID of the peer, which is its number.
 fn add_and_open(rt: &impl Abort, bearers: &mut Bearers, number: u32) -> Result<(), Fail> {
     let own = teid(number);
     assert!(rt; bearers.is_above(own));
-    bearers.add(own, bearer(number, None)?)?;
+    bearers.add(own, bearer(number)?)?;
     let pending = bearers.get(own).ok_or("the bearer that was added")?;
     if pending.remote.is_none() {
-        bearers.open(own, bearer(number, Some(Teid(number)))?)?;
+        let remote = Some(Teid(number));
+        bearers.open(own, Bearer { remote, ..pending })?;
     }
     Ok(())
 }

@@ -11,7 +11,7 @@ use Rattle.gtp_values.proofs.Tests.{both, itself, same_number, number_is}
 use Rattle.gtp_tables.specs.Identity.{has_number, HasIdentity, IsUnused, IsBearerWith}
 use Rattle.gtp_tables.proofs.Found.{meets_nowhere, meets_from, stands_at}
 
-has_it : (session identity : ℕ) (b : Bearer) → b.session ≡ session → b.identity ≡ Some identity → has_number session identity b ≡ true
+pub has_it : (session identity : ℕ) (b : Bearer) → b.session ≡ session → b.identity ≡ Some identity → has_number session identity b ≡ true
 has_it session identity b of has = and_from (nat_eq b.session session) (is_number identity b.identity) (ap (λ (n : ℕ). nat_eq n session) of ∙ itself session) (ap (is_number identity) has ∙ itself identity)
 
 -- a bearer that has the identity, and none at an earlier place does

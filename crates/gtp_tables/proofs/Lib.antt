@@ -1,5 +1,6 @@
 pub mod Entries
 pub mod Defaults
+pub mod BySession
 pub mod Found
 pub mod Identities
 pub mod Kept

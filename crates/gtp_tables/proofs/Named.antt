@@ -1,26 +1,22 @@
 -- The index by remote TEID after a change.
-use Rattle.std.proofs.Common.{◌≡◌, ◌<◌, ◌≤◌, ℕ, ◌&&◌, Bool, true, false, cond, Option, Some, None, refl, sym, ap, subst, ◌∙◌, nat_eq, arith}
+use Rattle.std.proofs.Common.{◌≡◌, ◌<◌, ◌≤◌, ℕ, ◌&&◌, Bool, true, false, cond, Option, Some, None, refl, sym, ap, ◌∙◌, nat_eq, arith}
 use Rattle.std.specs.declared.cmp.Ordering.TheVariants.{Less}
-use Rattle.std.specs.Ordering.{nat_cmp, eq_by_cmp, ord_min, ordering_then, is_eq, is_gt}
+use Rattle.std.specs.Ordering.{nat_cmp, eq_by_cmp, ordering_then, is_eq, is_gt}
 use Rattle.std.specs.BTreeMap.Range.{IsLeBy, IsLtBy}
-use Rattle.std.specs.Prelude.{◌==◌, ◌||◌, List, [], ◌∷◌, map, is_some, option_map, if◌then◌else◌}
-use Rattle.std.specs.Map.{lookup}
-use Rattle.std.specs.List.{list_any}
+use Rattle.std.specs.Prelude.{◌==◌, List, [], ◌∷◌, map, is_some, option_map, if◌then◌else◌}
 use Rattle.std.specs.FinMap.{find, get, insert, remove, entries, get-insert, get-remove, get-from_entries, get-entries}
 use Rattle.std.specs.Cmp.{nat_cmp_total}
 use Rattle.std.proofs.lemmas.Bool.Decides.{nat_tests}
 use Rattle.gtp_tables.specs.declared.context.Bearer.{Bearer}
 use Rattle.gtp_tables.specs.declared.context.State.TheVariants.{Closing}
-use Rattle.gtp_values.specs.FiniteMap.{FiniteMap, passes, kept, changed, with_value}
+use Rattle.gtp_values.specs.FiniteMap.{FiniteMap, kept, changed, with_value}
 use Rattle.gtp_values.specs.Number.{is_number}
-use Rattle.gtp_values.proofs.Tests.{both, itself, same_number, number_is}
+use Rattle.gtp_values.proofs.Tests.{same_number, number_is}
 use Rattle.gtp_tables.specs.Identity.{closing_bearer}
 use Rattle.gtp_tables.proofs.Kept.{passing, get_kept}
 use Rattle.gtp_tables.proofs.Rows.{turned}
-use Rattle.std.specs.BTreeSet.{BTreeSet, contains}
-use Rattle.std.specs.Prelude.{IfSome, IfNone}
-use Rattle.std.proofs.lemmas.Bool.{and_from}
-use Rattle.gtp_tables.specs.Index.{AreFrom, IsFrom, is_under, pair_cmp, remote_at, names, HasRemote, IsUnnamed}
+use Rattle.std.specs.Prelude.{IfNone}
+use Rattle.gtp_tables.specs.Index.{pair_cmp, remote_at, names, HasRemote, IsUnnamed}
 
 then_tied : (a b c d : ℕ) → is_eq (ordering_then (nat_cmp a b) (nat_cmp c d)) ≡ (nat_eq a b && nat_eq c d)
 then_tied a b c d = grind (arith, nat_tests)
@@ -163,108 +159,6 @@ pair_of r o k h = by (nat_eq r k.0) (nat_eq o k.1) refl (sym (pair_tied (r, o) k
     by x true e h = same_number o k.1 e
     by true false e h = absurd cc
     by false false e h = absurd cc
-
--- ---- what is noted for a remote
-
-pub noted_insert : (m : FiniteMap Bearer) (k : ℕ) (b : Bearer) (old new : List (ℕ × ℕ)) → AreFrom m old → ((r o : ℕ) → IsFrom (lookup (nat_eq r) old) o → IsFrom (lookup (nat_eq r) new) o)
-    → ((r : ℕ) → is_number r b.remote ≡ true → IsFrom (lookup (nat_eq r) new) k) → AreFrom (insert m k b) new
-noted_insert m k b old new from others own r o is = by (nat_eq k o) refl (sym (ap (names r) (get_inserted m k b o)) ∙ is)
-  where
-    by : (c : Bool) → nat_eq k o ≡ c → names r (cond (nat_eq k o) (Some b) (get m o)) ≡ true → IsFrom (lookup (nat_eq r) new) o
-    by true same h = subst (λ (n : ℕ). IsFrom (lookup (nat_eq r) new) n) (same_number k o same) (own r (sym (ap (λ (c : Bool). names r (cond c (Some b) (get m o))) same) ∙ h))
-    by false other h = others r o (from r o (sym (ap (λ (c : Bool). names r (cond c (Some b) (get m o))) other) ∙ h))
-
--- where no bearer has another remote than before
-pub noted_less : (m n : FiniteMap Bearer) (old new : List (ℕ × ℕ)) → AreFrom m old → ((r o : ℕ) → names r (get n o) ≡ true → names r (get m o) ≡ true)
-    → ((r o : ℕ) → names r (get n o) ≡ true → IsFrom (lookup (nat_eq r) old) o → IsFrom (lookup (nat_eq r) new) o) → AreFrom n new
-noted_less m n old new from less stays r o is = stays r o is (from r o (less r o is))
-
--- what is left of names
-pub left_named : (r : ℕ) (b : Bool) (o : Option Bearer) → names r (cond b None o) ≡ true → names r o ≡ true
-left_named r true o is = absurd cc
-left_named r false o is = is
-
-pub kept_names : (test : ℕ → Bearer → Bool) (m : FiniteMap Bearer) (r o : ℕ) → names r (get (kept test m) o) ≡ true → names r (get m o) ≡ true
-kept_names test m r o is = by (passes test o (get m o)) (ap (names r) (sym (get_kept test m o)) ∙ is)
-  where
-    by : (b : Bool) → names r (cond b (get m o) None) ≡ true → names r (get m o) ≡ true
-    by true h = h
-    by false h = absurd cc
-
--- ---- whether a remote has a name
-
-turned_number : (m n : ℕ) → nat_eq m n ≡ true → nat_eq n m ≡ true
-turned_number m n h = grind (arith, nat_tests)
-
-first_of : (r o : ℕ) (k : ℕ × ℕ) → is_eq (pair_cmp (r, o) k) ≡ true → nat_eq k.0 r ≡ true
-first_of r o k h = turned_number r k.0 (both (nat_eq r k.0) (nat_eq o k.1) (sym (pair_tied (r, o) k) ∙ h)).left
-
-pub under_named : (ks : List (ℕ × ℕ)) (r o : ℕ) → list_any (λ k. is_eq (pair_cmp (r, o) k)) ks ≡ true → list_any (λ k. nat_eq k.0 r) ks ≡ true
-under_named [] r o h = absurd cc
-under_named (k ∷ ks) r o h = by (is_eq (pair_cmp (r, o) k)) refl (λ is. under_named ks r o is) h
-  where
-    later : (b : Bool) → list_any (λ x. nat_eq x.0 r) ks ≡ true → (b || list_any (λ x. nat_eq x.0 r) ks) ≡ true
-    later true is = refl
-    later false is = is
-
-    by : (b : Bool) → is_eq (pair_cmp (r, o) k) ≡ b → (list_any (λ x. is_eq (pair_cmp (r, o) x)) ks ≡ true → list_any (λ x. nat_eq x.0 r) ks ≡ true)
-        → (b || list_any (λ x. is_eq (pair_cmp (r, o) x)) ks) ≡ true → (nat_eq k.0 r || list_any (λ x. nat_eq x.0 r) ks) ≡ true
-    by true here rest is = let same : nat_eq k.0 r ≡ true = first_of r o k here in rw same refl
-    by false other rest is = later (nat_eq k.0 r) (rest is)
-
-pub named_under : (ks : List (ℕ × ℕ)) (r : ℕ) → ((o : ℕ) → list_any (λ k. is_eq (pair_cmp (r, o) k)) ks ≡ false) → list_any (λ k. nat_eq k.0 r) ks ≡ false
-named_under [] r none = refl
-named_under (k ∷ ks) r none = by (nat_eq k.0 r) refl (named_under ks r (λ o. second_false (is_eq (pair_cmp (r, o) k)) (list_any (λ x. is_eq (pair_cmp (r, o) x)) ks) (none o)))
-  where
-    second_false : (a b : Bool) → (a || b) ≡ false → b ≡ false
-    second_false true b h = absurd cc
-    second_false false b h = h
-
-    first_false : (a b : Bool) → (a || b) ≡ false → a ≡ false
-    first_false true b h = absurd cc
-    first_false false b h = refl
-
-    by : (b : Bool) → nat_eq k.0 r ≡ b → list_any (λ x. nat_eq x.0 r) ks ≡ false → (b || list_any (λ x. nat_eq x.0 r) ks) ≡ false
-    by false other rest = rest
-    by true here rest =
-        let not_it : is_eq (pair_cmp (r, k.1) k) ≡ false = first_false (is_eq (pair_cmp (r, k.1) k)) (list_any (λ x. is_eq (pair_cmp (r, k.1) x)) ks) (none k.1) in
-        let it : is_eq (pair_cmp (r, k.1) k) ≡ true = pair_tied (r, k.1) k ∙ and_from (nat_eq r k.0) (nat_eq k.1 k.1) (turned_number k.0 r here) (itself k.1) in
-        absurd cc
-
-pub under_is : (index : BTreeSet (ℕ × ℕ)) (r : ℕ) (found : Option ℕ) → IfSome found (λ o. contains pair_cmp index (r, o) ≡ true) → IfNone found ((o : ℕ) → contains pair_cmp index (r, o) ≡ false) → is_some found ≡ is_under index r
-under_is index r None some none = sym (named_under index.keys r none)
-under_is index r (Some o) some none = sym (under_named index.keys r o some)
-
--- what was noted for another remote is as before
-pub noted_stays : (index : BTreeSet (ℕ × ℕ)) (remote r o : ℕ) (old new : List (ℕ × ℕ)) → is_under index remote ≡ false → ((q : ℕ) → lookup (nat_eq q) new ≡ cond (nat_eq remote q) None (lookup (nat_eq q) old))
-    → contains pair_cmp index (r, o) ≡ true → IsFrom (lookup (nat_eq r) old) o → IsFrom (lookup (nat_eq r) new) o
-noted_stays index remote r o old new none taken named from = by (nat_eq remote r) refl
-  where
-    by : (b : Bool) → nat_eq remote r ≡ b → IsFrom (lookup (nat_eq r) new) o
-    by true same =
-        let here : is_under index r ≡ false = ap (is_under index) (sym (same_number remote r same)) ∙ none in
-        let there : is_under index r ≡ true = under_named index.keys r o named in
-        absurd cc
-    by false other = subst (λ t. IsFrom t o) (sym (taken r ∙ ap (λ b. cond b None (lookup (nat_eq r) old)) other)) from
-
--- the lower one of two TEIDs
-pub least : (own there : ℕ) → (ord_min nat_cmp own there ≤ own) × (ord_min nat_cmp own there ≤ there)
-least own there = (grind (arith, nat_tests), grind (arith, nat_tests))
-
--- a note is put in the place of none, or of one that is not lower
-pub noted_more : (old new : List (ℕ × ℕ)) (remote low : ℕ) → ((q : ℕ) → lookup (nat_eq q) new ≡ cond (nat_eq remote q) (Some low) (lookup (nat_eq q) old)) → IfSome (lookup (nat_eq remote) old) (λ there. low ≤ there)
-    → (r o : ℕ) → IsFrom (lookup (nat_eq r) old) o → IsFrom (lookup (nat_eq r) new) o
-noted_more old new remote low put least r o from = by (nat_eq remote r) refl
-  where
-    lower : (there : Option ℕ) → IfSome there (λ n. low ≤ n) → IsFrom there o → low ≤ o
-    lower None h from = absurd from
-    lower (Some n) h from = omega (arith, h, from)
-
-    by : (b : Bool) → nat_eq remote r ≡ b → IsFrom (lookup (nat_eq r) new) o
-    by true same =
-        let here : IfSome (lookup (nat_eq r) old) (λ n. low ≤ n) = subst (λ q. IfSome (lookup (nat_eq q) old) (λ n. low ≤ n)) (same_number remote r same) least in
-        subst (λ t. IsFrom t o) (sym (put r ∙ ap (λ b. cond b (Some low) (lookup (nat_eq r) old)) same)) (lower (lookup (nat_eq r) old) here from)
-    by false other = subst (λ t. IsFrom t o) (sym (put r ∙ ap (λ b. cond b (Some low) (lookup (nat_eq r) old)) other)) from
 
 -- what follows from what a clause says where there is no value
 pub IfNone_then : {X : Type 0} (r : Option X) {P Q : Type 0} → IfNone r P → (P → Q) → IfNone r Q

@@ -1,8 +1,6 @@
 -- Bearers by the peer's TEID.
-use Rattle.std.specs.Prelude.{◌≡◌, ◌≢◌, ℕ, ◌≤◌, ◌&&◌, List, Bool, true, false, Option, Some, None, nat_eq}
+use Rattle.std.specs.Prelude.{◌≡◌, ◌≢◌, ℕ, ◌&&◌, Bool, true, false, Option, Some, None, nat_eq}
 use Rattle.std.specs.FinMap.{get}
-use Rattle.std.specs.List.{list_any}
-use Rattle.std.specs.Map.{lookup}
 use Rattle.std.specs.declared.cmp.Ordering.{Ordering}
 use Rattle.std.specs.Ordering.{nat_cmp, ordering_then}
 use Rattle.std.specs.BTreeSet.{BTreeSet, contains}
@@ -29,19 +27,6 @@ names remote (Some b) = is_number remote b.remote
 -- the index has exactly the bearers that have a remote
 abbrev pub IsIndexed : FiniteMap Bearer → BTreeSet (ℕ × ℕ) → Type 0
 IsIndexed bearers index = (remote own : ℕ) → contains pair_cmp index (remote, own) ≡ names remote (get bearers own)
-
--- whether an own TEID is named under a remote one
-abbrev pub is_under : BTreeSet (ℕ × ℕ) → ℕ → Bool
-is_under index remote = list_any (λ k. nat_eq k.0 remote) index.keys
-
--- this TEID or a later one, where there is one to compare with
-abbrev pub IsFrom : Option ℕ → ℕ → Type 0
-IsFrom None own = ⊥
-IsFrom (Some low) own = low ≤ own
-
--- each bearer that has a remote is under the TEID that is noted for this remote, or under a later one
-abbrev pub AreFrom : FiniteMap Bearer → List (ℕ × ℕ) → Type 0
-AreFrom bearers noted = (remote own : ℕ) → names remote (get bearers own) ≡ true → IsFrom (lookup (nat_eq remote) noted) own
 
 -- a bearer has this remote
 pub record HasRemote (bearers : FiniteMap Bearer) (remote teid : ℕ) : Type 0 where

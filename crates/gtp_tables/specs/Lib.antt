@@ -1,3 +1,4 @@
+pub mod BySession
 pub mod Contexts
 pub mod Deciding
 pub mod Free

@@ -5,45 +5,46 @@ ghost use Rattle.std.specs.Prelude.{true, false, IsTrue, IfSome, IfNone, IsOk, I
 ghost use Rattle.std.specs.Prelude.{slice_get};
 ghost use Rattle.std.specs.FinMap as map;
 ghost use Rattle.std.specs.Prelude.{Bool, not, map as mapped};
-ghost use Rattle.indexmap.specs.IndexMap.{spare};
 ghost use Rattle.std.specs.Fn.{FnReturnsAt};
 ghost use Rattle.gtp_tables.specs.declared.context.Bearer.{Bearer as OneBearer};
 ghost use Rattle.gtp_values.specs.FiniteMap.{Each, kept, changed, with_value};
 ghost use Rattle.gtp_tables.specs.Deciding.{Answers};
 ghost use Rattle.gtp_tables.specs.Identity.{closing_bearer, has_number, IsUnused, IsBearerWith};
-ghost use Rattle.gtp_tables.specs.Index.{remote_at, HasRemote, IsUnnamed, IsUnopened, IsAt};
+ghost use Rattle.gtp_tables.specs.Index.{remote_at, HasRemote, IsUnnamed, IsUnopened};
+ghost use Rattle.gtp_tables.specs.BySession.{is_of, with_number, shut, IsOfSession, IsInPlace};
+ghost use Rattle.std.specs.Option.{option_map};
+ghost use Rattle.std.specs.Prelude.{cond, nat_eq};
 ghost use Rattle.gtp_tables.specs.Index.{default_of, HasDefault};
 
 use crate::context::{Bearer, Kind, State};
 use crate::fault::TablesFault;
 use crate::index::{
-    first_named, keep_named, keep_noted, name_if, next_named, noted_for, unname_if,
+    first_named, keep_named, name, name_if, next_named, unname, unname_if, unname_of,
 };
 use crate::listing::BearerList;
 use crate::table::Table;
 use gtp_values::{Ebi, Teid};
-use indexmap::IndexMap;
 use std::alloc::Global;
 use std::collections::BTreeSet;
 use std::marker::Model;
 
-/// Bearers by own user plane TEID. A second index finds them by the peer's. Contracts see a finite
-/// map.
+/// Bearers by own user plane TEID. A second index finds them by the peer's, a third by their
+/// session. Contracts see a finite map.
 #[derive(Drop)]
 pub struct Bearers {
     table: Table<Bearer>,
     /// Exactly the pairs of a remote and an own TEID of the bearers that have a remote.
     by_remote: BTreeSet<(Teid, Teid)>,
-    /// By remote TEID an own one, below which none has this remote: where it has it, it is found at
-    /// once, and the pairs need not be searched.
-    noted: IndexMap<Teid, Teid>,
+    /// Exactly the pairs of a session and an own TEID of its bearers.
+    by_session: BTreeSet<(Teid, Teid)>,
 }
 
 impl Model for Bearers {
     ghost use Rattle.std.specs.Coded.{coded_ℕ};
     ghost use Rattle.std.specs.FinMap as map;
     ghost use Rattle.gtp_values.specs.FiniteMap.{FiniteMap};
-    ghost use Rattle.gtp_tables.specs.Index.{IsIndexed, AreFrom};
+    ghost use Rattle.gtp_tables.specs.Index.{IsIndexed};
+    ghost use Rattle.gtp_tables.specs.BySession.{AreBySession};
     ghost use Rattle.gtp_tables.specs.declared.context.Bearer.{Bearer as OneBearer};
     ghost use Rattle.gtp_tables.specs.contracts.context.Bearer as bearer;
 
@@ -55,39 +56,8 @@ impl Model for Bearers {
 
     ghost invariant = { λ a. record {
       indexed : IsIndexed a.table.table a.by_remote;
-      noted : AreFrom a.table.table a.noted.entries;
+      sessions : AreBySession a.table.table a.by_session;
     } };
-}
-
-/// Closes a bearer where it is of the session.
-fn close_if(bearer: &mut Bearer, session: Teid)
-    ensures { bearer.new ≡ closing_bearer session bearer.old }
-{
-    if bearer.session == session {
-        bearer.state = State::Closing;
-    }
-}
-
-/// Closes the bearers of a session.
-fn close_rows(rows: &mut IndexMap<Teid, Bearer>, session: Teid)
-    ensures rows { rows.new.entries
-        ≡ mapped (with_value (closing_bearer session)) rows.old.entries }
-    ensures room { spare rows.old ≡ spare rows.new }
-{
-    for i in 0..rows.len() {
-        close_if(&mut rows[i], session);
-    }
-}
-
-impl Table<Bearer> {
-    /// Closes the bearers of a session.
-    fn close_of_session(&mut self, session: Teid)
-        ensures { self.new ≡ record self.old {
-          table = changed (closing_bearer session) self.old.table;
-        } }
-    {
-        close_rows(&mut self.rows, session);
-    }
 }
 
 impl Bearers {
@@ -98,7 +68,7 @@ impl Bearers {
         Bearers {
             table: Table::new(alloc),
             by_remote: BTreeSet::new(alloc),
-            noted: IndexMap::new(alloc),
+            by_session: BTreeSet::new(alloc),
         }
     }
 
@@ -137,12 +107,6 @@ impl Bearers {
             → HasRemote self.now remote t → teid ≤ t) }
         ensures none { IfNone result (IsUnnamed self.now remote) }
     {
-        let Some(noted) = noted_for(&self.noted, remote) else {
-            return None;
-        };
-        if remote_of(&self.table, noted) == Some(remote) {
-            return Some(noted);
-        }
         first_named(&self.by_remote, remote)
     }
 
@@ -188,34 +152,63 @@ impl Bearers {
         ensures fault { IfErr result (λ f. f ≡ TablesFault.Memory) }
     {
         self.table.reserve_one()?;
-        let (index, noted) = (&mut self.by_remote, &mut self.noted);
-        name_if(index, noted, bearer.remote, teid)?;
-        self.table.add(teid, bearer);
-        Ok(())
+        name(&mut self.by_session, bearer.session, teid)?;
+        match name_if(&mut self.by_remote, bearer.remote, teid) {
+            Ok(()) => {
+                self.table.add(teid, bearer);
+                Ok(())
+            }
+            Err(_) => {
+                unname(&mut self.by_session, bearer.session, teid);
+                Err(TablesFault::Memory)
+            }
+        }
     }
 
-    /// Puts a bearer in the place of one that has no remote: `Memory` where an allocation was
-    /// refused, and then nothing has changed.
+    /// Puts a bearer in the place of one of the same session that has no remote: `Memory` where an
+    /// allocation was refused, and then nothing has changed.
     pub fn open(&mut self, teid: Teid, bearer: Bearer) -> Result<(), TablesFault>
         requires unopened { IsUnopened self.old teid }
+        requires session { IsOfSession self.old teid bearer.session }
         ensures ok { OnOk result (self.new ≡ map.insert self.old teid bearer) }
         ensures err { OnErr result (self.new ≡ self.old) }
         ensures fault { IfErr result (λ f. f ≡ TablesFault.Memory) }
         ensures unnamed { bearer.remote ≡ None → IsOk result }
     {
-        let (index, noted) = (&mut self.by_remote, &mut self.noted);
-        name_if(index, noted, bearer.remote, teid)?;
+        name_if(&mut self.by_remote, bearer.remote, teid)?;
         self.table.replace(teid, bearer);
         Ok(())
     }
 
-    /// Puts a bearer in the place of one with the same remote, or with none if it has none. Takes
-    /// no memory.
+    /// Puts a bearer in the place of one of the same session and with the same remote, or with none
+    /// if it has none. Takes no memory.
     pub fn replace(&mut self, teid: Teid, bearer: Bearer)
-        requires same { IsAt self.old teid bearer.remote }
+        requires same { IsInPlace self.old teid bearer }
         ensures { self.new ≡ map.insert self.old teid bearer }
     {
         self.table.replace(teid, bearer);
+    }
+
+    /// The bearer of the session under the lowest TEID.
+    fn first_of_session(&self, session: Teid) -> Option<Teid>
+        ensures found { IfSome result (λ teid. is_of session (map.get self.now teid) ≡ true) }
+        ensures lowest { IfSome result (λ teid. (t : ℕ)
+            → is_of session (map.get self.now t) ≡ true → teid ≤ t) }
+        ensures none { IfNone result ((t : ℕ) → is_of session (map.get self.now t) ≡ false) }
+    {
+        first_named(&self.by_session, session)
+    }
+
+    /// The bearer of the session after this one, in order of the own TEIDs.
+    fn next_of_session(&self, session: Teid, after: Teid) -> Option<Teid>
+        ensures found { IfSome result (λ teid. is_of session (map.get self.now teid) ≡ true) }
+        ensures after { IfSome result (λ teid. after < teid) }
+        ensures next { IfSome result (λ teid. (t : ℕ) → after < t
+            → is_of session (map.get self.now t) ≡ true → teid ≤ t) }
+        ensures none { IfNone result ((t : ℕ) → after < t
+            → is_of session (map.get self.now t) ≡ false) }
+    {
+        next_named(&self.by_session, session, after)
     }
 
     /// The bearer of the session that has the identity, whatever its state: the one under the
@@ -225,12 +218,12 @@ impl Bearers {
             IsBearerWith self.now session identity teid) }
         ensures none { IfNone result (IsUnused self.now session identity) }
     {
-        for index in 0..self.len() {
-            if let Some((teid, bearer)) = self.at(index)
-                && has(&bearer, session, identity)
-            {
+        let mut next = self.first_of_session(session);
+        while let Some(teid) = next {
+            if is_with(self.get(teid), session, identity) {
                 return Some(teid);
             }
+            next = self.next_of_session(session, teid);
         }
         None
     }
@@ -244,14 +237,45 @@ impl Bearers {
     {
         self.table.remove_where(test);
         keep_named(&mut self.by_remote, &self.table);
-        keep_noted(&mut self.noted, &self.by_remote);
+        keep_named(&mut self.by_session, &self.table);
+    }
+
+    /// Removes the bearers of a session. Takes no memory.
+    pub fn remove_of_session(&mut self, session: Teid)
+        ensures { self.new ≡ kept (λ _ b. not (nat_eq b.session session)) self.old }
+    {
+        let mut next = self.first_of_session(session);
+        while let Some(teid) = next {
+            self.remove(teid);
+            next = self.next_of_session(session, teid);
+        }
+    }
+
+    /// Closes the bearer under a TEID, where one stands.
+    fn close(&mut self, teid: Teid)
+        ensures { (o : ℕ) → map.get self.new o
+            ≡ cond (nat_eq teid o) (option_map shut (map.get self.old teid)) (map.get self.old o) }
+    {
+        if let Some(bearer) = self.get(teid) {
+            self.replace(
+                teid,
+                Bearer {
+                    state: State::Closing,
+                    ..bearer
+                },
+            );
+        }
     }
 
     /// Closes the bearers of a session, whatever they were. Takes no memory.
     pub fn close_of_session(&mut self, session: Teid)
         ensures { self.new ≡ changed (closing_bearer session) self.old }
     {
-        self.table.close_of_session(session);
+        let mut next = self.first_of_session(session);
+        while let Some(teid) = next {
+            self.close(teid);
+            next = self.next_of_session(session, teid);
+        }
     }
 
     /// Removes the bearer under a TEID, if there is one. Takes no memory.
@@ -259,7 +283,8 @@ impl Bearers {
         ensures { self.new ≡ map.remove self.old teid }
     {
         let remote = remote_of(&self.table, teid);
-        unname_if(&mut self.by_remote, &mut self.noted, remote, teid);
+        unname_if(&mut self.by_remote, remote, teid);
+        unname_of(&mut self.by_session, self.table.get(teid), teid);
         self.table.remove(teid);
     }
 }
@@ -269,6 +294,16 @@ fn has(bearer: &Bearer, session: Teid, identity: Ebi) -> bool
     ensures { result ≡ has_number session identity bearer.now }
 {
     bearer.session == session && bearer.identity == Some(identity)
+}
+
+/// Whether it is a bearer of the session, with the identity, where there is one.
+fn is_with(bearer: Option<Bearer>, session: Teid, identity: Ebi) -> bool
+    ensures { result ≡ with_number session identity bearer }
+{
+    match bearer {
+        Some(bearer) => has(&bearer, session, identity),
+        None => false,
+    }
 }
 
 /// Whether it is the default bearer of the session.

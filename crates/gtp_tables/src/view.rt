@@ -78,7 +78,10 @@ impl<'a> View<'a> {
     pub fn session_count(&self) -> usize
         ensures { result ≡ map.len self.now.sessions }
     {
-        count_seen(self.sessions.values(), self.restarted)
+        if self.restarted {
+            return count_left(self.sessions.values());
+        }
+        self.sessions.len()
     }
 
     /// Whether there is no place for one more session.
@@ -182,13 +185,13 @@ pub fn end_opened(sessions: &mut Sessions, bearers: &mut Bearers)
     );
 }
 
-/// How many of the sessions are seen.
-fn count_seen(sessions: &[Session], restarted: bool) -> usize
-    ensures { result ≡ length (filter (is_seen restarted) sessions.now) }
+/// How many of the sessions a restart leaves.
+fn count_left(sessions: &[Session]) -> usize
+    ensures { result ≡ length (filter (is_seen true) sessions.now) }
 {
     sessions
         .iter()
-        .filter(|session| is_seen(session, restarted))
+        .filter(|session| is_seen(session, true))
         .count()
 }
 

@@ -3,7 +3,7 @@ use Rattle.std.specs.Prelude.{◌≡◌, ℕ, ◌<◌, Bool, true, false, List, 
 use Rattle.std.specs.FinMap.{get, insert, len}
 use Rattle.gtp_values.specs.FiniteMap.{FiniteMap, Each}
 use Rattle.gtp_tables.specs.Drawn.{Drawn, drawn_up_to}
-use Rattle.gtp_tables.specs.Index.{IsAt}
+use Rattle.gtp_tables.specs.BySession.{IsInPlace}
 use Rattle.gtp_machine.specs.Node.{Node}
 use Rattle.gtp_machine.specs.Removal.{without_session, session_closing}
 use Rattle.gtp_gateway.specs.declared.tables.change.Change.{Change}
@@ -50,7 +50,7 @@ pub record CanMakeSession (draws : Drawn) (control user : ℕ) (node : Node) : T
 -- what a change needs: a bearer is put in the place of one with the same remote, and a session that closes stands
 abbrev pub CanChange : Change → Node → Type 0
 CanChange Stays node = Unit {0}
-CanChange (Replaces teid bearer) node = IsAt node.bearers teid bearer.remote
+CanChange (Replaces teid bearer) node = IsInPlace node.bearers teid bearer
 CanChange (MakesBearer draws teid bearer) node = AreDraws draws (teid ∷ []) node × IsAbove node.bearers teid
 CanChange (MakesSession draws control session user bearer) node = CanMakeSession draws control user node
 CanChange (ClosesSession teid session) node = IsSome (get node.sessions teid)

@@ -112,6 +112,25 @@ impl Parts {
         // What holds of the requests at all times.
         ensures distinct { AreDistinct self.now.pending.waiting }
     {
+        match heard {
+            Heard::Later(_) => self.number_after_restart(heard),
+            Heard::Nothing | Heard::First(_) | Heard::Same(_) | Heard::Earlier(_) => {
+                self.pending.next_number()
+            }
+        }
+    }
+
+    /// The same where some of those that wait may go.
+    fn number_after_restart(&self, heard: Heard) -> Option<Seq>
+        ensures some { IfSome result (λ seq. IsNextFree self.now.pending.next
+            (waiting_heard heard self.now.sessions.table self.now.pending.waiting) seq) }
+        ensures few { IfSome result (λ _.
+            length (waiting_heard heard self.now.sessions.table self.now.pending.waiting) < 256) }
+        ensures none { IfNone result
+            (256 ≤ length (waiting_heard heard self.now.sessions.table self.now.pending.waiting)) }
+        // What holds of the requests at all times.
+        ensures distinct { AreDistinct self.now.pending.waiting }
+    {
         let sessions = &self.sessions;
         self.pending.next_without(
             |purpose: &Purpose| -> bool

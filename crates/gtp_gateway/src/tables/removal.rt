@@ -3,7 +3,7 @@
 ghost use Rattle.std.specs.Prelude.{◌≡◌, ◌==◌, not, filter, IsSome};
 ghost use Rattle.std.specs.FinMap as map;
 ghost use Rattle.gtp_machine.specs.Removal.{without_session, without_bearer, session_closing};
-ghost use Rattle.gtp_tables.specs.Index.{IsAt};
+ghost use Rattle.gtp_tables.specs.BySession.{IsInPlace};
 ghost use Rattle.gtp_gateway.specs.Parts.{node_of};
 ghost use Rattle.gtp_gateway.specs.GatewayState.{state_of, queues_of};
 ghost use Rattle.gtp_gateway.specs.tables.Stays.{OnlyTablesChange, OnlyRemoves};
@@ -28,11 +28,7 @@ impl Parts {
                 ensures { result ≡ goes_with_session session purpose.now }
             { purpose.is_of_session(session) },
         );
-        self.bearers.remove_where(
-            |bearer: &Bearer| -> bool
-                ensures { result ≡ (bearer.now.session == session) }
-            { bearer.session == session },
-        );
+        self.bearers.remove_of_session(session);
         self.sessions.remove(session);
     }
 
@@ -51,10 +47,10 @@ impl Parts {
         self.bearers.remove(bearer);
     }
 
-    /// A bearer is put in the place of one with the same remote. Allocates nothing.
+    /// A bearer is put in the place of one of the same session with the same remote. Allocates nothing.
     #[tactic(auto, using(crate::proofs::UserRows::all_wait))]
     pub fn replace_bearer(&mut self, teid: Teid, bearer: Bearer)
-        requires { IsAt self.old.bearers teid bearer.remote }
+        requires { IsInPlace self.old.bearers teid bearer }
         ensures node { node_of self.new ≡ record (node_of self.old) {
           bearers = map.insert (node_of self.old).bearers teid bearer;
         } }

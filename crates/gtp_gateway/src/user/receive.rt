@@ -104,7 +104,6 @@ impl Parts {
 
     /// An Error Indication (TS 29.281 7.3.1): the peer has no bearer under this TEID.
     fn take_error_indication(&mut self, remote: Teid) -> Outcome
-        requires whole { IsSoundState (state_of self.old) }
         ensures { IsTakenBy (ErrorCame remote)
             (state_of self.old) (plain_step result) (state_of self.new) }
     {

@@ -1,4 +1,4 @@
-use Rattle.std.proofs.Common.{◌∙◌}
+use Rattle.std.proofs.Common.{◌∙◌, sym}
 use Rattle.gtp_gateway.specs.receive.RestartCounter.{node_heard}
 use Rattle.gtp_gateway.specs.Parts.{node_of}
 use Rattle.gtp_gateway.proofs.Opened.{bearer_stood, heard_opened, succeeded}
@@ -7,7 +7,11 @@ use Rattle.gtp_gateway.proofs.parts.Parts.open_bearer.Goals as goal
 pub open-requires : goal.open-requires
 open-requires c =
     let at = c.requires.can in
-    record { unopened = record { bearer = at.bearer; stands = bearer_stood c.args.heard (node_of c.args.self.now) c.args.teid at.bearer at.stands; blank = at.blank } }
+    let stands = bearer_stood c.args.heard (node_of c.args.self.now) c.args.teid at.bearer at.stands in
+    record {
+      unopened = record { bearer = at.bearer; stands = stands; blank = at.blank };
+      session = record { bearer = at.bearer; stands = stands; of = sym at.of };
+    }
 
 pub returns-clause-node : goal.returns-clause-node
 returns-clause-node c =

@@ -14,11 +14,8 @@ returns-clause-node c =
     let stays : PendingRequest → Bool = λ p. not (on (λ t. t == session) p.session || on (λ t. false) p.bearer) in
     let pending = ap pending_in c.finish_where.ensures.waiting ∙ pending_kept stays old.pending.waiting c.finish_where.ensures.always.distinct in
     let sessions = ap (λ r. r.table) c.remove.ensures ∙ session_kept old.sessions.table session in
-    let bearers = c.remove_where.ensures (λ (b : Bearer). b.session == session) (search rules) in
+    let bearers = c.remove_of_session.ensures in
     λ i. record (node_of old) { sessions = sessions i; bearers = bearers i; pending = pending i }
 
 pub invariant_of-self-clause-asked : goal.invariant_of-self-clause-asked
 invariant_of-self-clause-asked c = asked_stay _ _ _ _ c.finish_where.ensures.waiting c.args.self.now.asked
-
-pub remove_where-requires-clause-decides : goal.remove_where-requires-clause-decides
-remove_where-requires-clause-decides c = (λ (b : Bearer). b.session == c.args.session, search rules)

@@ -3,10 +3,12 @@ use Rattle.std.specs.FinMap.{get, insert}
 use Rattle.gtp_tables.specs.declared.context.Bearer.{Bearer}
 use Rattle.gtp_values.specs.FiniteMap.{FiniteMap}
 use Rattle.gtp_values.specs.Number.{is_number}
-use Rattle.gtp_tables.specs.Index.{AreFrom, names, remote_at, IsUnopened}
+use Rattle.gtp_tables.specs.Index.{names, remote_at, IsUnopened}
+use Rattle.gtp_tables.specs.BySession.{is_of, IsOfSession}
 use Rattle.gtp_tables.specs.Rows.{Rows}
 use Rattle.gtp_values.proofs.Tests.{same_number}
-use Rattle.gtp_tables.proofs.Named.{named, noted_insert, get_inserted}
+use Rattle.gtp_tables.proofs.Named.{named, get_inserted}
+use Rattle.gtp_tables.proofs.BySession.{rejoined}
 use Rattle.gtp_tables.proofs.bearers.Bearers.open.Goals as goal
 
 pub replace-requires : goal.replace-requires
@@ -18,6 +20,7 @@ pub invariant_of-self-2 : goal.invariant_of-self-2
 invariant_of-self-2 c =
     let table : FiniteMap Bearer = c.self.inside.table.table in
     let old : IsUnopened table c.args.teid = subst (λ (m : FiniteMap Bearer). IsUnopened m c.args.teid) (sym c.self.view_is) c.requires.unopened in
+    let of : IsOfSession table c.args.teid c.args.bearer.session = subst (λ (m : FiniteMap Bearer). IsOfSession m c.args.teid c.args.bearer.session) (sym c.self.view_is) c.requires.session in
     let opened : insert table c.args.teid c.args.bearer ≡ c.replace.new.self.table = ap (λ (t : Rows Bearer). t.table) (sym c.replace.ensures) in
     record {
       indexed = λ r o. c.in_ok-name_if.ensures.ok r o
@@ -25,5 +28,8 @@ invariant_of-self-2 c =
           ∙ (named c.args.teid r o c.args.bearer (get table o) (λ e. ap (λ (k : ℕ). remote_at (get table k)) (sym (same_number c.args.teid o e)) ∙ ap remote_at old.stands ∙ old.blank)
           ∙ (ap (names r) (sym (get_inserted table c.args.teid c.args.bearer o))
           ∙ ap (λ (m : FiniteMap Bearer). names r (get m o)) opened)));
-      noted = subst (λ (m : FiniteMap Bearer). AreFrom m c.name_if.new.noted.entries) opened (noted_insert table c.args.teid c.args.bearer c.self.inside.noted.entries c.name_if.new.noted.entries c.self.invariant.noted c.in_ok-name_if.ensures.noted c.in_ok-name_if.ensures.own);
+      sessions = λ s o. c.self.invariant.sessions s o
+          ∙ (rejoined c.args.teid s o c.args.bearer (get table o) (λ e. ap (λ (k : ℕ). is_of s (get table k)) (sym (same_number c.args.teid o e)) ∙ (ap (is_of s) of.stands ∙ ap (λ (n : ℕ). nat_eq n s) of.of))
+          ∙ (ap (is_of s) (sym (get_inserted table c.args.teid c.args.bearer o))
+          ∙ ap (λ (m : FiniteMap Bearer). is_of s (get m o)) opened));
     }

@@ -5,8 +5,10 @@ use Rattle.gtp_tables.specs.declared.context.Bearer.{Bearer}
 use Rattle.std.specs.BTreeSet.{contains}
 use Rattle.gtp_values.specs.FiniteMap.{FiniteMap, kept}
 use Rattle.gtp_tables.specs.Index.{pair_cmp, names}
+use Rattle.gtp_tables.specs.BySession.{is_of}
 use Rattle.gtp_tables.specs.Rows.{Rows}
-use Rattle.gtp_tables.proofs.Named.{kept_named, kept_names, noted_less}
+use Rattle.gtp_tables.proofs.Named.{kept_named}
+use Rattle.gtp_tables.proofs.BySession.{kept_of}
 use Rattle.gtp_tables.proofs.bearers.Bearers.remove_where.Goals as goal
 
 pub invariant_of-self : goal.invariant_of-self
@@ -21,8 +23,9 @@ invariant_of-self g c =
     ∙ ap (λ (m : FiniteMap Bearer). names r (get m o)) (sym left)))) in
     record {
       indexed = indexed;
-      noted =
-          noted_less table c.remove_where.new.self.table c.self.inside.noted.entries c.keep_noted.new.noted.entries c.self.invariant.noted
-          (λ r o is. kept_names test table r o (ap (λ (m : FiniteMap Bearer). names r (get m o)) (sym left) ∙ is))
-          (λ r o is. c.keep_noted.ensures r o (indexed r o ∙ is));
+      sessions = λ s o. c.keep_named-2.ensures s o
+          ∙ (ap (λ (x : Bool). is_some (get c.remove_where.new.self.table o) && x) (c.self.invariant.sessions s o)
+          ∙ (ap (λ (m : FiniteMap Bearer). is_some (get m o) && is_of s (get table o)) left
+          ∙ (kept_of test table s o
+          ∙ ap (λ (m : FiniteMap Bearer). is_of s (get m o)) (sym left))));
     }
