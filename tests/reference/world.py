@@ -4,6 +4,7 @@ from dataclasses import dataclass
 from ipaddress import ip_address
 
 from gateways import ACTIVE, DELETE_BEARER, DELETE_SESSION, MOST_RESTARTS, PACKET, SERVING, Gateway, Refused, Setup, Told, last_message
+from names import named, numbered
 
 
 OF_THE_PACKET_GATEWAY = ("create_bearer", "delete_bearer", "release_session", "end_marker")
@@ -43,6 +44,7 @@ class World:
         self.restarts = {SERVING: 0, PACKET: 0}
         self.forgotten = {SERVING: [], PACKET: []}
         self.datagrams = []  # the gateway that sent it, its plane, its octets
+        self.delivered = set()  # the numbers of those that arrived whole
         self.handed_in, self.accepted = [], []
         self.late = 0
 
@@ -108,6 +110,7 @@ class World:
     def deliver(self, event, node):
         if event["datagram"] >= len(self.datagrams):
             raise Refused("N1")
+        self.delivered.add(event["datagram"])
         sender, plane, octets = self.datagrams[event["datagram"]]
         if plane == "control" and last_message(octets) in self.forgotten[other(sender)]:
             self.late += 1
@@ -236,12 +239,23 @@ class Happened:
 def run(scenario):
     """The world that the events of a scenario leave, and what happened, event by event."""
     world, story = World(scenario), []
-    for entry in scenario["events"]:
-        for _ in range(entry.get("times", 1)):
-            before = len(world.datagrams)
-            told = world.step(entry)
-            story.append(Happened(len(story), entry, node_of(entry), told, before))
+    for said in scenario["events"]:
+        for entry in numbered(world, said):
+            for _ in range(entry.get("times", 1)):
+                before = len(world.datagrams)
+                told = world.step(entry)
+                story.append(Happened(len(story), entry, node_of(entry), told, before))
     return world, story
+
+
+def with_names(scenario):
+    """The same scenario, with a name in place of each number that one finds."""
+    world, events = World(scenario), []
+    for entry in scenario["events"]:
+        events.append(named(world, entry))
+        for _ in range(entry.get("times", 1)):
+            world.step(entry)
+    return scenario | {"events": events}
 
 
 def is_met(happened):

@@ -9,13 +9,14 @@ use Rattle.gtp_world.specs.Record.{Log, WorldRecord}
 use Rattle.gtp_world.specs.Naming.{Pair, session_pairs, bearer_pairs, mutual_pairs, AgreeAt, DoAgree}
 use Rattle.gtp_world.proofs.Determined.Runs.{follow_one}
 use Rattle.gtp_scenario.specs.declared.fault.Refusal.{Refusal}
-use Rattle.gtp_scenario.specs.Scenarios.{Scenario, scenario_of}
+use Rattle.gtp_scenario.specs.Scenarios.{Scenario}
+use Rattle.gtp_scenario.proofs.OneReading.{one_reading}
 use Rattle.gtp_replay.specs.Contexts.{node_text}
 use Rattle.gtp_replay.specs.Determined.{OfOneRun, FormsAreOfOneRun}
 use Rattle.gtp_replay.specs.Events.{events_text}
 use Rattle.gtp_outcomes.specs.Owed.{WasOwed}
 use Rattle.gtp_replay.specs.Report.{IsReport, late_line}
-use Rattle.gtp_replay.specs.Told.{TellsScenario, TellsRefusal, Tells, events_of}
+use Rattle.gtp_replay.specs.Told.{TellsScenario, TellsReading, events_of}
 use Rattle.gtp_outcomes.specs.Each.{TellsEach}
 use Rattle.gtp_replay.specs.Verdicts.{mutual_line, taken_line}
 use Rattle.gtp_replay.specs.declared.replaying.Form.{Form}
@@ -60,10 +61,12 @@ scenario_forms form other scenario text other_text verdict other_verdict r s =
       record { world = r.world; other_world = s.world; alike = alike; text_is = r.text_is; other_is = s.text_is },
     )
 
+forms_by : (form other : Form) (text other_text : List ℕ) (verdict other_verdict : Verdict) (reading : Result Scenario Refusal) → TellsReading form reading text verdict → TellsReading other reading other_text other_verdict → (verdict ≡ other_verdict) × MatchResult reading (λ scenario. OfOneRun form other scenario text other_text) (λ _. text ≡ other_text)
+forms_by form other text other_text verdict other_verdict (Ok scenario) p q = scenario_forms form other scenario text other_text verdict other_verdict p q
+forms_by form other text other_text verdict other_verdict (Err refusal) p q = (p.verdict_is ∙ sym q.verdict_is, p.line ∙ sym q.line)
+
 pub forms_one : FormsAreOfOneRun
-unfolding Tells
-forms_one form other octets text other_text verdict other_verdict r s = by_scenario (scenario_of octets) r s
-  where
-    by_scenario : (o : Result Scenario Refusal) → MatchResult o (λ scenario. TellsScenario form scenario text verdict) (λ refusal. TellsRefusal refusal text verdict) → MatchResult o (λ scenario. TellsScenario other scenario other_text other_verdict) (λ refusal. TellsRefusal refusal other_text other_verdict) → (verdict ≡ other_verdict) × MatchResult o (λ scenario. OfOneRun form other scenario text other_text) (λ _. text ≡ other_text)
-    by_scenario (Ok scenario) p q = scenario_forms form other scenario text other_text verdict other_verdict p q
-    by_scenario (Err refusal) p q = (p.verdict_is ∙ sym q.verdict_is, p.line ∙ sym q.line)
+forms_one form other octets text other_text verdict other_verdict r s =
+    let same = one_reading octets s.reading r.reading s.of r.of in
+    let both = forms_by form other text other_text verdict other_verdict r.reading r.tells (subst (λ (o : Result Scenario Refusal). TellsReading other o other_text other_verdict) same s.tells) in
+    (both.0, λ reading is. subst (λ (o : Result Scenario Refusal). MatchResult o (λ scenario. OfOneRun form other scenario text other_text) (λ _. text ≡ other_text)) (one_reading octets r.reading reading r.of is) both.1)

@@ -1,13 +1,14 @@
 -- One text in each form for the octets of a scenario.
-use Rattle.std.proofs.Common.{◌≡◌, ℕ, List, Result, Ok, Err, sym, ◌∙◌, ap}
-use Rattle.std.specs.Prelude.{MatchResult, if◌then◌else◌}
+use Rattle.std.proofs.Common.{◌≡◌, ℕ, List, Result, Ok, Err, sym, subst, ◌∙◌, ap}
+use Rattle.std.specs.Prelude.{if◌then◌else◌}
 use Rattle.gtp_world.specs.Record.{Log}
 use Rattle.gtp_world.proofs.Determined.Runs.{follow_one}
 use Rattle.gtp_scenario.specs.declared.fault.Refusal.{Refusal}
-use Rattle.gtp_scenario.specs.Scenarios.{Scenario, scenario_of}
+use Rattle.gtp_scenario.specs.Scenarios.{Scenario}
+use Rattle.gtp_scenario.proofs.OneReading.{one_reading}
 use Rattle.gtp_replay.specs.Determined.{WorldsHaveOneText, OctetsHaveOneText}
 use Rattle.gtp_replay.specs.Expected.{all_met}
-use Rattle.gtp_replay.specs.Told.{TellsScenario, TellsRefusal, Tells, events_of}
+use Rattle.gtp_replay.specs.Told.{TellsScenario, TellsRefusal, TellsReading, events_of}
 use Rattle.gtp_replay.specs.declared.replaying.Form.{Form}
 use Rattle.gtp_replay.specs.declared.replaying.Form.TheVariants.{Report, Diagram, Svg, Capture, Json}
 use Rattle.gtp_replay.specs.declared.verdict.Verdict.{Verdict}
@@ -32,10 +33,11 @@ scenario_one form scenario text other_text verdict other_verdict r s =
 refusal_one : (refusal : Refusal) (text other_text : List ℕ) (verdict other_verdict : Verdict) → TellsRefusal refusal text verdict → TellsRefusal refusal other_text other_verdict → (text ≡ other_text) × (verdict ≡ other_verdict)
 refusal_one refusal text other_text verdict other_verdict r s = (r.line ∙ sym s.line, r.verdict_is ∙ sym s.verdict_is)
 
+tell_by : (form : Form) (text other_text : List ℕ) (verdict other_verdict : Verdict) (reading : Result Scenario Refusal) → TellsReading form reading text verdict → TellsReading form reading other_text other_verdict → (text ≡ other_text) × (verdict ≡ other_verdict)
+tell_by form text other_text verdict other_verdict (Ok scenario) p q = scenario_one form scenario text other_text verdict other_verdict p q
+tell_by form text other_text verdict other_verdict (Err refusal) p q = refusal_one refusal text other_text verdict other_verdict p q
+
 pub tell_one : OctetsHaveOneText
-unfolding Tells
-tell_one form octets text other_text verdict other_verdict r s = by_scenario (scenario_of octets) r s
-  where
-    by_scenario : (o : Result Scenario Refusal) → MatchResult o (λ scenario. TellsScenario form scenario text verdict) (λ refusal. TellsRefusal refusal text verdict) → MatchResult o (λ scenario. TellsScenario form scenario other_text other_verdict) (λ refusal. TellsRefusal refusal other_text other_verdict) → (text ≡ other_text) × (verdict ≡ other_verdict)
-    by_scenario (Ok scenario) p q = scenario_one form scenario text other_text verdict other_verdict p q
-    by_scenario (Err refusal) p q = refusal_one refusal text other_text verdict other_verdict p q
+tell_one form octets text other_text verdict other_verdict r s =
+    tell_by form text other_text verdict other_verdict r.reading r.tells
+    (subst (λ (o : Result Scenario Refusal). TellsReading form o other_text other_verdict) (one_reading octets s.reading r.reading s.of r.of) s.tells)

@@ -1,9 +1,10 @@
 -- What is written for octets is determined.
-use Rattle.std.specs.Prelude.{◌≡◌, ℕ, List, MatchResult}
+use Rattle.std.specs.Prelude.{◌≡◌, ℕ, List, Result, MatchResult}
 use Rattle.gtp_machine.specs.World.{Event}
 use Rattle.gtp_world.specs.Determined.{WorldsAlike}
 use Rattle.gtp_world.specs.Record.{WorldRecord}
-use Rattle.gtp_scenario.specs.Scenarios.{Scenario, scenario_of}
+use Rattle.gtp_scenario.specs.declared.fault.Refusal.{Refusal}
+use Rattle.gtp_scenario.specs.Scenarios.{Scenario, IsReading}
 use Rattle.gtp_replay.specs.Told.{Tells, IsText, events_of}
 use Rattle.gtp_replay.specs.declared.replaying.Form.{Form}
 use Rattle.gtp_replay.specs.declared.verdict.Verdict.{Verdict}
@@ -39,4 +40,4 @@ FormsAreOfOneRun =
     (form other : Form) (octets text other_text : List ℕ) (verdict other_verdict : Verdict)
     → Tells form octets text verdict
     → Tells other octets other_text other_verdict
-    → (verdict ≡ other_verdict) × MatchResult (scenario_of octets) (λ s. OfOneRun form other s text other_text) (λ _. text ≡ other_text)
+    → (verdict ≡ other_verdict) × ((reading : Result Scenario Refusal) → IsReading octets reading → MatchResult reading (λ s. OfOneRun form other s text other_text) (λ _. text ≡ other_text))

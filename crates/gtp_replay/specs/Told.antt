@@ -1,5 +1,5 @@
 -- What is written for what was read.
-use Rattle.std.specs.Prelude.{◌≡◌, ℕ, List, ◌++◌, MatchResult, codes, decimal, if◌then◌else◌, Option}
+use Rattle.std.specs.Prelude.{◌≡◌, ℕ, List, ◌++◌, Result, Ok, MatchResult, codes, decimal, if◌then◌else◌, Option}
 use Rattle.std.specs.Io.KnownBytes.{Appends}
 use Rattle.std.specs.List.{flat_map}
 use Rattle.gtp_machine.specs.Config.{Addresses}
@@ -11,7 +11,7 @@ use Rattle.gtp_world.specs.Runs.{RanWhole}
 use Rattle.gtp_scenario.specs.declared.fault.Refusal.{Refusal}
 use Rattle.gtp_scenario.specs.declared.fault.Refusal.TheVariants as refusals
 use Rattle.gtp_scenario.specs.Entries.{events_in}
-use Rattle.gtp_scenario.specs.Scenarios.{Scenario, scenario_of}
+use Rattle.gtp_scenario.specs.Scenarios.{Scenario, IsReading}
 use Rattle.gtp_replay.specs.Captures.{IsCaptureOf, IsFirstWithoutPacket}
 use Rattle.gtp_replay.specs.Report.{IsReport}
 use Rattle.gtp_replay.specs.Rows.{Row, rows_of}
@@ -67,9 +67,15 @@ pub record TellsRefusal (refusal : Refusal) (text : List ℕ) (verdict : Verdict
   pub line : text ≡ refusal_line refusal
   pub verdict_is : verdict ≡ Bad
 
--- the text and the verdict for these octets, in this form: by the scenario that they are, or by the first thing that is wrong with them
-unfoldable pub Tells : Form → List ℕ → List ℕ → Verdict → Type 0
-Tells form octets text verdict = MatchResult (scenario_of octets) (λ scenario. TellsScenario form scenario text verdict) (λ refusal. TellsRefusal refusal text verdict)
+-- the text and the verdict of a reading: by the scenario, or by the first thing that is wrong
+abbrev pub TellsReading : Form → Result Scenario Refusal → List ℕ → Verdict → Type 0
+TellsReading form reading text verdict = MatchResult reading (λ scenario. TellsScenario form scenario text verdict) (λ refusal. TellsRefusal refusal text verdict)
+
+-- the text and the verdict for these octets, in this form
+pub record Tells (form : Form) (octets : List ℕ) (text : List ℕ) (verdict : Verdict) : Type 0 where
+  pub reading : Result Scenario Refusal
+  pub of : IsReading octets reading
+  pub tells : TellsReading form reading text verdict
 
 -- a capture is wanted, and this is the number of the first datagram that no packet carries, in a world that a run of the scenario leaves
 pub record LacksPacket (form : Form) (scenario : Scenario) (number : ℕ) : Type 0 where
@@ -79,8 +85,10 @@ pub record LacksPacket (form : Form) (scenario : Scenario) (number : ℕ) : Type
   pub first : IsFirstWithoutPacket world.log.datagrams number
 
 -- of octets that are a scenario
-unfoldable pub HasNoCapture : Form → List ℕ → ℕ → Type 0
-HasNoCapture form octets number = MatchResult (scenario_of octets) (λ scenario. LacksPacket form scenario number) (λ _. ⊥)
+pub record HasNoCapture (form : Form) (octets : List ℕ) (number : ℕ) : Type 0 where
+  pub scenario : Scenario
+  pub of : IsReading octets (Ok scenario)
+  pub lacks : LacksPacket form scenario number
 
 -- a writer whose contents are known has such a text after what it had
 abbrev pub Told : Form → List ℕ → Verdict → Option (List ℕ) → Option (List ℕ) → Type 0

@@ -146,7 +146,6 @@ fn told(alloc: Global, form: Form, scenario: &Scenario) -> Result<(Vec<u8>, Verd
 }
 
 /// What is written for these octets, and the result of the replay.
-#[tactic(auto, unfolding(crate::specs::Told::Tells, crate::specs::Told::HasNoCapture))]
 fn answered(alloc: Global, form: Form, octets: &[u8]) -> Result<(Vec<u8>, Verdict), ReplayFault>
     ensures told { IfOk result (λ p. Tells form octets.now p.0.items p.1) }
     ensures fault { IfErr result (λ e. IsMemoryOr e (HasNoCapture form octets.now)) }

@@ -7,7 +7,7 @@ use Rattle.std.proofs.lemmas.Bool.{le-leb, lt-leb, cases_lt}
 use Rattle.std.proofs.lemmas.List.{take_all, length-take-le}
 use Rattle.serde_json.specs.Data.{Data}
 use Rattle.serde_json.specs.Read.{read}
-use Rattle.gtp_scenario.specs.Scenarios.{json_of, scenario_of, most_octets}
+use Rattle.gtp_scenario.specs.Scenarios.{json_of, most_octets}
 
 pub json_is : (octets : List ℕ) → length octets ≤ most_octets → IsUtf8 octets → json_of octets ≡ read octets
 unfolding json_of
@@ -33,7 +33,3 @@ json_of_front n octets more = ⊎_elim
     (λ long. json_past (take n octets) (rw (length-take-le n octets (omega arith)) more) ∙ sym (json_past octets (omega arith)))
     (λ small. ap json_of (take_all n octets small))
     (cases_lt n (length octets))
-
-pub scenario_of_front : (n : ℕ) (octets : List ℕ) → most_octets < n → scenario_of (take n octets) ≡ scenario_of octets
-unfolding scenario_of
-scenario_of_front n octets more = rw (json_of_front n octets more) refl

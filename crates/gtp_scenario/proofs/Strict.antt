@@ -18,8 +18,9 @@ use Rattle.gtp_scenario.specs.Json.{text_at, text_if, whole_number, number_at, n
 use Rattle.gtp_scenario.specs.Texts.{imsi_of, apn_of, teid_of, octets_of}
 use Rattle.gtp_scenario.specs.Events.{role_of, node_at, teid_at, ebi_at, pdn_at, subscriber_at, tft_at, payload_at, create_session_of, lone_teid_of, delete_session_of, release_session_of, end_marker_of, create_bearer_of, delete_bearer_of, lone_node_of, echo_of, restart_of, tick_of, send_of, deliver_of, cut_of, event_named}
 use Rattle.gtp_scenario.specs.Entries.{entry_of}
-use Rattle.gtp_scenario.specs.Keys.{key_text, wanted_of, is_good, is_good_text, may_be_absent, is_met, is_met_by, kind_of, event_keys}
+use Rattle.gtp_scenario.specs.Keys.{key_text, wanted_of, is_good, is_good_text, may_be_absent, is_met, is_met_by, kind_of, event_keys, named_keys, has_name}
 use Rattle.gtp_scenario.specs.Reasons.{fits, IsWordless, IsFlaw, IsEntryFlaw}
+use Rattle.gtp_scenario.proofs.Apart.{has_no_event}
 use Rattle.gtp_scenario.proofs.Whole.{by_text, absent, of_kind, named}
 
 -- ---- steps that had values
@@ -266,6 +267,11 @@ wordless d (flaws.Bad key) is =
     by None h = refl
     by (Some text) h = absurd cc
 
+-- an event with all of its numbers has no name
+unnamed : (kind : EventKind) (d : Data) (b : Bool) → has_name d kind ≡ b → is_some (of_kind kind d) ≡ true → has_name d kind ≡ false
+unnamed kind d false has h = has
+unnamed kind d true has h = absurd (true≢false (sym h ∙ ap is_some (has_no_event kind d has)))
+
 same_word : (o : Option (List ℕ)) (a b : List ℕ) → o ≡ Some a → o ≡ Some b → a ≡ b
 same_word o a b h k = (let both : Some a ≡ Some b = sym h ∙ k in cc)
 
@@ -285,7 +291,9 @@ entry_never d (event.Keys kind flaw) is h =
     let times = step (number_or 1 (get (codes "times") d) >>= within 1 1000) _ event.next in
     let expect = expect_kept d (get (codes "expect") d) (had (text_if (get (codes "expect") d)) _ times.next) in
     let fit = entry_fits kind d (word_kept d said.value said.is) expect (had (number_or 1 (get (codes "times") d) >>= within 1 1000) _ event.next) read in
-    true≢false (sym fit ∙ flaw_unfit (event_keys kind) d flaw is.1)
+    let no_name : has_name d kind ≡ false = unnamed kind d (has_name d kind) refl read in
+    true≢false (sym fit ∙ flaw_unfit (event_keys kind) d flaw (subst (λ b. IsFlaw (cond b (named_keys kind) (event_keys kind)) d flaw) no_name is.1))
+entry_never d (event.Nothing name) is h = is
 entry_never d event.TooMany is h = is
 
 pub none_of : {A : Type 0} (o : Option A) → (is_some o ≡ true → ⊥) → o ≡ None

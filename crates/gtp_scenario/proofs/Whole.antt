@@ -82,7 +82,7 @@ teid_met : (d : Data) → is_met d keys.Teid ≡ true → is_some (teid_at d) �
 unfolding teid_at
 teid_met d met = joined (get (codes "teid") d) as_str teid_of (needed keys.Teid d (get (codes "teid") d) (λ v. as_str v >>= teid_of) refl (λ v. by_text teid_of (as_str v)) met)
 
-node_met : (d : Data) → is_met d keys.Node ≡ true → is_some (node_at d) ≡ true
+pub node_met : (d : Data) → is_met d keys.Node ≡ true → is_some (node_at d) ≡ true
 unfolding node_at
 node_met d met = joined (get (codes "node") d) as_str role_of (needed keys.Node d (get (codes "node") d) (λ v. as_str v >>= role_of) refl (λ v. by_text role_of (as_str v)) met)
 
@@ -92,7 +92,7 @@ imsi_met d met = joined (get (codes "imsi") d) as_str imsi_of (needed keys.Imsi 
 apn_met : (d : Data) → is_met d keys.Apn ≡ true → is_some (text_at (codes "apn") d >>= apn_of) ≡ true
 apn_met d met = joined (get (codes "apn") d) as_str apn_of (needed keys.Apn d (get (codes "apn") d) (λ v. as_str v >>= apn_of) refl (λ v. by_text apn_of (as_str v)) met)
 
-ebi_met : (d : Data) → is_met d keys.Ebi ≡ true → is_some (ebi_at d) ≡ true
+pub ebi_met : (d : Data) → is_met d keys.Ebi ≡ true → is_some (ebi_at d) ≡ true
 unfolding ebi_at
 ebi_met d met = joined (get (codes "ebi") d) whole_number (within 5 15) (needed keys.Ebi d (get (codes "ebi") d) (λ v. whole_number v >>= within 5 15) refl (λ v. refl) met)
 
@@ -113,7 +113,7 @@ tft_met d met =
     turned None h = h
     turned (Some v) h = h
 
-payload_met : (d : Data) → is_met d keys.Payload ≡ true → is_some (payload_at d) ≡ true
+pub payload_met : (d : Data) → is_met d keys.Payload ≡ true → is_some (payload_at d) ≡ true
 unfolding payload_at
 payload_met d met = joined (get (codes "payload") d) as_str octets_of (needed keys.Payload d (get (codes "payload") d) (λ v. as_str v >>= octets_of) refl (λ v. refl) met)
 
@@ -123,7 +123,7 @@ datagram_met d met = needed keys.Datagram d (get (codes "datagram") d) whole_num
 length_met : (d : Data) → is_met d keys.Length ≡ true → is_some (number_at (codes "length") d) ≡ true
 length_met d met = needed keys.Length d (get (codes "length") d) whole_number refl (λ v. refl) met
 
-expect_met : (d : Data) (o : Option Data) → is_met_by d keys.Expect o ≡ true → is_some (text_if o) ≡ true
+pub expect_met : (d : Data) (o : Option Data) → is_met_by d keys.Expect o ≡ true → is_some (text_if o) ≡ true
 expect_met d None met = refl
 expect_met d (Some v) met = by_word (as_str v) met
   where

@@ -1,5 +1,5 @@
 -- Entries of the list of events.
-use Rattle.std.specs.Prelude.{ℕ, List, codes, nat_le, if◌then◌else◌, Option, Some, None, replicate}
+use Rattle.std.specs.Prelude.{ℕ, List, codes, Option, Some, replicate}
 use Rattle.serde_json.specs.Data.{Data}
 use Rattle.serde_json.specs.Find.{get}
 use Rattle.gtp_machine.specs.World.{Event}
@@ -21,12 +21,6 @@ entry_of d = do
   times ← number_or 1 (get (codes "times") d) >>= within 1 1000
   expect ← text_if (get (codes "expect") d)
   Some (record { event = event; times = times; expect = expect })
-
--- an entry, where there is room for so many events
-unfoldable pub entry_within : ℕ → Data → Option Entry
-entry_within room d = do
-  entry ← entry_of d
-  if nat_le entry.times room then Some entry else None
 
 -- the events of an entry
 abbrev pub events_in : Entry → List Event

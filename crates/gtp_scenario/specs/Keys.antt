@@ -14,6 +14,7 @@ use Rattle.gtp_scenario.specs.Json.{whole_number, within, count_of}
 use Rattle.gtp_scenario.specs.Texts.{imsi_of, apn_of, teid_of, octets_of, address_of, ipv6_of}
 use Rattle.gtp_scenario.specs.Events.{role_of}
 use Rattle.gtp_scenario.specs.Heads.{access_points_in}
+use Rattle.gtp_scenario.specs.Names.{session_name_of, bearer_name_of}
 
 -- ---- keys
 
@@ -46,6 +47,8 @@ key_text keys.Node = codes "node"
 key_text keys.Payload = codes "payload"
 key_text keys.Datagram = codes "datagram"
 key_text keys.Length = codes "length"
+key_text keys.Session = codes "session"
+key_text keys.Bearer = codes "bearer"
 key_text keys.Role = codes "role"
 key_text keys.ControlAddress = codes "control"
 key_text keys.UserAddress = codes "user"
@@ -90,6 +93,30 @@ event_keys kinds.Tick = keys.Do ∷ keys.Expect ∷ keys.Node ∷ keys.Times ∷
 event_keys kinds.Send = keys.Do ∷ keys.Expect ∷ keys.Node ∷ keys.Teid ∷ keys.Payload ∷ []
 event_keys kinds.Deliver = keys.Do ∷ keys.Expect ∷ keys.Datagram ∷ []
 event_keys kinds.Cut = keys.Do ∷ keys.Expect ∷ keys.Datagram ∷ keys.Length ∷ []
+
+-- the same where a session or bearer is named in place of its TEID
+abbrev pub named_keys : EventKind → List Key
+named_keys kinds.DeleteSession = keys.Do ∷ keys.Expect ∷ keys.Session ∷ []
+named_keys kinds.ReleaseSession = keys.Do ∷ keys.Expect ∷ keys.Session ∷ []
+named_keys kinds.CreateBearer = keys.Do ∷ keys.Expect ∷ keys.Session ∷ keys.Tft ∷ []
+named_keys kinds.DeleteBearer = keys.Do ∷ keys.Expect ∷ keys.Session ∷ keys.Ebi ∷ []
+named_keys kinds.EndMarker = keys.Do ∷ keys.Expect ∷ keys.Bearer ∷ []
+named_keys kinds.Send = keys.Do ∷ keys.Expect ∷ keys.Node ∷ keys.Bearer ∷ keys.Payload ∷ []
+named_keys kind = event_keys kind
+
+-- the object has a name where an event of this kind may have one
+abbrev pub has_name : Data → EventKind → Bool
+has_name d kinds.DeleteSession = is_some (get (codes "session") d)
+has_name d kinds.ReleaseSession = is_some (get (codes "session") d)
+has_name d kinds.CreateBearer = is_some (get (codes "session") d)
+has_name d kinds.DeleteBearer = is_some (get (codes "session") d)
+has_name d kinds.EndMarker = is_some (get (codes "bearer") d)
+has_name d kinds.Send = is_some (get (codes "bearer") d)
+has_name d kind = false
+
+-- the keys that an object is to have as an event of this kind
+abbrev pub keys_in : Data → EventKind → List Key
+keys_in d kind = if has_name d kind then named_keys kind else event_keys kind
 
 -- the event that a word names
 abbrev pub kind_of : List ℕ → Option EventKind
@@ -139,6 +166,8 @@ wanted_of keys.Node = wanted.Gateway
 wanted_of keys.Payload = wanted.Octets
 wanted_of keys.Datagram = wanted.Number
 wanted_of keys.Length = wanted.Number
+wanted_of keys.Session = wanted.Session
+wanted_of keys.Bearer = wanted.Bearer
 wanted_of keys.Role = wanted.Gateway
 wanted_of keys.ControlAddress = wanted.AddressOfEither
 wanted_of keys.UserAddress = wanted.AddressOfEither
@@ -169,6 +198,8 @@ is_good (wanted.Within low high) d = is_some (whole_number d >>= within low high
 is_good wanted.AccessPoints d = is_some (as_array d >>= λ items. if nat_le (count_of items) 16 then access_points_in items else None)
 is_good wanted.Octets d = is_some (octets_in d)
 is_good wanted.Tft d = is_some (octets_in d >>= λ octets. if nat_le (length octets) 255 then Some octets else None)
+is_good wanted.Session d = is_some (session_name_of d)
+is_good wanted.Bearer d = is_some (bearer_name_of d)
 is_good kind d = option_map_or (is_good_text kind) (as_str d) false
 
 -- the object may do without the key: a pool of IPv6 addresses has both of its keys or none

@@ -5,6 +5,10 @@ pub mod Texts
 pub mod Events
 pub mod Entries
 pub mod Heads
+pub mod Halts
+pub mod Names
+pub mod Named
+pub mod Past
 pub mod Scenarios
 pub mod Views
 pub mod Words

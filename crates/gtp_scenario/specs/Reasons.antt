@@ -1,15 +1,19 @@
 -- When what is said of refused octets is so.
-use Rattle.std.specs.Prelude.{◌≡◌, ℕ, zero, suc, ◌+◌, ◌<◌, List, length, Bool, true, false, ◌&&◌, find, map, codes, string_bytes, Option, Some, None, is_some}
+use Rattle.std.specs.Prelude.{◌≡◌, ℕ, ◌<◌, List, length, Bool, true, false, ◌&&◌, find, map, codes, string_bytes, Option, Some, None, option_map, is_some, Result, Err}
 use Rattle.std.specs.List.{list_all}
 use Rattle.std.specs.Option.{option_map_or}
+use Rattle.std.specs.Result.{result_err}
 use Rattle.std.specs.Str.{IsUtf8, IsValidUpTo}
 use Rattle.gtp_machine.specs.declared.role.Role.{Role}
 use Rattle.gtp_machine.specs.declared.role.Role.TheVariants.{Serving, Packet}
-use Rattle.serde_json.specs.Data.{Data, Items, no_items, item}
+use Rattle.serde_json.specs.Data.{Data, Items}
 use Rattle.serde_json.specs.Find.{get, get_item, as_array, as_object}
 use Rattle.serde_json.specs.Read.{read}
+use Rattle.gtp_world.specs.Runs.{Setup}
 use Rattle.gtp_scenario.specs.declared.fault.Refusal.{Refusal}
 use Rattle.gtp_scenario.specs.declared.fault.Refusal.TheVariants as refusals
+use Rattle.gtp_scenario.specs.declared.halt.Halt.{Halt}
+use Rattle.gtp_scenario.specs.declared.halt.Halt.TheVariants as halts
 use Rattle.gtp_scenario.specs.declared.reason.key.Key.{Key}
 use Rattle.gtp_scenario.specs.declared.reason.key.Key.TheVariants as keys
 use Rattle.gtp_scenario.specs.declared.reason.flaw.ObjectFlaw.{ObjectFlaw}
@@ -32,10 +36,10 @@ use Rattle.gtp_scenario.specs.Steps.{◌>>=◌}
 use Rattle.gtp_scenario.specs.Json.{text_at, is_among, has_only}
 use Rattle.gtp_scenario.specs.Texts.{apn_of}
 use Rattle.gtp_scenario.specs.Events.{event_named, role_of}
-use Rattle.gtp_scenario.specs.Entries.{Entry, entry_of}
-use Rattle.gtp_scenario.specs.Heads.{access_points_at, pool_at, prefixes_at, events_at}
-use Rattle.gtp_scenario.specs.Keys.{key_text, wanted_of, is_good, may_be_absent, is_met, is_unmet, kind_of, event_keys, scenario_keys, serving_keys, packet_keys, template_keys, serving_gateway_keys, packet_gateway_keys, peer_keys}
-use Rattle.gtp_scenario.specs.Scenarios.{json_of, most_octets, most_events}
+use Rattle.gtp_scenario.specs.Heads.{setup_of, access_points_at, pool_at, prefixes_at, events_at}
+use Rattle.gtp_scenario.specs.Keys.{key_text, wanted_of, is_good, may_be_absent, is_met, is_unmet, kind_of, keys_in, scenario_keys, serving_keys, packet_keys, template_keys, serving_gateway_keys, packet_gateway_keys, peer_keys}
+use Rattle.gtp_scenario.specs.Named.{name_of}
+use Rattle.gtp_scenario.specs.Scenarios.{Scenario, json_of, most_octets, IsListRead}
 
 -- ---- objects
 
@@ -135,16 +139,6 @@ IsGatewayFlaw d (gateway.Peer flaw) = IsFlawAt (IsFlaw peer_keys) (codes "peer")
 abbrev pub NamesNoEvent : List ℕ → Type 0
 NamesNoEvent word = (d : Data) → event_named word d ≡ None
 
--- how often an entry happens
-abbrev pub times_of : Data → ℕ
-times_of d = option_map_or (λ (entry : Entry). entry.times) (entry_of d) 0
-
--- how many events there are up to the entry at this place
-abbrev pub events_up_to : ℕ → Items → ℕ
-events_up_to place no_items = 0
-events_up_to zero (item d items) = times_of d
-events_up_to (suc place) (item d items) = times_of d + events_up_to place items
-
 -- what is wrong with an entry that has no word
 abbrev pub IsWordless : Data → ObjectFlaw → Type 0
 IsWordless d flaw = IsFlawOfKey keys.Do d flaw
@@ -153,20 +147,28 @@ IsWordless d flaw = IsFlawOfKey keys.Do d flaw
 abbrev pub IsEntryFlaw : Data → EventFlaw → Type 0
 IsEntryFlaw d (event.Entry flaw) = IsWordless d flaw
 IsEntryFlaw d (event.NoEvent word) = (text_at (codes "do") d ≡ Some (string_bytes word)) × NamesNoEvent (string_bytes word)
-IsEntryFlaw d (event.Keys kind flaw) = ((text_at (codes "do") d >>= kind_of) ≡ Some kind) × IsFlaw (event_keys kind) d flaw
+IsEntryFlaw d (event.Keys kind flaw) = ((text_at (codes "do") d >>= kind_of) ≡ Some kind) × IsFlaw (keys_in d kind) d flaw
+IsEntryFlaw d (event.Nothing name) = ⊥
 IsEntryFlaw d event.TooMany = ⊥
 
+-- reading a list of events stops at this place, for this
+abbrev pub IsHaltedAt : Setup → Items → ℕ → Halt → Type 0
+IsHaltedAt setup items place halt = IsListRead setup items (Err (record { place = place; halt = halt }))
+
 -- what is wrong with the entry at a place of the list
-abbrev pub IsEventFlaw : Items → ℕ → Data → EventFlaw → Type 0
-IsEventFlaw items place d event.TooMany = most_events < events_up_to place items
-IsEventFlaw items place d flaw = IsEntryFlaw d flaw
+abbrev pub IsEventFlaw : Setup → Items → ℕ → Data → EventFlaw → Type 0
+IsEventFlaw setup items place d (event.Nothing name) = (name_of d ≡ Some name) × IsHaltedAt setup items place halts.Nothing
+IsEventFlaw setup items place d event.TooMany = IsHaltedAt setup items place halts.TooMany
+IsEventFlaw setup items place d flaw = IsEntryFlaw d flaw
 
 pub record IsEventAt (d : Data) (place : ℕ) (flaw : EventFlaw) : Type 0 where
+  pub setup : Setup
+  pub head : setup_of d ≡ Some setup
   pub items : Items
   pub list : events_at d ≡ Some items
   pub entry : Data
   pub there : get_item place items ≡ Some entry
-  pub flawed : IsEventFlaw items place entry flaw
+  pub flawed : IsEventFlaw setup items place entry flaw
 
 -- ---- octets
 
@@ -193,3 +195,7 @@ abbrev pub refusal_of : Reason → Refusal
 refusal_of (reasons.Json flaw) = refusals.Json
 refusal_of (reasons.Head flaw) = refusals.Head
 refusal_of (reasons.Event place flaw) = refusals.Event place
+
+-- the refusal of a reading is the one that is explained, if it is refused
+abbrev pub IsExplained : (Result Scenario Refusal → Type 0) → Option Reason → Type 0
+IsExplained IsReadSo reason = (reading : Result Scenario Refusal) × IsReadSo reading × (option_map refusal_of reason ≡ result_err reading)

@@ -24,15 +24,11 @@ abbrev pub Gives : {X Y : Type 0} → (X → Y) → Result X Fault → Option Y 
 Gives view (Ok x) reading = reading ≡ Some (view x)
 Gives view (Err fault) reading = IsNone fault reading
 
--- no memory says nothing of what was read, and a refusal that it is refused so
-abbrev pub IsRefused : {Y : Type 0} → ReadFault → Result Y Refusal → Type 0
-IsRefused read_faults.Memory reading = Unit {0}
-IsRefused (read_faults.Refused refusal) reading = reading ≡ Err refusal
-
--- the same of a reader that says what it refuses
-abbrev pub Reads : {X Y : Type 0} → (X → Y) → Result X ReadFault → Result Y Refusal → Type 0
-Reads view (Ok x) reading = reading ≡ Ok (view x)
-Reads view (Err fault) reading = IsRefused fault reading
+-- what a reader answers that says what it refuses, its value seen by view, is a reading, unless memory ran out
+abbrev pub ReadsAs : {X Y : Type 0} → (X → Y) → Result X ReadFault → (Result Y Refusal → Type 0) → Type 0
+ReadsAs view (Ok x) IsReading = IsReading (Ok (view x))
+ReadsAs view (Err read_faults.Memory) IsReading = Unit {0}
+ReadsAs view (Err (read_faults.Refused refusal)) IsReading = IsReading (Err refusal)
 
 -- the fault of a scenario that is refused so where a part of it is wrong
 abbrev pub refused_for : Refusal → Fault → ReadFault

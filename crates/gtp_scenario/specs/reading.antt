@@ -1,3 +1,3 @@
 -- For private contracts and proofs.
 pub mod Faultless
-pub mod Rest
+pub mod Halted

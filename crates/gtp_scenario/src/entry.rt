@@ -1,8 +1,8 @@
 //! Entries of the list of events.
 
-ghost use Rattle.std.specs.Prelude.{◌≤◌, IfOk, Some, option_map, string_bytes};
+ghost use Rattle.std.specs.Prelude.{Some, option_map, string_bytes};
 ghost use Rattle.gtp_scenario.specs.Steps.{Gives};
-ghost use Rattle.gtp_scenario.specs.Entries.{entry_of, entry_within};
+ghost use Rattle.gtp_scenario.specs.Entries.{entry_of};
 ghost use Rattle.gtp_scenario.specs.Trees.{view};
 ghost use Rattle.gtp_scenario.specs.Views.{entry as entry_view};
 
@@ -25,7 +25,7 @@ pub struct Entry {
 }
 
 /// A text of our own.
-fn copied(alloc: Global, text: Option<&str>) -> Result<Option<String>, Fault>
+pub(crate) fn copied(alloc: Global, text: Option<&str>) -> Result<Option<String>, Fault>
     ensures { Gives (option_map (λ s. string_bytes s)) result
         (Some (option_map (λ s. s.now) text.entry)) }
 {
@@ -35,8 +35,9 @@ fn copied(alloc: Global, text: Option<&str>) -> Result<Option<String>, Fault>
     }
 }
 
+/// An entry that has all of its numbers.
 #[tactic(auto, unfolding(crate::specs::Entries::entry_of))]
-fn entry_of(alloc: Global, value: &Tree<'_, '_>) -> Result<Entry, Fault>
+pub(crate) fn entry_of(alloc: Global, value: &Tree<'_, '_>) -> Result<Entry, Fault>
     ensures { Gives entry_view result (entry_of (view value.now)) }
 {
     let word = text_at(value, "do").ok_or(Fault::Wrong)?;
@@ -50,17 +51,4 @@ fn entry_of(alloc: Global, value: &Tree<'_, '_>) -> Result<Entry, Fault>
         times,
         expect,
     })
-}
-
-/// An entry, where there is room for so many events.
-#[tactic(auto, unfolding(crate::specs::Entries::entry_within))]
-pub(crate) fn entry_within(alloc: Global, room: u32, value: &Tree<'_, '_>) -> Result<Entry, Fault>
-    ensures read { Gives entry_view result (entry_within room (view value.now)) }
-    ensures fits { IfOk result (λ e. e.times ≤ room) }
-{
-    let entry = entry_of(alloc, value)?;
-    if entry.times > room {
-        return Err(Fault::Wrong);
-    }
-    Ok(entry)
 }

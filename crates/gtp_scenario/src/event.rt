@@ -30,7 +30,7 @@ pub fn role_of(text: &str) -> Option<Role>
 }
 
 #[tactic(auto, unfolding(crate::specs::Events::node_at))]
-fn node_at(value: &Tree<'_, '_>) -> Option<Role>
+pub(crate) fn node_at(value: &Tree<'_, '_>) -> Option<Role>
     ensures { result ≡ node_at (view value.now) }
 {
     role_of(text_at(value, "node")?)
@@ -46,7 +46,7 @@ pub fn teid_at(value: &Tree<'_, '_>) -> Option<Teid>
 
 /// The identity of a bearer under `ebi`: 5 to 15.
 #[tactic(auto, unfolding(crate::specs::Events::ebi_at))]
-fn ebi_at(value: &Tree<'_, '_>) -> Option<Ebi>
+pub(crate) fn ebi_at(value: &Tree<'_, '_>) -> Option<Ebi>
     ensures { result ≡ ebi_at (view value.now) }
 {
     let number = within(5, 15, number_at(value, "ebi")?)?;

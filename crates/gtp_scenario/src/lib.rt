@@ -1,14 +1,19 @@
 //! Scenarios: two gateways and what happens to them, read from JSON.
 #![tactic(auto)]
 
+mod about;
 mod entry;
 mod event;
 mod expanding;
 mod fault;
 mod fixed;
+mod halt;
 mod head;
+mod items;
 pub mod laws;
 mod members;
+mod name;
+mod past;
 mod reason;
 mod scenario;
 mod text;
@@ -18,6 +23,7 @@ mod word;
 pub use entry::Entry;
 pub use expanding::events_of;
 pub use fault::{ReadFault, Refusal};
+pub use name::{BearerName, Name, SessionName};
 pub use reason::event::EventFlaw;
 pub use reason::flaw::ObjectFlaw;
 pub use reason::gateway::{GatewayFlaw, gateway_flaw};

@@ -12,21 +12,26 @@ mod said;
 pub(crate) mod template;
 pub(crate) mod wanted;
 
-ghost use Rattle.std.specs.Prelude.{◌≡◌, Err, Some, None, IfOk, IfSome, option_map};
-ghost use Rattle.std.specs.Result.{result_err};
+ghost use Rattle.std.specs.Prelude.{◌≡◌, true, is_some, Some, None, IfOk, IfSome, option_map};
 ghost use Rattle.serde_json.specs.Find.{get_item};
-ghost use Rattle.gtp_scenario.specs.Reasons.{IsSo, IsSaid, IsEventAt, refusal_of};
-ghost use Rattle.gtp_scenario.specs.reading.Rest.{rest_of};
-ghost use Rattle.gtp_scenario.specs.Scenarios.{json_of, scenario_of};
+ghost use Rattle.gtp_scenario.specs.Reasons.{IsSo, IsSaid, IsEntryFlaw, IsEventAt, refusal_of, IsExplained};
+ghost use Rattle.gtp_scenario.specs.Named.{name_of};
+ghost use Rattle.gtp_scenario.specs.reading.Faultless.{IsRight};
+ghost use Rattle.gtp_scenario.specs.reading.Halted.{IsHaltedIn, IsNothing, IsFlawFor};
+ghost use Rattle.gtp_scenario.specs.Scenarios.{head_in, IsReadOn, IsReadIn, IsReading};
 ghost use Rattle.gtp_scenario.specs.Trees.{view, items_view};
+ghost use Rattle.gtp_scenario.specs.Views.{head as head_view};
 
-use crate::fault::{Fault, ReadFault, Refusal};
+use crate::fault::{Fault, Refusal};
+use crate::halt::{Halt, Halted, ListFault};
 use crate::head::events_at;
+use crate::items::entries_of;
 use crate::members::Items;
+use crate::name::name_of;
 use crate::reason::event::{EventFlaw, entry_flaw};
 use crate::reason::head::{HeadFlaw, head_flaw};
 use crate::reason::not_json::{JsonFlaw, json_flaw};
-use crate::scenario::{json_of, read_scenario};
+use crate::scenario::{Head, head_in, json_of};
 use crate::tree::Tree;
 use gtp_values::Memory;
 use json::Scratch;
@@ -54,49 +59,98 @@ fn item_at<'t, 'a>(mut values: Items<'t, 'a>, place: usize) -> Option<Tree<'t, '
     values.next()
 }
 
-/// What is wrong with the entry at the place where the list of events is refused.
-fn event_flaw(alloc: Global, value: &Tree<'_, '_>, place: usize) -> Result<EventFlaw, Memory>
-    requires { rest_of (view value.now) ≡ Err (Refusal.Event place) }
-    ensures { IfOk result (IsEventAt (view value.now) place) }
+/// That what an entry names is not there.
+fn nothing_flaw(entry: &Tree<'_, '_>) -> EventFlaw
+    requires { is_some (name_of (view entry.now)) ≡ true }
+    ensures { IsNothing (view entry.now) result }
+{
+    match name_of(entry) {
+        Some(name) => EventFlaw::Nothing(name),
+        None => unreachable!(),
+    }
+}
+
+/// What is wrong with an entry that is none.
+fn wrong_flaw(alloc: Global, entry: &Tree<'_, '_>) -> Result<EventFlaw, Memory>
+    requires { IsRight (view entry.now) → ⊥ }
+    ensures { IfOk result (IsEntryFlaw (view entry.now)) }
+{
+    match entry_flaw(alloc, entry)? {
+        Some(flaw) => Ok(flaw),
+        None => unreachable!(),
+    }
+}
+
+/// What is wrong with an entry at which reading the list of events stops so.
+fn flaw_for(alloc: Global, halt: Halt, entry: &Tree<'_, '_>) -> Result<EventFlaw, Memory>
+    requires named { halt ≡ Halt.Nothing → is_some (name_of (view entry.now)) ≡ true }
+    requires wrong { halt ≡ Halt.Wrong → IsRight (view entry.now) → ⊥ }
+    ensures { IfOk result (IsFlawFor halt (view entry.now)) }
+{
+    match halt {
+        Halt::TooMany => Ok(EventFlaw::TooMany),
+        Halt::Nothing => Ok(nothing_flaw(entry)),
+        Halt::Wrong => wrong_flaw(alloc, entry),
+    }
+}
+
+/// What is wrong with the entry at which reading the list of events stops.
+fn event_flaw(alloc: Global, value: &Tree<'_, '_>, halted: Halted) -> Result<EventFlaw, Memory>
+    requires { IsHaltedIn (view value.now) halted }
+    ensures { IfOk result (IsEventAt (view value.now) halted.place) }
 {
     let Some(values) = events_at(value) else {
         unreachable!()
     };
-    let Some(entry) = item_at(values, place) else {
+    let Some(entry) = item_at(values, halted.place) else {
         unreachable!()
     };
-    match entry_flaw(alloc, &entry)? {
-        Some(flaw) => Ok(flaw),
-        None => Ok(EventFlaw::TooMany),
-    }
+    let flaw = flaw_for(alloc, halted.halt, &entry)?;
+    Ok(flaw)
 }
 
-/// Why data are refused so.
-fn data_reason(alloc: Global, value: &Tree<'_, '_>, refusal: Refusal) -> Result<Reason, Memory>
-    requires { rest_of (view value.now) ≡ Err refusal }
-    ensures refusal { IfOk result (λ reason. refusal_of reason ≡ refusal) }
+/// What is wrong with a head that is none.
+fn bad_head(alloc: Global, value: &Tree<'_, '_>) -> Result<Reason, Memory>
+    requires { head_in (view value.now) ≡ None }
+    ensures refusal { IfOk result (λ reason. refusal_of reason ≡ Refusal.Head) }
     ensures so { IfOk result (IsSaid (view value.now)) }
 {
-    match refusal {
-        Refusal::Json => unreachable!(),
-        Refusal::Head => match head_flaw(alloc, value)? {
-            Some(flaw) => Ok(Reason::Head(flaw)),
-            None => unreachable!(),
-        },
-        Refusal::Event(place) => Ok(Reason::Event(place, event_flaw(alloc, value, place)?)),
+    match head_flaw(alloc, value)? {
+        Some(flaw) => Ok(Reason::Head(flaw)),
+        None => unreachable!(),
     }
 }
 
-/// Why octets are refused so.
-fn reason_for(alloc: Global, octets: &[u8], refusal: Refusal) -> Result<Reason, Memory>
-    requires { scenario_of octets.now ≡ Err refusal }
-    ensures refusal { IfOk result (λ reason. refusal_of reason ≡ refusal) }
-    ensures so { IfOk result (IsSo octets.now) }
+/// Why the events after a head are none, if they are none.
+fn list_reason(
+    alloc: Global,
+    value: &Tree<'_, '_>,
+    head: Head<'_, '_>,
+) -> Result<Option<Reason>, Memory>
+    requires { head_in (view value.now) ≡ Some (head_view head) }
+    ensures refusal { IfOk result (IsExplained (IsReadOn (head_view head.entry))) }
+    ensures so { IfOk result (λ reason. IfSome reason (IsSaid (view value.now))) }
 {
-    let mut scratch = Scratch::new(alloc);
-    match json_of(alloc, octets, &mut scratch) {
-        Ok(tape) => data_reason(alloc, &Tree::root(&tape), refusal),
-        Err(Fault::Wrong) => Ok(Reason::Json(json_flaw(alloc, octets)?)),
+    let Head { config, values } = head;
+    match entries_of(alloc, &config, values) {
+        Ok(_) => Ok(None),
+        Err(ListFault::Halted(halted)) => {
+            let flaw = event_flaw(alloc, value, halted)?;
+            Ok(Some(Reason::Event(halted.place, flaw)))
+        }
+        Err(ListFault::Memory) => Err(Memory),
+    }
+}
+
+/// Why data are no scenario, if they are none.
+#[tactic(auto, using(crate::proofs::Explaining::explains_head))]
+fn data_reason(alloc: Global, value: &Tree<'_, '_>) -> Result<Option<Reason>, Memory>
+    ensures refusal { IfOk result (IsExplained (IsReadIn (head_in (view value.now)))) }
+    ensures so { IfOk result (λ reason. IfSome reason (IsSaid (view value.now))) }
+{
+    match head_in(alloc, value) {
+        Ok(head) => list_reason(alloc, value, head),
+        Err(Fault::Wrong) => Ok(Some(bad_head(alloc, value)?)),
         Err(Fault::Memory) => Err(Memory),
     }
 }
@@ -109,14 +163,14 @@ fn reason_for(alloc: Global, octets: &[u8], refusal: Refusal) -> Result<Reason, 
 /// `docs/FORMATS.md`. Which of two kinds of flaw it tells, no clause says.
 pub fn reason_of(alloc: Global, octets: &[u8]) -> Result<Option<Reason>, Memory>
     // There is a reason exactly where the octets are refused, and it is one for that refusal.
-    ensures refusal { IfOk result
-        (λ reason. option_map refusal_of reason ≡ result_err (scenario_of octets.now)) }
+    ensures refusal { IfOk result (IsExplained (IsReading octets.now)) }
     // What it says of the octets is so.
     ensures so { IfOk result (λ reason. IfSome reason (IsSo octets.now)) }
 {
-    match read_scenario(alloc, octets) {
-        Ok(_) => Ok(None),
-        Err(ReadFault::Refused(refusal)) => Ok(Some(reason_for(alloc, octets, refusal)?)),
-        Err(ReadFault::Memory) => Err(Memory),
+    let mut scratch = Scratch::new(alloc);
+    match json_of(alloc, octets, &mut scratch) {
+        Ok(tape) => data_reason(alloc, &Tree::root(&tape)),
+        Err(Fault::Wrong) => Ok(Some(Reason::Json(json_flaw(alloc, octets)?))),
+        Err(Fault::Memory) => Err(Memory),
     }
 }

@@ -1,12 +1,13 @@
 //! What is wrong with an entry of the list of events.
 
-ghost use Rattle.std.specs.Prelude.{◌≡◌, Some, None, codes, IfOk, IsSome, MatchOption};
+ghost use Rattle.std.specs.Prelude.{◌≡◌, Some, None, codes, IfOk, MatchOption};
 ghost use Rattle.gtp_scenario.specs.Json.{text_at};
-ghost use Rattle.gtp_scenario.specs.Entries.{entry_of};
+ghost use Rattle.gtp_scenario.specs.reading.Faultless.{IsRight};
 ghost use Rattle.gtp_scenario.specs.Reasons.{IsWordless, IsEntryFlaw};
 ghost use Rattle.gtp_scenario.specs.Trees.{view};
 
 use crate::members::{has, is_object, text_at};
+use crate::name::Name;
 use crate::reason::flaw::{ObjectFlaw, flaw_of};
 use crate::reason::key::Key;
 use crate::reason::kind::{EventKind, kind_of};
@@ -23,6 +24,8 @@ pub enum EventFlaw {
     NoEvent(String),
     /// Something is wrong with the keys that an event of this kind has.
     Keys(EventKind, ObjectFlaw),
+    /// What it names is not there: no datagram was sent, or the gateway has no such session or bearer.
+    Nothing(Name),
     /// With it there are more than 100,000 events.
     TooMany,
 }
@@ -45,13 +48,13 @@ fn wordless(value: &Tree<'_, '_>) -> ObjectFlaw
 /// What is wrong with an entry that has this word.
 fn worded(alloc: Global, word: &str, value: &Tree<'_, '_>) -> Result<Option<EventFlaw>, Memory>
     requires { text_at (codes "do") (view value.now) ≡ Some word.now }
-    ensures { IfOk result (λ flaw. MatchOption flaw (IsSome (entry_of (view value.now)))
+    ensures { IfOk result (λ flaw. MatchOption flaw (IsRight (view value.now))
         (IsEntryFlaw (view value.now))) }
 {
     let Some(kind) = kind_of(word) else {
         return Ok(Some(EventFlaw::NoEvent(String::from_str(alloc, word)?)));
     };
-    match flaw_of(alloc, kind.keys(), value)? {
+    match flaw_of(alloc, kind.keys_in(value), value)? {
         Some(flaw) => Ok(Some(EventFlaw::Keys(kind, flaw))),
         None => Ok(None),
     }
@@ -59,7 +62,7 @@ fn worded(alloc: Global, word: &str, value: &Tree<'_, '_>) -> Result<Option<Even
 
 /// What is wrong with an entry itself.
 pub(crate) fn entry_flaw(alloc: Global, value: &Tree<'_, '_>) -> Result<Option<EventFlaw>, Memory>
-    ensures { IfOk result (λ flaw. MatchOption flaw (IsSome (entry_of (view value.now)))
+    ensures { IfOk result (λ flaw. MatchOption flaw (IsRight (view value.now))
         (IsEntryFlaw (view value.now))) }
 {
     match text_at(value, "do") {

@@ -39,6 +39,10 @@ pub enum Key {
     Payload,
     Datagram,
     Length,
+    /// A session, by its subscriber and access point.
+    Session,
+    /// A bearer, by its session and identity.
+    Bearer,
     /// Which gateway a gateway by itself is.
     Role,
     /// Its `control`, of either IP version.
@@ -82,6 +86,8 @@ impl Key {
             Key::Payload => "payload",
             Key::Datagram => "datagram",
             Key::Length => "length",
+            Key::Session => "session",
+            Key::Bearer => "bearer",
             Key::Role => "role",
             Key::ControlAddress => "control",
             Key::UserAddress => "user",
@@ -116,6 +122,8 @@ impl Key {
             Key::Node | Key::Role => Wanted::Gateway,
             Key::ControlAddress | Key::UserAddress => Wanted::AddressOfEither,
             Key::Payload => Wanted::Octets,
+            Key::Session => Wanted::Session,
+            Key::Bearer => Wanted::Bearer,
         }
     }
 

@@ -1,9 +1,12 @@
 //! Kinds of events.
 
 ghost use Rattle.std.specs.Prelude.{◌≡◌, Some};
-ghost use Rattle.gtp_scenario.specs.Keys.{kind_of, event_keys};
+ghost use Rattle.gtp_scenario.specs.Keys.{kind_of, event_keys, named_keys, has_name, keys_in};
+ghost use Rattle.gtp_scenario.specs.Trees.{view};
 
+use crate::members::has;
 use crate::reason::key::Key;
+use crate::tree::Tree;
 
 /// What an event is, by its word.
 #[derive(Clone, Copy, Debug, PartialEq, Eq)]
@@ -65,7 +68,7 @@ impl EventKind {
     }
 
     /// Its keys, in order.
-    pub(crate) fn keys(self) -> &'static [Key]
+    fn keys(self) -> &'static [Key]
         ensures { result.now ≡ event_keys self }
     {
         match self {
@@ -87,6 +90,47 @@ impl EventKind {
             EventKind::Send => &[Key::Do, Key::Expect, Key::Node, Key::Teid, Key::Payload],
             EventKind::Deliver => &[Key::Do, Key::Expect, Key::Datagram],
             EventKind::Cut => &[Key::Do, Key::Expect, Key::Datagram, Key::Length],
+        }
+    }
+
+    /// The same where a session or bearer is named in place of its TEID.
+    fn named_keys(self) -> &'static [Key]
+        ensures { result.now ≡ named_keys self }
+    {
+        match self {
+            EventKind::DeleteSession | EventKind::ReleaseSession => {
+                &[Key::Do, Key::Expect, Key::Session]
+            }
+            EventKind::CreateBearer => &[Key::Do, Key::Expect, Key::Session, Key::Tft],
+            EventKind::DeleteBearer => &[Key::Do, Key::Expect, Key::Session, Key::Ebi],
+            EventKind::EndMarker => &[Key::Do, Key::Expect, Key::Bearer],
+            EventKind::Send => &[Key::Do, Key::Expect, Key::Node, Key::Bearer, Key::Payload],
+            _ => self.keys(),
+        }
+    }
+
+    /// Whether an object has a name where an event of this kind may have one.
+    fn has_name(self, value: &Tree<'_, '_>) -> bool
+        ensures { result ≡ has_name (view value.now) self }
+    {
+        match self {
+            EventKind::DeleteSession
+            | EventKind::ReleaseSession
+            | EventKind::CreateBearer
+            | EventKind::DeleteBearer => has(value, "session"),
+            EventKind::EndMarker | EventKind::Send => has(value, "bearer"),
+            _ => false,
+        }
+    }
+
+    /// The keys that an object is to have as an event of this kind.
+    pub(crate) fn keys_in(self, value: &Tree<'_, '_>) -> &'static [Key]
+        ensures { result.now ≡ keys_in (view value.now) self }
+    {
+        if self.has_name(value) {
+            self.named_keys()
+        } else {
+            self.keys()
         }
     }
 }

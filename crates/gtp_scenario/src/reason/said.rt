@@ -1,5 +1,6 @@
 //! Reasons as lines of English.
 
+use crate::name::Name;
 use crate::reason::Reason;
 use crate::reason::event::EventFlaw;
 use crate::reason::flaw::ObjectFlaw;
@@ -87,6 +88,8 @@ impl fmt::Display for Wanted {
             Wanted::Tft => {
                 f.write_str("hexadecimal digits are wanted, two for each of at most 255 octets")
             }
+            Wanted::Session => f.write_str("an object with imsi and apn is wanted"),
+            Wanted::Bearer => f.write_str("an object with imsi, apn and ebi is wanted"),
         }
     }
 }
@@ -213,6 +216,35 @@ impl fmt::Display for HeadFlaw {
     }
 }
 
+/// That nothing has this name.
+#[derive(Clone, Copy)]
+struct Lacking(Name);
+
+impl fmt::Display for Lacking {
+    fn fmt<W: fmt::Write>(&self, f: &mut fmt::Formatter<W>) -> fmt::Result {
+        match self.0 {
+            Name::Newest | Name::All => f.write_str("no datagram was sent"),
+            Name::Session(_, name) => {
+                write!(
+                    f,
+                    "no session of IMSI {} at {}",
+                    name.imsi, name.access_point
+                )
+            }
+            Name::Bearer(_, name) => {
+                let session = name.session;
+                write!(
+                    f,
+                    "no bearer {} of IMSI {} at {}",
+                    name.identity.number(),
+                    session.imsi,
+                    session.access_point
+                )
+            }
+        }
+    }
+}
+
 impl fmt::Display for EventFlaw {
     fn fmt<W: fmt::Write>(&self, f: &mut fmt::Formatter<W>) -> fmt::Result {
         match self {
@@ -221,6 +253,7 @@ impl fmt::Display for EventFlaw {
                 write!(f, "do: no event is called {}", Quoted(word.as_str()))
             }
             EventFlaw::Keys(kind, flaw) => write_flaw(f, Place::Whole, kind.word(), flaw),
+            EventFlaw::Nothing(name) => write!(f, "{}", Lacking(*name)),
             EventFlaw::TooMany => f.write_str("more than 100000 events"),
         }
     }

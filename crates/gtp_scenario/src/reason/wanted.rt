@@ -10,6 +10,7 @@ use crate::event::role_of;
 use crate::fault::Fault;
 use crate::head::access_points_in;
 use crate::members::{as_list, as_text, is_object, whole_number, within};
+use crate::name::{bearer_name_of, session_name_of};
 use crate::text::{address_of, apn_of, imsi_of, ipv6_of, octets_of, teid_of};
 use crate::tree::Tree;
 use gtp_values::Memory;
@@ -45,6 +46,10 @@ pub enum Wanted {
     Octets,
     /// At most 255 octets.
     Tft,
+    /// An object with `imsi` and `apn`.
+    Session,
+    /// An object with `imsi`, `apn` and `ebi`.
+    Bearer,
 }
 
 /// The octets that a value is in hexadecimal digits.
@@ -139,6 +144,8 @@ impl Wanted {
             Wanted::AccessPoints => are_access_points(alloc, value),
             Wanted::Octets => are_octets(alloc, value),
             Wanted::Tft => is_tft(alloc, value),
+            Wanted::Session => Ok(session_name_of(value).is_some()),
+            Wanted::Bearer => Ok(bearer_name_of(value).is_some()),
             _ => Ok(is_text(self, value)),
         }
     }

@@ -1,17 +1,16 @@
-use Rattle.std.proofs.Common.{◌≡◌, Err, subst}
-use Rattle.gtp_scenario.specs.reading.Rest.{rest_of}
+use Rattle.std.proofs.Common.{Some, subst}
+use Rattle.gtp_scenario.specs.Reasons.{IsExplained}
+use Rattle.gtp_scenario.specs.Scenarios.{head_in, IsReadOn, IsReadIn}
+use Rattle.gtp_scenario.specs.Steps.{IsNone}
 use Rattle.gtp_scenario.specs.Trees.{view}
-use Rattle.gtp_scenario.proofs.Objects.{at_none}
-use Rattle.gtp_scenario.proofs.Refused.{never_json, head_is_none}
+use Rattle.gtp_scenario.specs.Views.{head}
+use Rattle.gtp_scenario.proofs.Explaining.{if_ok, explains_on}
 use Rattle.gtp_scenario.proofs.reason.data_reason.Goals as goal
 
-pub unreachable-requires : goal.unreachable-requires
-unreachable-requires c =
-    let d = view c.args.value.now in
-    never_json d (subst (λ r. rest_of d ≡ Err r) c.in-Json.is c.requires)
+pub bad_head-requires : goal.bad_head-requires
+bad_head-requires c = subst (λ fault. IsNone fault (head_in (view c.args.value.now))) c.in-Err-Wrong.field-0-is c.in-Err-Wrong.ensures
 
-pub unreachable-requires-in-None : goal.unreachable-requires-in-None
-unreachable-requires-in-None c =
+pub returns-in-Ok-clause-refusal : goal.returns-in-Ok-clause-refusal
+returns-in-Ok-clause-refusal c =
     let d = view c.args.value.now in
-    let both = at_none c.in_ok-flaw-in-Head.field-0 _ _ c.in_ok-flaw-in-Head.ensures c.in-None.is in
-    head_is_none d (subst (λ r. rest_of d ≡ Err r) c.in-Head.is c.requires) both.0 both.1
+    if_ok c.list_reason.result (IsExplained (IsReadOn (head c.in-Ok.head))) (IsExplained (IsReadIn (head_in d))) (λ reason e. explains_on d (head c.in-Ok.head) reason c.in-Ok.ensures e) c.list_reason.ensures.refusal

@@ -3,7 +3,8 @@ use Rattle.gtp_scenario.specs.Keys.{kind_of}
 use Rattle.gtp_scenario.specs.Reasons.{NamesNoEvent, fits}
 use Rattle.gtp_scenario.specs.Trees.{view}
 use Rattle.gtp_scenario.proofs.Objects.{at_none}
-use Rattle.gtp_scenario.proofs.Whole.{none_named, entry_read}
+use Rattle.gtp_scenario.proofs.NamedKeys.{entry_right}
+use Rattle.gtp_scenario.proofs.Whole.{none_named}
 use Rattle.gtp_scenario.proofs.reason.event.worded.Goals as goal
 
 pub returns-in_default : goal.returns-in_default
@@ -17,4 +18,4 @@ returns-in-None c =
     let d = view c.args.value.now in
     let kind : kind_of c.args.word.now ≡ Some c.in-Some.kind = sym c.kind_of.ensures ∙ c.in-Some.is in
     let met = at_none c.in_ok-flaw.field-0 _ _ c.in_ok-flaw.ensures c.in-None.is in
-    entry_read d c.args.word.now c.in-Some.kind c.requires kind (subst (λ known. fits known d ≡ true) c.keys.ensures met)
+    entry_right d c.args.word.now c.in-Some.kind c.requires kind (subst (λ known. fits known d ≡ true) c.keys_in.ensures met)
