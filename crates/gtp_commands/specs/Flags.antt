@@ -1,0 +1,129 @@
+-- What the arguments of a command ask for.
+use Rattle.std.specs.Prelude.{◌≡◌, ◌≢◌, ◌<◌, ◌⊎◌, ℕ, Bool, true, false, List, codes, map, Option, Some, None, option_map, IsSomeAnd, bytes_eq}
+use Rattle.gtp_values.specs.Address.{IsIpText}
+use Rattle.gtp_values.specs.Imsi.{value_of_digit}
+use Rattle.gtp_values.specs.Teid.{WritesTeid}
+use Rattle.std.specs.Str.Parse.{IsNumeral, digits_value, without_leading_plus}
+use Rattle.gtp_values.specs.declared.plane.Plane.{Plane}
+use Rattle.gtp_values.specs.declared.plane.Plane.TheVariants.{Control, User}
+use Rattle.gtp_json.specs.declared.datagram.Members.TheVariants as members
+use Rattle.gtp_v2.specs.Tables.{table_of}
+use Rattle.gtp_lines.specs.User.{user_name}
+use Rattle.gtp_frames.specs.declared.filter.Kinds.{Kinds}
+use Rattle.gtp_frames.specs.declared.frames.Form.TheVariants as frames
+use Rattle.gtp_dump.specs.declared.decoding.Asked.{Asked}
+use Rattle.gtp_dump.specs.declared.decoding.Form.{Form as DumpForm}
+use Rattle.gtp_dump.specs.declared.decoding.Form.TheVariants as dump
+use Rattle.gtp_replay.specs.declared.replaying.Form.{Form as ReplayForm}
+use Rattle.gtp_replay.specs.declared.replaying.Form.TheVariants as replay
+use Rattle.gtp_commands.specs.declared.capturing.CaptureAsked.{CaptureAsked}
+use Rattle.gtp_commands.specs.declared.capturing.CaptureForm.{CaptureForm}
+use Rattle.gtp_commands.specs.declared.capturing.CaptureForm.TheVariants.{Text, Json}
+
+-- with `--user` the plane of users is named, and else none
+abbrev pub plane_named : Bool → Option Plane
+plane_named true = Some User
+plane_named false = None
+
+-- where none is named, it is that of control
+abbrev pub plane_of : Option Plane → Plane
+plane_of (Some plane) = plane
+plane_of None = Control
+
+-- what `--json` and `--all` ask of `decode`
+abbrev pub dump_form : (json all : Bool) → DumpForm
+dump_form true true = dump.Json members.All
+dump_form true false = dump.Json members.Plain
+dump_form false true = dump.All
+dump_form false false = dump.Lines
+
+-- and, with `--brief`, of `capture`
+abbrev pub capture_form : (json brief all : Bool) → CaptureForm
+capture_form true brief true = Json members.All
+capture_form true brief false = Json members.Plain
+capture_form false true all = Text frames.Brief
+capture_form false false true = Text frames.All
+capture_form false false false = Text frames.Lines
+
+-- of several forms of `replay` the first counts
+abbrev pub replay_form : (json pcap svg diagram : Bool) → ReplayForm
+replay_form true pcap svg diagram = replay.Json
+replay_form false true svg diagram = replay.Capture
+replay_form false false true diagram = replay.Svg
+replay_form false false false true = replay.Diagram
+replay_form false false false false = replay.Report
+
+-- the name of a type of message of the control plane, where it has one
+abbrev pub control_name : ℕ → Option (List ℕ)
+control_name kind = option_map (λ table. table.name) (table_of kind)
+
+-- a type of this name; none where no type has it
+abbrev pub IsKindOf : (ℕ → Option (List ℕ)) → List ℕ → Option ℕ → Type 0
+IsKindOf name word (Some kind) = name kind ≡ Some word
+IsKindOf name word None = (kind : ℕ) → kind < 256 → name kind ≢ Some word
+
+-- the word is a number below 256
+abbrev pub IsKindNumber : List ℕ → Type 0
+IsKindNumber word = IsNumeral 10 (without_leading_plus word) × (digits_value 10 (without_leading_plus word) < 256)
+
+-- the type of this number on both planes
+abbrev pub numbered : ℕ → Kinds
+numbered kind = record { control = Some kind; user = Some kind }
+
+-- what `--type` asks for: the type of this number on both planes, or those of this name
+abbrev pub AreKinds : List ℕ → Kinds → Type 0
+AreKinds word kinds =
+    (IsKindNumber word × (kinds ≡ numbered (digits_value 10 (without_leading_plus word))))
+    ⊎ ((IsKindNumber word → ⊥) × IsKindOf control_name word kinds.control × IsKindOf user_name word kinds.user)
+
+-- of no plane
+abbrev pub no_kinds : Kinds
+no_kinds = record { control = None; user = None }
+
+-- ---- the words of a command
+
+-- the words give names values: of some names one, of others none
+abbrev pub Values : Type 0
+Values = List ℕ → Option (List ℕ)
+
+-- a flag that is set has the value `true`
+abbrev pub says_true : Option (List ℕ) → Bool
+says_true None = false
+says_true (Some value) = bytes_eq value (codes "true")
+
+abbrev pub is_set : Values → List ℕ → Bool
+is_set values name = says_true (values name)
+
+-- what the words of `decode` ask for
+abbrev pub dump_of : Values → Asked
+dump_of values = record { plane = plane_named (is_set values (codes "user")); form = dump_form (is_set values (codes "json")) (is_set values (codes "all")); join = is_set values (codes "join") }
+
+-- in which form the words of `capture` and of `replay` ask for what is shown
+abbrev pub capture_form_of : Values → CaptureForm
+capture_form_of values = capture_form (is_set values (codes "json")) (is_set values (codes "brief")) (is_set values (codes "all"))
+
+abbrev pub replay_form_of : Values → ReplayForm
+replay_form_of values = replay_form (is_set values (codes "json")) (is_set values (codes "pcap")) (is_set values (codes "svg")) (is_set values (codes "diagram"))
+
+-- what a word says, where there is one, and nothing else
+abbrev pub IsSaid : {X : Type 0} → (List ℕ → X → Type 0) → Option (List ℕ) → Option X → Type 0
+IsSaid Says None value = value ≡ None
+IsSaid Says (Some word) value = IsSomeAnd value (Says word)
+
+-- the number that a word is
+abbrev pub SaysPort : List ℕ → ℕ → Type 0
+SaysPort word port = port ≡ digits_value 10 (without_leading_plus word)
+
+abbrev pub SaysImsi : List ℕ → List ℕ → Type 0
+SaysImsi word digits = digits ≡ map value_of_digit word
+
+-- what the words of `capture` ask for
+pub record IsCaptureAsked (values : Values) (asked : CaptureAsked) : Type 0 where
+  pub form : asked.frames.form ≡ capture_form_of values
+  pub faults : asked.frames.only_faults ≡ is_set values (codes "faults")
+  pub kinds : IsSaid AreKinds (values (codes "type")) asked.frames.filter.kinds
+  pub imsi : IsSaid SaysImsi (values (codes "imsi")) asked.frames.filter.imsi
+  pub teid : IsSaid WritesTeid (values (codes "teid")) asked.frames.filter.teid
+  pub address : IsSaid IsIpText (values (codes "address")) asked.frames.filter.address
+  pub control : IsSaid SaysPort (values (codes "control-port")) asked.ports.control
+  pub user : IsSaid SaysPort (values (codes "user-port")) asked.ports.user

@@ -1,0 +1,300 @@
+//! What the arguments of a command ask for.
+
+ghost use Rattle.std.specs.Prelude.{◌≡◌, ◌≢◌, ◌^◌, ◌<◌, None, Ok, Some, Err, true, false, IfOk, IfErr, IfSome, IsSomeAnd, OnOk, OnErr, map, option_map, if◌then◌else◌};
+ghost use Rattle.std.specs.IoError.{error_kind};
+ghost use Rattle.std.specs.Str.Parse.{IsNumeral, digits_value, without_leading_plus};
+ghost use Rattle.gtp_lines.specs.User.{user_name as spec_user_name};
+ghost use Rattle.gtp_values.specs.Address.{IsIpText, SomeIpText};
+ghost use Rattle.gtp_values.specs.Imsi.{IsImsiText, value_of_digit};
+ghost use Rattle.gtp_values.specs.Teid.{IsTeidText, WritesTeid};
+ghost use Rattle.gtp_commands.specs.Flags.{plane_named, plane_of, dump_form, capture_form, replay_form, control_name, IsKindOf, AreKinds, no_kinds, is_set, dump_of, capture_form_of, replay_form_of, IsCaptureAsked};
+ghost use Rattle.clap.specs.Words.{first_value, found_of};
+
+use crate::capturing::{CaptureAsked, CaptureForm, FramesAsked};
+use crate::command::Failure;
+use clap::ArgMatches;
+use gtp_capture::Ports;
+use gtp_dump::Asked;
+use gtp_frames::{Filter, Form, Imsi, Ip, Kinds, Teid};
+use gtp_json::Members;
+use gtp_lines::{Plane, user_name};
+use gtp_v2::type_name;
+use std::io::{self, ErrorKind};
+
+/// The plane that is named.
+fn plane_named(is_user: bool) -> Option<Plane>
+    ensures { result ≡ plane_named is_user }
+{
+    if is_user { Some(Plane::User) } else { None }
+}
+
+/// The plane of a datagram.
+pub fn plane_of(named: Option<Plane>) -> Plane
+    ensures { result ≡ plane_of named }
+{
+    named.unwrap_or(Plane::Control)
+}
+
+/// In which form `decode` shows datagrams.
+fn dump_form(is_json: bool, is_all: bool) -> gtp_dump::Form
+    ensures { result ≡ dump_form is_json is_all }
+{
+    match (is_json, is_all) {
+        (true, true) => gtp_dump::Form::Json(Members::All),
+        (true, false) => gtp_dump::Form::Json(Members::Plain),
+        (false, true) => gtp_dump::Form::All,
+        (false, false) => gtp_dump::Form::Lines,
+    }
+}
+
+/// In which form `capture` shows them.
+fn capture_form(is_json: bool, is_brief: bool, is_all: bool) -> CaptureForm
+    ensures { result ≡ capture_form is_json is_brief is_all }
+{
+    match (is_json, is_brief, is_all) {
+        (true, _, true) => CaptureForm::Json(Members::All),
+        (true, _, false) => CaptureForm::Json(Members::Plain),
+        (false, true, _) => CaptureForm::Text(Form::Brief),
+        (false, false, true) => CaptureForm::Text(Form::All),
+        (false, false, false) => CaptureForm::Text(Form::Lines),
+    }
+}
+
+/// What `replay` writes of a run.
+fn replay_form(is_json: bool, is_pcap: bool, is_svg: bool, is_diagram: bool) -> gtp_replay::Form
+    ensures { result ≡ replay_form is_json is_pcap is_svg is_diagram }
+{
+    match (is_json, is_pcap, is_svg, is_diagram) {
+        (true, _, _, _) => gtp_replay::Form::Json,
+        (false, true, _, _) => gtp_replay::Form::Capture,
+        (false, false, true, _) => gtp_replay::Form::Svg,
+        (false, false, false, true) => gtp_replay::Form::Diagram,
+        (false, false, false, false) => gtp_replay::Form::Report,
+    }
+}
+
+/// Whether a flag is set.
+fn is_set(asked: &ArgMatches, name: &str) -> bool
+    ensures { result ≡ is_set (first_value (found_of asked.now)) name.now }
+{
+    match asked.get_str(name) {
+        Some(value) => value == "true",
+        None => false,
+    }
+}
+
+/// What the arguments of `decode` ask for.
+pub fn dump_asked(asked: &ArgMatches) -> Asked
+    ensures { result ≡ dump_of (first_value (found_of asked.now)) }
+{
+    Asked {
+        plane: plane_named(is_set(asked, "user")),
+        form: dump_form(is_set(asked, "json"), is_set(asked, "all")),
+        join: is_set(asked, "join"),
+    }
+}
+
+/// In which form those of `capture` ask for datagrams.
+fn capture_form_asked(asked: &ArgMatches) -> CaptureForm
+    ensures { result ≡ capture_form_of (first_value (found_of asked.now)) }
+{
+    capture_form(
+        is_set(asked, "json"),
+        is_set(asked, "brief"),
+        is_set(asked, "all"),
+    )
+}
+
+/// In which form those of `replay` ask for a run.
+pub fn replay_form_asked(asked: &ArgMatches) -> gtp_replay::Form
+    ensures { result ≡ replay_form_of (first_value (found_of asked.now)) }
+{
+    replay_form(
+        is_set(asked, "json"),
+        is_set(asked, "pcap"),
+        is_set(asked, "svg"),
+        is_set(asked, "diagram"),
+    )
+}
+
+/// What the arguments of `capture` ask for: `BadFilter` and `BadPort` for words that say nothing of their kind.
+pub fn capture_asked(asked: &ArgMatches) -> Result<CaptureAsked, Failure>
+    ensures asked { IfOk result (IsCaptureAsked (first_value (found_of asked.now))) }
+{
+    let filter = Filter {
+        kinds: kinds_of(asked.get_str("type"))?,
+        imsi: imsi_of(asked.get_str("imsi"))?,
+        teid: teid_of(asked.get_str("teid"))?,
+        address: address_of(asked.get_str("address"))?,
+    };
+    let ports = Ports {
+        control: port_of(asked.get_str("control-port"))?,
+        user: port_of(asked.get_str("user-port"))?,
+    };
+    let frames = FramesAsked {
+        form: capture_form_asked(asked),
+        filter,
+        only_faults: is_set(asked, "faults"),
+    };
+    Ok(CaptureAsked { frames, ports })
+}
+
+/// The port of a word, where there is one: `BadPort` for what is no number from 0 to 65,535.
+fn port_of(word: Option<&str>) -> Result<Option<u16>, Failure>
+    ensures none { word.entry ≡ None → result ≡ Ok None }
+    ensures some { IfSome word.entry (λ w. IfOk result (λ port.
+        port ≡ Some (digits_value 10 (without_leading_plus w.now)))) }
+    ensures bad { IfErr result (λ failure. failure ≡ Failure.BadPort) }
+    ensures only { OnErr result (IfSome word.entry (λ w.
+        ¬ (IsNumeral 10 (without_leading_plus w.now)
+        × (digits_value 10 (without_leading_plus w.now) < 2 ^ 16)))) }
+{
+    match word {
+        Some(word) => match word.parse::<u16>() {
+            Ok(port) => Ok(Some(port)),
+            Err(_) => Err(Failure::BadPort),
+        },
+        None => Ok(None),
+    }
+}
+
+/// Whether the name, where there is one, is the word.
+fn is_called(name: Option<&str>, word: &str) -> bool
+    ensures yes { result ≡ true → option_map (λ name. name.now) name.entry ≡ Some word.now }
+    ensures no { result ≡ false → option_map (λ name. name.now) name.entry ≢ Some word.now }
+{
+    match name {
+        Some(name) => name == word,
+        None => false,
+    }
+}
+
+/// The type of a message of the control plane that is called so.
+fn control_kind(word: &str) -> Option<u8>
+    ensures { IsKindOf control_name word.now result }
+{
+    for kind in 0..=u8::MAX {
+        if is_called(type_name(kind), word) {
+            return Some(kind);
+        }
+    }
+    None
+}
+
+/// The same of the user plane.
+fn user_kind(word: &str) -> Option<u8>
+    ensures { IsKindOf spec_user_name word.now result }
+{
+    for kind in 0..=u8::MAX {
+        if is_called(user_name(kind), word) {
+            return Some(kind);
+        }
+    }
+    None
+}
+
+/// The types of messages of a number or a name.
+fn kinds_called(word: &str) -> Kinds
+    ensures { AreKinds word.now result }
+{
+    match word.parse::<u8>() {
+        Ok(kind) => Kinds {
+            control: Some(kind),
+            user: Some(kind),
+        },
+        Err(_) => Kinds {
+            control: control_kind(word),
+            user: user_kind(word),
+        },
+    }
+}
+
+/// The types of messages that a word asks for, where there is one: `BadFilter` where no message is called so.
+pub fn kinds_of(word: Option<&str>) -> Result<Option<Kinds>, Failure>
+    ensures none { word.entry ≡ None → result ≡ Ok None }
+    ensures some { IfSome word.entry (λ w. IfOk result (λ kinds. IsSomeAnd kinds (AreKinds w.now))) }
+    ensures bad { IfErr result (λ failure. failure ≡ Failure.BadFilter) }
+    ensures only { OnErr result (IfSome word.entry (λ w. AreKinds w.now no_kinds)) }
+{
+    let Some(word) = word else {
+        return Ok(None);
+    };
+    match kinds_called(word) {
+        Kinds {
+            control: None,
+            user: None,
+        } => Err(Failure::BadFilter),
+        kinds => Ok(Some(kinds)),
+    }
+}
+
+/// The subscriber of a word, where there is one: `BadFilter` for what is not 6 to 15 decimal digits.
+pub fn imsi_of(word: Option<&str>) -> Result<Option<Imsi>, Failure>
+    ensures none { word.entry ≡ None → result ≡ Ok None }
+    ensures some { IfSome word.entry (λ w. IfOk result (λ imsi.
+        IsSomeAnd imsi (λ digits. digits ≡ map value_of_digit w.now))) }
+    ensures bad { IfErr result (λ failure. failure ≡ Failure.BadFilter) }
+    ensures only { OnErr result (IfSome word.entry (λ w. ¬ IsImsiText w.now)) }
+{
+    match word {
+        Some(word) => match Imsi::from_text(word) {
+            Ok(imsi) => Ok(Some(imsi)),
+            Err(_) => Err(Failure::BadFilter),
+        },
+        None => Ok(None),
+    }
+}
+
+/// The TEID of a word, where there is one: `BadFilter` for what is not eight hexadecimal digits.
+pub fn teid_of(word: Option<&str>) -> Result<Option<Teid>, Failure>
+    ensures none { word.entry ≡ None → result ≡ Ok None }
+    ensures some { IfSome word.entry (λ w. IfOk result (λ teid. IsSomeAnd teid (WritesTeid w.now))) }
+    ensures bad { IfErr result (λ failure. failure ≡ Failure.BadFilter) }
+    ensures only { OnErr result (IfSome word.entry (λ w. ¬ IsTeidText w.now)) }
+{
+    match word {
+        Some(word) => match Teid::from_text(word) {
+            Ok(teid) => Ok(Some(teid)),
+            Err(_) => Err(Failure::BadFilter),
+        },
+        None => Ok(None),
+    }
+}
+
+/// The address of a word, where there is one: `BadFilter` for what is neither dotted decimal nor 32 hexadecimal digits.
+fn address_of(word: Option<&str>) -> Result<Option<Ip>, Failure>
+    ensures none { word.entry ≡ None → result ≡ Ok None }
+    ensures some { IfSome word.entry (λ w. IfOk result (λ address. IsSomeAnd address (IsIpText w.now))) }
+    ensures bad { IfErr result (λ failure. failure ≡ Failure.BadFilter) }
+    ensures only { OnErr result (IfSome word.entry (λ w. ¬ SomeIpText w.now)) }
+{
+    match word {
+        Some(word) => match Ip::from_text(word) {
+            Ok(address) => Ok(Some(address)),
+            Err(_) => Err(Failure::BadFilter),
+        },
+        None => Ok(None),
+    }
+}
+
+/// The error for arguments that cannot be read.
+pub fn unread_words(error: io::Error) -> Failure
+    ensures words { error_kind error ≡ ErrorKind.InvalidData → result ≡ Failure.BadWords }
+    ensures memory { error_kind error ≢ ErrorKind.InvalidData → result ≡ Failure.Memory }
+{
+    match error.kind() {
+        ErrorKind::InvalidData => Failure::BadWords,
+        _ => Failure::Memory,
+    }
+}
+
+/// The exit status after help, or what is wrong with the words, was printed.
+pub fn status_printed(printed: io::Result<()>, is_wrong: bool) -> Result<u8, Failure>
+    ensures printed { OnOk printed (result ≡ Ok (if is_wrong then 2 else 0)) }
+    ensures unprinted { OnErr printed (result ≡ Err Failure.Write) }
+{
+    match printed {
+        Ok(()) => Ok(if is_wrong { 2 } else { 0 }),
+        Err(_) => Err(Failure::Write),
+    }
+}

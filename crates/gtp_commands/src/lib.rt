@@ -1,0 +1,19 @@
+//! The commands of the program gtpshow: they decode GTP datagrams, also those of captures, replay scenarios of two gateways, run one
+//! gateway behind lines, and explain the codes that they print.
+#![tactic(auto)]
+
+mod capturing;
+mod command;
+mod dumping;
+mod explaining;
+mod flags;
+mod hinting;
+mod kept;
+mod replaying;
+mod running;
+mod serving;
+mod showing;
+
+pub use command::Failure;
+pub use hinting::hint;
+pub use running::run;
