@@ -1,4 +1,5 @@
-# Installs gtpshow: the program, its manual page, completions for three shells, the pages and the examples; and for C programs
+# Installs gtpshow: the program, its manual page, completions for three shells, the pages, the reference of the public calls, test
+# vectors and the examples; and for C programs
 # the library, the toolchain's functions for memory that it calls, the header and gtp.pc (pkg-config).
 #
 #   make                          proves and builds the program (scripts/prove) and the library (scripts/library), if they are not built
@@ -48,6 +49,9 @@ install: $(program) $(library)
 	$(INSTALL) -m 644 docs/PROTOCOL.md docs/FORMATS.md docs/JSON.md docs/C.md docs/PROVED.md docs/BELIEVE.md docs/CHANGELOG.md docs/SECURITY.md $(pages)
 	sed -i 's|](../include/|](../../../include/|g; s|](../examples/|](examples/|g; s|](../rust/gtp)|](../../gtp/rust)|g' $(pages)/*.md
 	sed -i -E 's/\[([^]]*)\]\(($(left_out))[^)]*\)/\1/g' $(pages)/*.md
+	scripts/reference $(pages)/reference.html > /dev/null
+	scripts/vectors $(pages)/vectors > /dev/null
+	cd $(pages)/vectors && sha256sum control.jsonl user.jsonl > SHA256SUMS
 	cp -R examples/scenarios examples/captures examples/datagrams examples/bridge examples/c examples/rust $(pages)/examples
 	rm -rf $(pages)/examples/rust/target
 	sed -i 's|"../../rust/gtp"|"../../../../gtp/rust"|' $(pages)/examples/rust/Cargo.toml

@@ -25,6 +25,7 @@ pub struct Counted<T> {
 }
 
 impl<T> Counted<T> {
+    /// An object of which no call has failed yet.
     pub fn new(inner: T) -> Counted<T>
         ensures inner { inner_of result ≡ inner }
         ensures failures { failures_of result ≡ 0 }
