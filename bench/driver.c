@@ -35,6 +35,7 @@ uint64_t gtp_bench_change_newest(uint32_t sessions, uint32_t times);
 uint64_t gtp_bench_change_oldest(uint32_t sessions, uint32_t times);
 uint64_t gtp_bench_find_bearer(uint32_t sessions, uint32_t times);
 uint64_t gtp_bench_change_bearer(uint32_t sessions, uint32_t times);
+uint64_t gtp_bench_tables(uint32_t call, uint32_t sessions, uint32_t times);
 uint64_t gtp_bench_look_up(uint32_t held, uint32_t times);
 uint64_t gtp_bench_tick(uint32_t held, uint32_t times);
 uint32_t gtp_bench_comparisons(uint32_t held);
@@ -444,6 +445,44 @@ static void measure_tables(int turns)
     printf("count|most comparisons of a look-up|10|4096|%u|%u\n", gtp_bench_comparisons(10), gtp_bench_comparisons(4096));
 }
 
+/* The time of one of so many calls of the tables, without that of making them: the least of so many turns, and of 100 times as many
+ * for few sessions. */
+static double time_tables(uint32_t call, uint32_t sessions, uint32_t times, int turns)
+{
+    double all = 1e18, none = 1e18;
+    for (int t = 0; t < (sessions > 1000 ? turns : 100 * turns); t++) {
+        double start = now();
+        sink += gtp_bench_tables(call, sessions, 0);
+        double between = now();
+        sink += gtp_bench_tables(call, sessions, times);
+        none = least(none, between - start);
+        all = least(all, now() - between);
+    }
+    return (all - none) / times;
+}
+
+/* Each call of the tables by how many sessions there are: the first so many of 10, 1,000, 100,000 and 1,000,000. */
+static void print_tables(int sizes, int turns)
+{
+    static const uint32_t sessions[] = { 10, 1000, 100000, 1000000 };
+    static const struct { const char *name; uint32_t call, times[4]; } rows[] = {
+        { "get a bearer", 0, { 20000, 20000, 1000000, 4000000 } },
+        { "find a bearer by the peer's TEID", 1, { 20000, 20000, 1000000, 1000000 } },
+        { "find a bearer by session and identity", 2, { 20000, 20000, 1000000, 1000000 } },
+        { "find the lowest free address", 3, { 20000, 2000, 50, 50 } },
+        { "close the bearers of a session", 4, { 20000, 20000, 200000, 1000000 } },
+        { "remove the bearers of a session", 5, { 10, 500, 20000, 20000 } },
+        { "remove a session", 6, { 10, 500, 20000, 20000 } },
+    };
+    printf("\n%-46s", "tables: nanoseconds, by sessions");
+    for (int k = 0; k < sizes; k++) printf("%10u", sessions[k]);
+    for (size_t row = 0; row < sizeof rows / sizeof *rows; row++) {
+        printf("\n%-46s", rows[row].name);
+        for (int k = 0; k < sizes; k++) printf("%10.0f", time_tables(rows[row].call, sessions[k], rows[row].times[k], turns));
+    }
+    printf("\n");
+}
+
 /* What a gateway receives, so many times, once it has so many sessions. */
 static uint64_t make_sessions(uint32_t sessions, uint32_t times)
 {
@@ -655,6 +694,10 @@ static void measure_gateways(int turns)
 
 int main(int count, char **words)
 {
+    if (count == 4) {
+        print_tables(atoi(words[2]), atoi(words[3]));
+        return sink == 1;
+    }
     if (count == 3) return gtp_bench_run((uint32_t)atoi(words[2]), strcmp(words[1], "run") == 0) == 1;
     if (count != 2 + DATAGRAMS) stop("driver TURNS HEX..");
     int turns = atoi(words[1]);
