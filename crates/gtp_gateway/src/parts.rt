@@ -41,12 +41,16 @@ impl Parts {
         ensures { IfOk result (λ g. state_of g ≡ starting role config.now counter.0) }
     {
         let timers = config.timers();
+        let sessions = match role {
+            Role::Serving => Sessions::new(alloc),
+            Role::Packet => { Sessions::with_pools(alloc, &config.pools()).map_err(|_| Memory)? }
+        };
         Ok(Parts {
             role,
             config: config.copy(alloc)?,
             draws: Draws::new(counter),
             peer: Peer::new(),
-            sessions: Sessions::new(alloc),
+            sessions,
             bearers: Bearers::new(alloc),
             pending: Pending::new(alloc, timers.t3, timers.n3),
             held: Held::new(alloc, timers.hold),

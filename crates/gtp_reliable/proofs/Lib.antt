@@ -5,7 +5,10 @@ pub mod Order
 pub mod Halving
 pub mod Index
 pub mod Aging
-pub mod Purposes
 pub mod Pairs
 pub mod OnTime
 pub mod Told
+pub mod Slots
+pub mod Ages
+pub mod Ticked
+pub mod Dues

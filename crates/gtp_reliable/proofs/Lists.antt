@@ -1,9 +1,9 @@
--- Lists of which a tick keeps some, and loops over them.
-use Rattle.std.proofs.Common.{◌≡◌, ℕ, zero, suc, ◌+◌, ◌<◌, ◌≤◌, Bool, true, false, cond, List, [], ◌∷◌, ◌++◌, length, map, take, get_or, add-one, Option, Some, None, refl, sym, ap, subst, ◌∙◌, arith}
-use Rattle.std.specs.Prelude.{filter, is_some, unwrap_or}
+-- Lists of which a tick keeps some, loops over them, and tests of their elements.
+use Rattle.std.proofs.Common.{◌≡◌, ℕ, zero, suc, ◌+◌, ◌<◌, ◌≤◌, Bool, true, false, cond, List, [], ◌∷◌, ◌++◌, length, map, take, get_or, add-one, Option, Some, None, refl, sym, ap, ◌∙◌, arith}
+use Rattle.std.specs.Prelude.{◌==◌, filter, is_some, unwrap_or}
 use Rattle.std.specs.List.{filter_map, cons_option}
-use Rattle.std.specs.List.Retain.{RetainsInTurn}
 use Rattle.std.proofs.lemmas.List.{append-nil}
+use Rattle.std.proofs.lemmas.Bool.Decides.{nat_tests}
 
 -- ---- what stays, and what becomes of it
 
@@ -25,7 +25,7 @@ fewer_filter p (x ∷ xs) = fewer_cons x (filter p xs) (p x) (length xs) (fewer_
 
 -- ---- a loop that gathers
 
-cons_append : {Y : Type 0} (o : Option Y) (xs ys : List Y) → cons_option o xs ++ ys ≡ cons_option o (xs ++ ys)
+pub cons_append : {Y : Type 0} (o : Option Y) (xs ys : List Y) → cons_option o xs ++ ys ≡ cons_option o (xs ++ ys)
 cons_append None xs ys = refl
 cons_append (Some y) xs ys = refl
 
@@ -45,16 +45,14 @@ pub none_of : {X : Type 0} (o : Option X) → is_some o ≡ false → o ≡ None
 none_of None h = refl
 none_of (Some x) h = absurd cc
 
--- ---- a tick over all
+-- ---- two tests
 
-kept_by : {X : Type 0} (o : Option X) (x y : X) (b : Bool) (zs : List X) → b ≡ is_some o → y ≡ unwrap_or o x → cond b (y ∷ zs) zs ≡ cons_option o zs
-kept_by (Some v) x y b zs e f = rw (e, f) refl
-kept_by None x y b zs e f = rw e refl
+-- of two numbers that differ one is another number
+pub not_both : (x y n : ℕ) → (x == y) ≡ false → (x == n) ≡ true → (y == n) ≡ true → ⊥
+not_both x y n d a b = grind (arith, nat_tests)
 
--- what a tick keeps and moves, element by element
-pub retained : {S X : Type 0} (R : S → X → Bool → S → X → Type 0) (h : X → Option X) (s : S) → ((x : X) (b : Bool) (t : S) (y : X) → R s x b t y → (b ≡ is_some (h x)) × (y ≡ unwrap_or (h x) x) × (t ≡ s))
-    → (xs ys : List X) → RetainsInTurn R s xs ys → ys ≡ filter_map h xs
-retained R h s step [] ys r = r
-retained R h s step (x ∷ xs) ys (b, t, y, call, zs, rest, is) =
-    let k = step x b t y call in
-    is ∙ (ap (λ (l : List _). cond b (y ∷ l) l) (retained R h s step xs zs (subst (λ (u : _). RetainsInTurn R u xs zs) k.2 rest)) ∙ kept_by (h x) x y b (filter_map h xs) k.0 k.1)
+-- two tests that do not hold together may be made in either order
+pub either_order : {X : Type 0} (x : X) (y o q : Option X) (a b : Bool) → (a ≡ true → b ≡ true → ⊥) → o ≡ cond b y q → cond a (Some x) o ≡ cond b y (cond a (Some x) q)
+either_order x y o q true true unlike h = absurd (unlike refl refl)
+either_order x y o q true false unlike h = refl
+either_order x y o q false b unlike h = h

@@ -1,19 +1,16 @@
 -- Requests after a change: they stay distinct, and a tick keeps and moves them.
-use Rattle.std.proofs.Common.{◌≡◌, ◌≢◌, not, ℕ, ◌+◌, ◌<◌, ◌≤◌, Bool, true, false, cond, List, [], ◌∷◌, ◌++◌, length, map, take, get_or, None, refl, sym, ap, subst, ◌∙◌, arith}
+use Rattle.std.proofs.Common.{◌≡◌, not, ℕ, ◌+◌, ◌<◌, ◌≤◌, Bool, true, false, cond, List, [], ◌∷◌, ◌++◌, length, map, Option, None, Some, refl, sym, ap, subst, ◌∙◌, arith}
 use Rattle.std.specs.Prelude.{◌==◌, ◌||◌, filter, is_some, unwrap_or, nat_lt}
 use Rattle.std.specs.List.{list_any, filter_map}
-use Rattle.std.proofs.lemmas.Bool.Decides.{nat_tests}
-use Rattle.std.proofs.lemmas.List.{map_push, length-map}
-use Rattle.gtp_values.specs.declared.address.Endpoint.{Endpoint}
 use Rattle.std.proofs.lemmas.Bool.{or_parts}
-use Rattle.gtp_reliable.specs.declared.pending.Resend.{Resend}
+use Rattle.std.proofs.lemmas.Bool.Decides.{nat_tests}
+use Rattle.std.proofs.lemmas.List.{length-map}
 use Rattle.gtp_reliable.specs.declared.waiting.NextTick.{NextTick}
 use Rattle.gtp_reliable.specs.declared.waiting.NextTick.TheVariants.{WaitsOn, SentAgain, GivenUp}
-use Rattle.gtp_reliable.specs.Waiting.{Waiting, Message, next_tick, after_tick_by, after_tick, sent_again_by, sent_again, given_up_by, given_up}
-use Rattle.gtp_reliable.specs.Pending.{is_pending, others, AreDistinct}
-use Rattle.gtp_reliable.specs.Due.{message_of}
-use Rattle.gtp_values.proofs.Tests.{turned}
-use Rattle.gtp_reliable.proofs.Lists.{filter_map_some, filter_map_none, stay_and_pass, fewer_filter}
+use Rattle.gtp_reliable.specs.Waiting.{Waiting, next_tick, after_tick_by, after_tick, sent_again_by, sent_again, given_up_by, given_up}
+use Rattle.gtp_reliable.specs.Pending.{is_pending, purpose_of, others, AreDistinct}
+use Rattle.gtp_values.proofs.Tests.{turned, same_number}
+use Rattle.gtp_reliable.proofs.Lists.{stay_and_pass, fewer_filter}
 
 -- ---- one more
 
@@ -88,52 +85,14 @@ pub ticked_distinct : {P : Type 0} (t3 n3 : ℕ) (ws : List (Waiting P)) → Are
 ticked_distinct t3 n3 ws d =
     subst AreDistinct (stay_and_pass (after_tick t3 n3) ws) (distinct_map (passed t3 n3) (filter (stays t3 n3) ws) (passed_seq t3 n3) (distinct_filter (stays t3 n3) ws d))
 
--- ---- messages
-
-abbrev message : ℕ → Endpoint → List ℕ → Message
-message seq to octets = record { seq = seq; to = to; octets = octets }
-
-same_message : (s t : ℕ) (a b : Endpoint) (x y : List ℕ) → s ≡ t → a ≡ b → x ≡ y → message s a x ≡ message t b y
-same_message s t a b x y e f g = ap (λ n. message n a x) e ∙ (ap (λ n. message t n x) f ∙ ap (message t b) g)
-
 -- ---- what is due
 
 -- what a request gives, by what the tick does with it
-sent_again_is : {P : Type 0} (t3 n3 : ℕ) (w : Waiting P) (n : NextTick) → n ≡ next_tick t3 n3 w → sent_again t3 n3 w ≡ sent_again_by n w
-sent_again_is t3 n3 w n e = ap (λ (m : NextTick). sent_again_by m w) (sym e)
+pub resend_by : {P : Type 0} (t3 n3 : ℕ) (w : Waiting P) (n : NextTick) → n ≡ next_tick t3 n3 w → sent_again t3 n3 w ≡ sent_again_by n w
+resend_by t3 n3 w n e = ap (λ (m : NextTick). sent_again_by m w) (sym e)
 
-given_up_is : {P : Type 0} (t3 n3 : ℕ) (w : Waiting P) (n : NextTick) → n ≡ next_tick t3 n3 w → given_up t3 n3 w ≡ given_up_by n w
-given_up_is t3 n3 w n e = ap (λ (m : NextTick). given_up_by m w) (sym e)
-
--- one more that is sent again
-pub resend_more : {P : Type 0} (t3 n3 : ℕ) (ws : List (Waiting P)) (i : ℕ) (w : Waiting P) (so_far now : List Resend) (r : Resend) → map message_of so_far ≡ filter_map (sent_again t3 n3) (take i ws) → i < length ws → w ≡ get_or ws i w → SentAgain ≡ next_tick t3 n3 w
-    → now ≡ so_far ++ r ∷ [] → r.seq ≡ w.seq → r.to ≡ w.to → r.octets.items ≡ w.octets → map message_of now ≡ filter_map (sent_again t3 n3) (take (i + 1) ws)
-resend_more t3 n3 ws i w so_far now r before lt is again pushed s t o =
-    ap (map message_of) pushed
-    ∙ (map_push message_of so_far r
-    ∙ (ap (λ (ms : List Message). ms ++ message_of r ∷ []) before
-    ∙ (ap (λ (m : Message). filter_map (sent_again t3 n3) (take i ws) ++ m ∷ []) (same_message r.seq w.seq r.to w.to r.octets.items w.octets s t o)
-    ∙ sym (filter_map_some (sent_again t3 n3) ws i w (message w.seq w.to w.octets) lt (ap (sent_again t3 n3) (sym is) ∙ sent_again_is t3 n3 w SentAgain again)))))
-
--- one that is not
-pub resend_none : {P : Type 0} (t3 n3 : ℕ) (ws : List (Waiting P)) (i : ℕ) (w : Waiting P) (n : NextTick) (so_far now : List Resend) → now ≡ so_far → map message_of so_far ≡ filter_map (sent_again t3 n3) (take i ws) → i < length ws → w ≡ get_or ws i w → n ≡ next_tick t3 n3 w → sent_again_by n w ≡ None
-    → map message_of now ≡ filter_map (sent_again t3 n3) (take (i + 1) ws)
-resend_none t3 n3 ws i w n so_far now same before lt is by none = ap (map message_of) same ∙ (before ∙ sym (filter_map_none (sent_again t3 n3) ws i w lt (ap (sent_again t3 n3) (sym is) ∙ (sent_again_is t3 n3 w n by ∙ none))))
-
--- one more that is given up
-pub given_more : {P : Type 0} (t3 n3 : ℕ) (ws : List (Waiting P)) (i : ℕ) (w : Waiting P) (so_far now : List (ℕ × P)) (seq : ℕ) (purpose : P) → so_far ≡ filter_map (given_up t3 n3) (take i ws) → i < length ws → w ≡ get_or ws i w → GivenUp ≡ next_tick t3 n3 w
-    → now ≡ so_far ++ (seq, purpose) ∷ [] → seq ≡ w.seq → purpose ≡ w.purpose → now ≡ filter_map (given_up t3 n3) (take (i + 1) ws)
-given_more {P} t3 n3 ws i w so_far now seq purpose before lt is over pushed s p =
-    pushed
-    ∙ (ap (λ (ms : List (ℕ × P)). ms ++ (seq, purpose) ∷ []) before
-    ∙ (ap (λ (n : ℕ). filter_map (given_up t3 n3) (take i ws) ++ (n, purpose) ∷ []) s
-    ∙ (ap (λ (q : P). filter_map (given_up t3 n3) (take i ws) ++ (w.seq, q) ∷ []) p
-    ∙ sym (filter_map_some (given_up t3 n3) ws i w (w.seq, w.purpose) lt (ap (given_up t3 n3) (sym is) ∙ given_up_is t3 n3 w GivenUp over)))))
-
--- one that is not
-pub given_none : {P : Type 0} (t3 n3 : ℕ) (ws : List (Waiting P)) (i : ℕ) (w : Waiting P) (n : NextTick) (so_far now : List (ℕ × P)) → now ≡ so_far → so_far ≡ filter_map (given_up t3 n3) (take i ws) → i < length ws → w ≡ get_or ws i w → n ≡ next_tick t3 n3 w → given_up_by n w ≡ None
-    → now ≡ filter_map (given_up t3 n3) (take (i + 1) ws)
-given_none t3 n3 ws i w n so_far now same before lt is by none = same ∙ (before ∙ sym (filter_map_none (given_up t3 n3) ws i w lt (ap (given_up t3 n3) (sym is) ∙ (given_up_is t3 n3 w n by ∙ none))))
+pub given_by : {P : Type 0} (t3 n3 : ℕ) (w : Waiting P) (n : NextTick) → n ≡ next_tick t3 n3 w → given_up t3 n3 w ≡ given_up_by n w
+given_by t3 n3 w n e = ap (λ (m : NextTick). given_up_by m w) (sym e)
 
 -- where fewer than t3 ticks will have passed, the request waits on
 pub waits : {P : Type 0} (t3 n3 : ℕ) (w : Waiting P) → w.waited + 1 < t3 → next_tick t3 n3 w ≡ WaitsOn
@@ -141,24 +100,30 @@ waits t3 n3 w q = let before : nat_lt (w.waited + 1) t3 ≡ true = grind (arith,
 
 -- ---- the requests whose purpose does not meet a test
 
-pub none_other : {P : Type 0} (meets : P → Bool) (n : ℕ) → is_pending n (others meets []) ≡ false
-unfolding is_pending
-none_other meets n = refl
+-- whether there is one of a number, by its purpose
+abbrev pub stays_by : {P : Type 0} → (P → Bool) → Option P → Bool
+stays_by meets None = false
+stays_by meets (Some p) = not (meets p)
 
-pub other_first : {P : Type 0} (meets : P → Bool) (n : ℕ) (w : Waiting P) (ws : List (Waiting P)) → w.seq ≡ n → meets w.purpose ≡ false → is_pending n (others meets (w ∷ ws)) ≡ true
+pub pending_cons : {P : Type 0} (n : ℕ) (v : Waiting P) (vs : List (Waiting P)) → is_pending n (v ∷ vs) ≡ ((v.seq == n) || is_pending n vs)
 unfolding is_pending
-other_first meets n w ws same stays =
-    ap (λ (b : Bool). list_any (λ v. v.seq == n) (cond (not b) (w ∷ others meets ws) (others meets ws))) stays
-    ∙ ap (λ (b : Bool). b || list_any (λ v. v.seq == n) (others meets ws)) (let it : (w.seq == n) ≡ true = grind (arith, nat_tests) in it)
+pending_cons n v vs = refl
 
-pub other_number : {P : Type 0} (meets : P → Bool) (n : ℕ) (w : Waiting P) (ws : List (Waiting P)) → w.seq ≢ n → is_pending n (others meets (w ∷ ws)) ≡ is_pending n (others meets ws)
-unfolding is_pending
-other_number {P} meets n w ws apart = by (meets w.purpose)
+pub other_pending : {P : Type 0} (meets : P → Bool) (n : ℕ) (ws : List (Waiting P)) → AreDistinct ws → is_pending n (others meets ws) ≡ stays_by meets (purpose_of n ws)
+unfolding is_pending purpose_of
+other_pending meets n [] d = refl
+other_pending {P} meets n (w ∷ ws) d = by (w.seq == n) (meets w.purpose) refl (other_pending meets n ws d.1) ∙ sym (stays_cons (w.seq == n))
   where
-    by : (b : Bool) → list_any (λ (v : Waiting P). v.seq == n) (cond (not b) (w ∷ others meets ws) (others meets ws)) ≡ list_any (λ (v : Waiting P). v.seq == n) (others meets ws)
-    by true = refl
-    by false = ap (λ (b : Bool). b || list_any (λ (v : Waiting P). v.seq == n) (others meets ws)) (let it : (w.seq == n) ≡ false = grind (arith, nat_tests) in it)
+    stays_cons : (a : Bool) → stays_by meets (cond a (Some w.purpose) (purpose_of n ws)) ≡ cond a (not (meets w.purpose)) (stays_by meets (purpose_of n ws))
+    stays_cons true = refl
+    stays_cons false = refl
 
-pub other_gone : {P : Type 0} (meets : P → Bool) (n : ℕ) (w : Waiting P) (ws : List (Waiting P)) → meets w.purpose ≡ true → is_pending n (others meets (w ∷ ws)) ≡ is_pending n (others meets ws)
-unfolding is_pending
-other_gone meets n w ws gone = ap (λ (b : Bool). list_any (λ v. v.seq == n) (cond (not b) (w ∷ others meets ws) (others meets ws))) gone
+    gone : (w.seq == n) ≡ true → is_pending n (others meets ws) ≡ false
+    gone e = none_filter n (λ (v : Waiting P). not (meets v.purpose)) ws (ap (λ (m : ℕ). is_pending m ws) (sym (same_number w.seq n e)) ∙ d.0)
+
+    by : (a b : Bool) → (w.seq == n) ≡ a → is_pending n (others meets ws) ≡ stays_by meets (purpose_of n ws)
+        → is_pending n (cond (not b) (w ∷ others meets ws) (others meets ws)) ≡ cond a (not b) (stays_by meets (purpose_of n ws))
+    by true true e h = gone e
+    by false true e h = h
+    by true false e h = pending_cons n w (others meets ws) ∙ ap (λ (b : Bool). b || is_pending n (others meets ws)) e
+    by false false e h = pending_cons n w (others meets ws) ∙ (ap (λ (b : Bool). b || is_pending n (others meets ws)) e ∙ h)

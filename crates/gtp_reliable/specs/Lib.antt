@@ -7,4 +7,5 @@ pub mod Ticks
 pub mod Order
 pub mod Index
 pub mod Aging
-pub mod Purposes
+pub mod Rows
+pub mod Ages

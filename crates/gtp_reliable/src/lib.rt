@@ -9,6 +9,7 @@ mod numbered;
 mod pair;
 mod pending;
 mod queue;
+mod rows;
 mod waiting;
 
 pub use fault::ReliableFault;

@@ -1,41 +1,47 @@
-//! An index of pending requests: each number with what its request is for, in order of number.
+//! The slots of pending requests by their numbers.
 
-ghost use Rattle.std.specs.Prelude.{◌≡◌, ◌<◌, ◌==◌, not, filter, IfOk, IfErr, None, Some};
-ghost use Rattle.std.specs.Prelude.{vec_len, vec_capacity, if◌then◌else◌};
-ghost use Rattle.gtp_reliable.specs.Purposes.{look, AreRising, HasNumber, IsPlace};
+ghost use Rattle.std.specs.Prelude.{◌≡◌, ℕ, ◌+◌, ◌<◌, ◌≤◌, None, Some, IsSome, cond, nat_eq};
+ghost use Rattle.std.specs.Prelude.{length, is_some, if◌then◌else◌};
+ghost use Rattle.std.specs.Map.{lookup};
+ghost use Rattle.indexmap.specs.IndexMap.{spare};
 
-/// Where a number stands, or where it would stand, by halving.
-pub fn find_number<P: Copy>(index: &[(u32, P)], number: u32) -> Result<usize, usize>
-    requires { AreRising index.now }
-    ensures found { IfOk result (HasNumber index.now number) }
-    ensures absent { IfErr result (IsPlace index.now number) }
-{
-    index.binary_search_by_key(&number, |entry| entry.0)
-}
+use indexmap::IndexMap;
 
 /// Puts in a number that is not there, in the room that there is.
-pub fn put_in<P: Copy>(index: &mut Vec<(u32, P)>, number: u32, purpose: P)
-    requires room { vec_len index.old < vec_capacity index.old }
-    requires rising { AreRising index.old.items }
-    requires free { look number index.old.items ≡ None }
-    ensures rising { AreRising index.new.items }
-    ensures look { (n : _) → look n index.new.items
-        ≡ (if number == n then Some purpose else look n index.old.items) }
+pub fn put_in(names: &mut IndexMap<u32, u64>, number: u32, slot: u64)
+    requires room { 0 < spare names.old }
+    requires free { lookup (nat_eq number) names.old.entries ≡ None }
+    ensures names { (n : ℕ) → lookup (nat_eq n) names.new.entries
+        ≡ cond (nat_eq number n) (Some slot) (lookup (nat_eq n) names.old.entries) }
+    ensures count { length names.new.entries ≡ length names.old.entries + 1 }
 {
-    let Err(at) = find_number(index.as_slice(), number) else {
-        unreachable!()
-    };
-    if index.insert(at, (number, purpose)).is_err() {
+    if names.insert(number, slot).is_err() {
         unreachable!()
     }
 }
 
-/// Takes out a number, where it is there.
-pub fn take_out<P: Copy>(index: &mut Vec<(u32, P)>, number: u32)
-    requires { AreRising index.old.items }
-    ensures { index.new.items ≡ filter (λ e. not (e.0 == number)) index.old.items }
+/// Names another slot by a number that is there.
+pub fn move_to(names: &mut IndexMap<u32, u64>, number: u32, slot: u64)
+    requires stands { IsSome (lookup (nat_eq number) names.old.entries) }
+    ensures names { (n : ℕ) → lookup (nat_eq n) names.new.entries
+        ≡ cond (nat_eq number n) (Some slot) (lookup (nat_eq n) names.old.entries) }
+    ensures count { length names.new.entries ≡ length names.old.entries }
+    ensures room { spare names.new ≡ spare names.old }
 {
-    if let Ok(at) = find_number(index.as_slice(), number) {
-        index.remove(at);
+    match names.get_mut(&number) {
+        Some(there) => *there = slot,
+        None => unreachable!(),
     }
+}
+
+/// Takes a number out, where it is there: the slot that it named.
+pub fn take_out(names: &mut IndexMap<u32, u64>, number: u32) -> Option<u64>
+    ensures slot { result ≡ lookup (nat_eq number) names.old.entries }
+    ensures names { (n : ℕ) → lookup (nat_eq n) names.new.entries
+        ≡ cond (nat_eq number n) None (lookup (nat_eq n) names.old.entries) }
+    ensures count { length names.new.entries + (if is_some result then 1 else 0)
+        ≡ length names.old.entries }
+    ensures room { spare names.old ≤ spare names.new }
+{
+    names.swap_remove(&number)
 }

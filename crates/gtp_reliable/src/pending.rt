@@ -1,21 +1,19 @@
 //! Requests that wait for their answers.
 
-ghost use Rattle.std.specs.Prelude.{◌≡◌, ◌<◌, ◌≤◌, ◌↔◌, ◌⊎◌, [], ◌∷◌, ◌++◌, ◌+◌, ◌==◌};
-ghost use Rattle.std.specs.Prelude.{Bool, All, true, false, not, length, filter, map, option_map};
+ghost use Rattle.std.specs.Prelude.{◌≡◌, ◌<◌, ◌≤◌, ◌↔◌, ◌⊎◌, [], ◌∷◌, ◌++◌, ◌==◌};
+ghost use Rattle.std.specs.Prelude.{Bool, true, false, not, length, filter, map, option_map};
 ghost use Rattle.std.specs.Prelude.{IsTrue, IsOk, OnOk, OnErr, IfOk, IfErr, IfSome, IfNone, Err};
-ghost use Rattle.std.specs.Prelude.{vec_len, vec_capacity};
 ghost use Rattle.std.specs.Fn.{FnReturnsAt};
 ghost use Rattle.std.specs.List.{filter_map};
-ghost use Rattle.gtp_reliable.specs.Waiting.{just_sent, after_tick, sent_again, given_up};
+ghost use Rattle.gtp_reliable.specs.Waiting.{just_sent, after_tick};
 ghost use Rattle.gtp_reliable.specs.Pending.{numbers, number_after, is_pending, IsNextFree};
 ghost use Rattle.gtp_reliable.specs.Pending.{purpose_of, others, IsPrepared, AreLimits, SameTimes};
 ghost use Rattle.gtp_reliable.specs.Pending.{AreRequests, IsQuiet, resends, given_ups};
 ghost use Rattle.gtp_reliable.specs.Due.{message_of};
-ghost use Rattle.gtp_reliable.specs.Purposes.{AreRising, is_given_up};
 
 use crate::fault::ReliableFault;
-use crate::numbered::{find_number, put_in, take_out};
-use crate::waiting::{NextTick, Waiting, meets};
+use crate::rows::Rows;
+use crate::waiting::Row;
 use gtp_values::{Endpoint, Seq};
 use std::alloc::{AllocError, Global};
 use std::marker::Model;
@@ -46,7 +44,7 @@ pub struct Due<P: Copy> {
 /// Requests that wait for their answers (TS 29.274 7.6), oldest first, each with a purpose. A request waits `t3` ticks
 /// (T3-RESPONSE); then it is sent again, at most `n3` times (N3-REQUESTS), and then given up. Sequence numbers rise by
 /// one, from 0 or a number that is set, to 8,388,607, and then from 0 again; a number that is pending is skipped. At
-/// most 256 requests are pending. A number is found in an index by halving; a tick visits all requests.
+/// most 256 requests are pending. A request is found by its number in a map, and a tick visits what is due.
 #[derive(Debug, Drop)]
 pub struct Pending<P: Copy> {
     alloc: Global,
@@ -54,16 +52,17 @@ pub struct Pending<P: Copy> {
     n3: u32,
     /// The number from which the next free one is sought.
     next: u32,
-    /// In order of beginning.
-    waiting: Vec<Waiting<P>>,
-    /// Their numbers, in order, each with what its request is for.
-    purposes: Vec<(u32, P)>,
+    /// The ticks that have passed, modulo 2^32.
+    ticks: u32,
+    /// In order of the last sending, so that what is due stands in front.
+    rows: Rows<P>,
 }
 
 impl<P: Copy> Model for Pending<P> {
-    ghost use Rattle.std.specs.Prelude.{nat_lt, ◌&&◌, vec_len, vec_capacity};
+    ghost use Rattle.std.specs.Prelude.{map};
     ghost use Rattle.gtp_reliable.specs.Pending.{Requests, AreRequests};
-    ghost use Rattle.gtp_reliable.specs.Purposes.{IsNumbered};
+    ghost use Rattle.gtp_reliable.specs.Rows.{seen};
+    ghost use Rattle.gtp_reliable.specs.Ages.{by_age, AreInTurn};
 
     ghost Value = { Requests P };
 
@@ -72,9 +71,8 @@ impl<P: Copy> Model for Pending<P> {
           t3 = a.t3;
           n3 = a.n3;
           next = a.next;
-          waiting = a.waiting.items;
-          has_room = nat_lt (vec_len a.waiting) (vec_capacity a.waiting)
-              && nat_lt (vec_len a.purposes) (vec_capacity a.purposes);
+          waiting = by_age (map (seen a.ticks) a.rows.rows);
+          has_room = a.rows.has_room;
         } };
 
     ghost invariant = { λ a.
@@ -82,11 +80,10 @@ impl<P: Copy> Model for Pending<P> {
           t3 = a.t3;
           n3 = a.n3;
           next = a.next;
-          waiting = a.waiting.items;
-          has_room = nat_lt (vec_len a.waiting) (vec_capacity a.waiting)
-              && nat_lt (vec_len a.purposes) (vec_capacity a.purposes);
+          waiting = by_age (map (seen a.ticks) a.rows.rows);
+          has_room = a.rows.has_room;
         })
-        × IsNumbered a.purposes.items a.waiting.items };
+        × AreInTurn a.t3 (map (seen a.ticks) a.rows.rows) };
 }
 
 /// The number after a number.
@@ -95,125 +92,6 @@ fn following(number: u32) -> u32
     ensures { result ≡ number_after number }
 {
     if number == LAST { 0 } else { number + 1 }
-}
-
-/// What the next tick does. Allocates nothing if that is nothing.
-fn due_of<P: Copy>(
-    alloc: Global,
-    waiting: &[Waiting<P>],
-    t3: u32,
-    n3: u32,
-) -> Result<Due<P>, AllocError>
-    requires { 1 ≤ t3 }
-    ensures resend { IfOk result (λ due.
-        map message_of due.resend.items ≡ filter_map (sent_again t3 n3) waiting.now) }
-    ensures gave_up { IfOk result (λ due.
-        due.gave_up.items ≡ filter_map (given_up t3 n3) waiting.now) }
-    ensures quiet { All (λ w. w.waited + 1 < t3) waiting.now → IsOk result }
-{
-    let mut resend = Vec::new(alloc);
-    let mut gave_up = Vec::new(alloc);
-    for w in waiting {
-        match w.next_tick(t3, n3) {
-            NextTick::WaitsOn => {}
-            NextTick::SentAgain => resend.push(Resend {
-                seq: w.seq(),
-                to: w.to(),
-                octets: Vec::from_slice(alloc, w.octets())?,
-            })?,
-            NextTick::GivenUp => gave_up.push((w.seq(), *w.purpose()))?,
-        }
-    }
-    Ok(Due { resend, gave_up })
-}
-
-/// A tick passes: drops the requests that it gives up.
-fn tick_all<P: Copy>(waiting: &mut Vec<Waiting<P>>, t3: u32, n3: u32)
-    requires { 1 ≤ t3 }
-    ensures { waiting.new.items ≡ filter_map (after_tick t3 n3) waiting.old.items }
-{
-    waiting.retain_mut(|w| w.tick(t3, n3));
-}
-
-/// Takes the numbers out of the index that the next tick gives up.
-fn take_out_given_up<P: Copy>(
-    purposes: &mut Vec<(u32, P)>,
-    waiting: &[Waiting<P>],
-    t3: u32,
-    n3: u32,
-)
-    requires times { 1 ≤ t3 }
-    requires rising { AreRising purposes.old.items }
-    ensures { purposes.new.items
-        ≡ filter (λ e. not (is_given_up t3 n3 e.0 waiting.now)) purposes.old.items }
-{
-    for w in waiting {
-        if w.gives_up(t3, n3) {
-            take_out(purposes, w.seq().number());
-        }
-    }
-}
-
-/// Drops the request of this number.
-fn drop_number<P: Copy>(waiting: &mut Vec<Waiting<P>>, number: u32)
-    ensures { waiting.new.items ≡ filter (λ w. not (w.seq == number)) waiting.old.items }
-{
-    waiting.retain(|w| w.seq().number() != number);
-}
-
-/// How many requests have a purpose that does not meet the test.
-fn count_others<P: Copy, F: Fn(&P) -> bool>(waiting: &[Waiting<P>], test: &F) -> usize
-    ghost meets: { P → Bool }
-    requires callable { F.IsAlwaysCallable test.now }
-    requires answers { (p : P) (b : Bool) → FnReturnsAt F.Fn test.now p b → b ≡ meets p }
-    ensures { result ≡ length (others meets waiting.now) }
-{
-    let mut count = 0;
-    for w in waiting {
-        if !w.meets(test) {
-            count += 1;
-        }
-    }
-    count
-}
-
-/// Whether a request of this number has a purpose that does not meet the test.
-fn is_other<P: Copy, F: Fn(&P) -> bool>(waiting: &[Waiting<P>], number: u32, test: &F) -> bool
-    ghost meets: { P → Bool }
-    requires callable { F.IsAlwaysCallable test.now }
-    requires answers { (p : P) (b : Bool) → FnReturnsAt F.Fn test.now p b → b ≡ meets p }
-    ensures { result ≡ is_pending number (others meets waiting.now) }
-{
-    for w in waiting {
-        if w.seq().number() == number && !w.meets(test) {
-            return true;
-        }
-    }
-    false
-}
-
-/// Drops the requests whose purpose meets the test.
-fn drop_where<P: Copy, F: Fn(&P) -> bool>(waiting: &mut Vec<Waiting<P>>, test: &F)
-    ghost meets: { P → Bool }
-    requires callable { F.IsAlwaysCallable test.now }
-    requires answers { (p : P) (b : Bool) → FnReturnsAt F.Fn test.now p b → b ≡ meets p }
-    ensures left { waiting.new.items ≡ others meets waiting.old.items }
-    ensures bound { vec_len waiting.new ≤ vec_len waiting.old }
-    ensures capacity { vec_capacity waiting.new ≡ vec_capacity waiting.old }
-{
-    waiting.retain(|w| !w.meets(test));
-}
-
-/// Takes the numbers out of the index whose purpose meets the test.
-fn take_out_where<P: Copy, F: Fn(&P) -> bool>(purposes: &mut Vec<(u32, P)>, test: &F)
-    ghost meets: { P → Bool }
-    requires callable { F.IsAlwaysCallable test.now }
-    requires answers { (p : P) (b : Bool) → FnReturnsAt F.Fn test.now p b → b ≡ meets p }
-    ensures left { purposes.new.items ≡ filter (λ e. not (meets e.1)) purposes.old.items }
-    ensures bound { vec_len purposes.new ≤ vec_len purposes.old }
-    ensures capacity { vec_capacity purposes.new ≡ vec_capacity purposes.old }
-{
-    purposes.retain(|entry| !meets(&entry.1, test));
 }
 
 impl<P: Copy> Pending<P> {
@@ -229,8 +107,8 @@ impl<P: Copy> Pending<P> {
             t3,
             n3,
             next: 0,
-            waiting: Vec::new(alloc),
-            purposes: Vec::new(alloc),
+            ticks: 0,
+            rows: Rows::new(alloc),
         }
     }
 
@@ -247,8 +125,8 @@ impl<P: Copy> Pending<P> {
             t3,
             n3,
             next: next.number(),
-            waiting: Vec::new(alloc),
-            purposes: Vec::new(alloc),
+            ticks: 0,
+            rows: Rows::new(alloc),
         }
     }
 
@@ -258,7 +136,7 @@ impl<P: Copy> Pending<P> {
         // And what holds of the requests at all times.
         ensures always { AreRequests self.now }
     {
-        self.waiting.len() >= MOST
+        self.rows.len() >= MOST
     }
 
     /// Room for one more request, of which `prepare` then needs no memory; nothing else changes. After an error
@@ -268,8 +146,7 @@ impl<P: Copy> Pending<P> {
         ensures memory { OnErr result (self.old.has_room ≡ false) }
         ensures err { OnErr result (self.new ≡ self.old) }
     {
-        self.waiting.try_reserve(1)?;
-        self.purposes.try_reserve(1)?;
+        self.rows.reserve()?;
         Ok(())
     }
 
@@ -297,7 +174,7 @@ impl<P: Copy> Pending<P> {
     fn has_number(&self, number: u32) -> bool
         ensures { result ≡ is_pending number self.now.waiting }
     {
-        find_number(self.purposes.as_slice(), number).is_ok()
+        self.rows.get(number).is_some()
     }
 
     /// The first number from the next one on that no request has.
@@ -326,6 +203,19 @@ impl<P: Copy> Pending<P> {
         Some(Seq::new(self.next_free()))
     }
 
+    /// Whether a request of this number has a purpose that does not meet the test.
+    fn is_other<F: Fn(&P) -> bool>(&self, number: u32, test: &F) -> bool
+        ghost meets: { P → Bool }
+        requires callable { F.IsAlwaysCallable test.now }
+        requires answers { (p : P) (b : Bool) → FnReturnsAt F.Fn test.now p b → b ≡ meets p }
+        ensures { result ≡ is_pending number (others meets self.now.waiting) }
+    {
+        match self.rows.get(number) {
+            Some(row) => !row.meets(test),
+            None => false,
+        }
+    }
+
     /// The number that the next request would have, if those whose purpose passes the test were no longer pending:
     /// `None` where 256 would be pending still. Allocates nothing. `meets` is the test as contracts see it; the caller
     /// chooses it.
@@ -340,11 +230,11 @@ impl<P: Copy> Pending<P> {
         // What holds of the requests at all times.
         ensures always { AreRequests self.now }
     {
-        if count_others(self.waiting.as_slice(), &test) >= MOST {
+        if self.is_full() && self.rows.count_others(&test) >= MOST {
             return None;
         }
         let mut number = self.next;
-        while is_other(self.waiting.as_slice(), number, &test) {
+        while self.is_other(number, &test) {
             number = following(number);
         }
         Some(Seq::new(number))
@@ -358,25 +248,24 @@ impl<P: Copy> Pending<P> {
         ensures next { self.new.next ≡ number_after seq }
         ensures times { SameTimes self.old self.new }
     {
-        let number = seq.number();
-        self.next = following(number);
-        put_in(&mut self.purposes, number, purpose);
-        if self
-            .waiting
-            .push(Waiting::new(seq, to, octets, purpose))
-            .is_err()
-        {
-            unreachable!()
-        }
+        self.next = following(seq.number());
+        self.rows.push(Row {
+            seq,
+            to,
+            octets,
+            purpose,
+            sent: self.ticks,
+            resent: 0,
+        });
     }
 
     /// What the pending request of this number is for.
     pub fn matched(&self, seq: Seq) -> Option<&P>
         ensures { option_map (λ p. p.now) result ≡ purpose_of seq self.now.waiting }
     {
-        match find_number(self.purposes.as_slice(), seq.number()) {
-            Ok(at) => Some(&self.purposes[at].1),
-            Err(_) => None,
+        match self.rows.get(seq.number()) {
+            Some(row) => Some(&row.purpose),
+            None => None,
         }
     }
 
@@ -386,9 +275,7 @@ impl<P: Copy> Pending<P> {
         ensures next { self.new.next ≡ self.old.next }
         ensures times { SameTimes self.old self.new }
     {
-        let number = seq.number();
-        drop_number(&mut self.waiting, number);
-        take_out(&mut self.purposes, number);
+        self.rows.finish(seq.number());
     }
 
     /// All requests whose purpose passes the test are no longer pending. Allocates nothing. `meets` is the test as
@@ -404,8 +291,7 @@ impl<P: Copy> Pending<P> {
         // What holds of the requests at all times.
         ensures always { AreRequests self.old }
     {
-        drop_where(&mut self.waiting, &test);
-        take_out_where(&mut self.purposes, &test);
+        self.rows.finish_where(&test);
     }
 
     /// What the next tick does. Allocates nothing if that is nothing.
@@ -417,7 +303,7 @@ impl<P: Copy> Pending<P> {
         // What holds of the requests at all times.
         ensures always { AreRequests self.now }
     {
-        let due = due_of(self.alloc, self.waiting.as_slice(), self.t3, self.n3)?;
+        let due = self.rows.due(self.alloc, self.ticks, self.t3, self.n3)?;
         Ok(due)
     }
 
@@ -428,12 +314,7 @@ impl<P: Copy> Pending<P> {
         ensures next { self.new.next ≡ self.old.next }
         ensures times { SameTimes self.old self.new }
     {
-        take_out_given_up(
-            &mut self.purposes,
-            self.waiting.as_slice(),
-            self.t3,
-            self.n3,
-        );
-        tick_all(&mut self.waiting, self.t3, self.n3);
+        self.rows.tick(self.ticks, self.t3, self.n3);
+        self.ticks = self.ticks.wrapping_add(1);
     }
 }

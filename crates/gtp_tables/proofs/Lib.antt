@@ -1,4 +1,6 @@
 pub mod Entries
+pub mod Alike
+pub mod Counted
 pub mod Defaults
 pub mod BySession
 pub mod Found
@@ -10,6 +12,7 @@ pub mod Ordered
 pub mod Seen
 pub mod Undrawn
 pub mod Lowest
+pub mod PlaceBits
 pub mod Places
 pub mod Windows
 pub mod Listed

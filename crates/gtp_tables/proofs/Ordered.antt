@@ -125,7 +125,7 @@ len_apart (e ∷ es) d =
     let rest = len_apart es d.1 in
     grind (arith, gets, nat_tests, none, rest)
 
-distinct_entries : {X : Type 0} (m : FiniteMap X) → IsDistinct nat_eq (keys_of (entries m))
+pub distinct_entries : {X : Type 0} (m : FiniteMap X) → IsDistinct nat_eq (keys_of (entries m))
 unfolding IsDistinct
 distinct_entries {X} m = by (entries m) (entries_sorted m)
   where
@@ -142,7 +142,7 @@ distinct_changed f rows d = subst (λ (ks : List ℕ). IsDistinct nat_eq ks) (sy
 
 -- ---- how many pass a test, and whether one does
 
-count_of_values : {X : Type 0} (test : X → Bool) (rows : List (ℕ × X)) → length (filter test (map (λ e. e.1) rows)) ≡ length (filter (λ e. test e.1) rows)
+pub count_of_values : {X : Type 0} (test : X → Bool) (rows : List (ℕ × X)) → length (filter test (map (λ e. e.1) rows)) ≡ length (filter (λ e. test e.1) rows)
 count_of_values test [] = refl
 count_of_values test (e ∷ es) = elim (test e.1) as (λ b. length (cond b (e.1 ∷ filter test (map (λ x. x.1) es)) (filter test (map (λ x. x.1) es))) ≡ length (cond b (e ∷ filter (λ x. test x.1) es) (filter (λ x. test x.1) es))) [ true ↦ ap suc (count_of_values test es) | false ↦ count_of_values test es ]
 
@@ -152,11 +152,11 @@ count_rows test rows d =
     ∙ (sym (len_apart (filter (λ e. test e.1) rows) (IsDistinct-keys_filter nat_eq (λ e. test e.1) rows d))
     ∙ ap len (rows_kept test rows d))
 
-abbrev is_more : ℕ → Bool
+abbrev pub is_more : ℕ → Bool
 is_more zero = false
 is_more (suc n) = true
 
-any_by_count : {X : Type 0} (test : X → Bool) (xs : List X) → list_any test xs ≡ is_more (length (filter test xs))
+pub any_by_count : {X : Type 0} (test : X → Bool) (xs : List X) → list_any test xs ≡ is_more (length (filter test xs))
 any_by_count test [] = refl
 any_by_count test (x ∷ xs) = elim (test x) as (λ b. (b || list_any test xs) ≡ is_more (length (cond b (x ∷ filter test xs) (filter test xs)))) [ true ↦ refl | false ↦ any_by_count test xs ]
 
@@ -248,19 +248,10 @@ keys_rise {X} m = by (entries m) (entries_sorted m)
     by [] h = tt
     by (e ∷ es) h = (above e.0 es (first _ _ h), by es (second _ _ h))
 
-pub keys_removed : {X : Type 0} (m : FiniteMap X) (k : ℕ) → keys (remove m k) ≡ filter (λ q. not (nat_eq k q)) (keys m)
-keys_removed {X} m k =
-    ap keys (same_map nat_cmp_total nat_cmp-IsAntisymmetric (remove m k) left (λ q. get-remove nat_cmp_total m k q ∙ (by q (get m q) ∙ sym (get_kept (λ t _. not (nat_eq k t)) m q))))
-    ∙ (ap (map (λ e. e.0)) (entries_kept (λ t _. not (nat_eq k t)) m)
-    ∙ sym (keys_filter (λ t _. not (nat_eq k t)) (λ t. not (nat_eq k t)) (entries m) (each (entries m))))
+-- what is left when a key is taken out
+pub removed : {X : Type 0} (m : FiniteMap X) (k : ℕ) → remove m k ≡ kept (λ t _. not (nat_eq k t)) m
+removed {X} m k = same_map nat_cmp_total nat_cmp-IsAntisymmetric (remove m k) (kept (λ t _. not (nat_eq k t)) m) (λ q. get-remove nat_cmp_total m k q ∙ (by q (get m q) ∙ sym (get_kept (λ t _. not (nat_eq k t)) m q)))
   where
-    left : FiniteMap X
-    left = kept (λ t _. not (nat_eq k t)) m
-
-    each : (es : List (ℕ × X)) → AllByRecursion (λ e. not (nat_eq k e.0) ≡ not (nat_eq k e.0)) es
-    each [] = tt
-    each (e ∷ es) = (refl, each es)
-
     chosen : (b : Bool) (x : X) → cond b None (Some x) ≡ cond (not b) (Some x) None
     chosen true x = refl
     chosen false x = refl
@@ -268,6 +259,16 @@ keys_removed {X} m k =
     by : (q : ℕ) (o : Option X) → cond (eq_by_cmp nat_cmp q k) None o ≡ passing (λ t _. not (nat_eq k t)) q o
     by q None = none_either (eq_by_cmp nat_cmp q k)
     by q (Some x) = ap (λ (b : Bool). cond b None (Some x)) (turned q k) ∙ chosen (nat_eq k q) x
+
+pub keys_removed : {X : Type 0} (m : FiniteMap X) (k : ℕ) → keys (remove m k) ≡ filter (λ q. not (nat_eq k q)) (keys m)
+keys_removed {X} m k =
+    ap keys (removed m k)
+    ∙ (ap (map (λ e. e.0)) (entries_kept (λ t _. not (nat_eq k t)) m)
+    ∙ sym (keys_filter (λ t _. not (nat_eq k t)) (λ t. not (nat_eq k t)) (entries m) (each (entries m))))
+  where
+    each : (es : List (ℕ × X)) → AllByRecursion (λ e. not (nat_eq k e.0) ≡ not (nat_eq k e.0)) es
+    each [] = tt
+    each (e ∷ es) = (refl, each es)
 
 above_stay : (k n : ℕ) (ks : List ℕ) → AllByRecursion (λ other. n < other) ks → k ≤ n → filter (λ q. not (nat_eq k q)) ks ≡ ks
 above_stay k n [] h le = refl

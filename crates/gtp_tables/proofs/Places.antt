@@ -8,6 +8,10 @@ use Rattle.gtp_values.specs.FiniteMap.{FiniteMap}
 use Rattle.gtp_tables.specs.declared.context.Session.{Session}
 use Rattle.gtp_tables.specs.Free.{Asked, Pools, IpVersion, V4, V6, count_of, address_at, IsPlaceOf, IsLowestPart, AreUsedUp}
 use Rattle.gtp_tables.specs.Pool.{IsPool, ArePrefixes, prefix_of}
+use Rattle.std.proofs.lemmas.Bool.{eqb-true}
+use Rattle.std.specs.Prelude.{◌&&◌, nat_eq, true}
+use Rattle.std.specs.Cmp.Lexicographic.{pointwise, bytes_decides}
+use Rattle.gtp_values.proofs.Tests.{both}
 
 -- octets are those of one number
 one_number : (a b : ℕ) → a < 2 ^ 32 → b < 2 ^ 32 → to_be_bytes w32 a ≡ to_be_bytes w32 b → a ≡ b
@@ -53,3 +57,15 @@ unplaced pools version part octets is (Some place) some = tt
 pub both_used : (sessions : FiniteMap Session) (pools : Pools) (asked : Asked) → IsLowestPart sessions pools asked V4 None → IsLowestPart sessions pools asked V6 None → AreUsedUp sessions pools asked
 both_used sessions pools asked v4 v6 V4 = v4
 both_used sessions pools asked v4 v6 V6 = v6
+
+-- pools with the same first addresses and as many
+pub same_pools : (a b : Pools) → ((nat_eq a.v4.start b.v4.start && nat_eq a.v4.count b.v4.count) && (pointwise nat_eq a.v6.start b.v6.start && nat_eq a.v6.count b.v6.count)) ≡ true → a ≡ b
+same_pools a b is =
+    let versions = both (nat_eq a.v4.start b.v4.start && nat_eq a.v4.count b.v4.count) (pointwise nat_eq a.v6.start b.v6.start && nat_eq a.v6.count b.v6.count) is in
+    let v4 = both (nat_eq a.v4.start b.v4.start) (nat_eq a.v4.count b.v4.count) versions.left in
+    let v6 = both (pointwise nat_eq a.v6.start b.v6.start) (nat_eq a.v6.count b.v6.count) versions.right in
+    let start_v4 : a.v4.start ≡ b.v4.start = eqb-true a.v4.start b.v4.start v4.left in
+    let count_v4 : a.v4.count ≡ b.v4.count = eqb-true a.v4.count b.v4.count v4.right in
+    let start_v6 : a.v6.start ≡ b.v6.start = (bytes_decides a.v6.start b.v6.start).0 v6.left in
+    let count_v6 : a.v6.count ≡ b.v6.count = eqb-true a.v6.count b.v6.count v6.right in
+    λ i. record { v4 = record { start = start_v4 i; count = count_v4 i }; v6 = record { start = start_v6 i; count = count_v6 i } }

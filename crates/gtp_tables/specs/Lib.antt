@@ -8,5 +8,8 @@ pub mod Identity
 pub mod Index
 pub mod Lowest
 pub mod Part
+pub mod PlaceCounts
+pub mod PlaceSet
 pub mod Pool
+pub mod PoolPlaces
 pub mod Rows

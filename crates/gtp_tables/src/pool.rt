@@ -440,7 +440,12 @@ impl Pools {
     }
 
     /// The place of a session's address, where it is one of the pool and the session is seen.
-    fn seen_place(&self, version: IpVersion, session: &Session, restarted: bool) -> Option<u32>
+    pub(crate) fn seen_place(
+        &self,
+        version: IpVersion,
+        session: &Session,
+        restarted: bool,
+    ) -> Option<u32>
         ensures within { IfSome result (λ place. place < count_of self.now version) }
         ensures some { IfSome result (λ place. (p : ℕ) → p < count_of self.now version
             → takes restarted version (address_at self.now version p) session.now ≡ nat_eq p place) }

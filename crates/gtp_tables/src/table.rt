@@ -287,7 +287,7 @@ fn drop_keys_where<V: Copy, F: Fn(&Teid) -> bool>(rows: &mut IndexMap<Teid, V>, 
 }
 
 /// What a test answers.
-fn meets<V: Copy, F: Fn(&V) -> bool>(test: &F, value: &V) -> bool
+pub(crate) fn meets<V: Copy, F: Fn(&V) -> bool>(test: &F, value: &V) -> bool
     requires { F.IsAlwaysCallable test.now }
     ensures { FnReturnsAt F.Fn test.now value.now result }
 {

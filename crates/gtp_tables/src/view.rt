@@ -96,7 +96,7 @@ impl<'a> View<'a> {
         ensures v4 { IsLowestPart self.now.sessions pools.now asked versions.V4 result.0 }
         ensures v6 { IsLowestPart self.now.sessions pools.now asked versions.V6 result.1 }
     {
-        let places = pools.lowest_places(asked, self.sessions.values(), self.restarted);
+        let places = self.sessions.lowest_places(pools, asked, self.restarted);
         (pools.v4.at_found(places.v4), pools.v6.at_found(places.v6))
     }
 

@@ -1,31 +1,45 @@
-use Rattle.std.proofs.Common.{◌≡◌, ◌++◌, ◌∷◌, [], ◌<◌, ◌∙◌, Some, None, cond, false, length, length-append, ap, sym, subst, arith, rules, ℕ}
-use Rattle.std.specs.Prelude.{◌==◌}
-use Rattle.gtp_reliable.specs.Waiting.{just_sent}
-use Rattle.gtp_reliable.specs.Pending.{AreDistinct, is_pending}
-use Rattle.gtp_reliable.specs.Purposes.{look, IsNumbered}
+use Rattle.std.proofs.Common.{◌≡◌, ◌++◌, ◌∷◌, [], ◌<◌, ◌∙◌, false, length, length-append, ap, sym, subst, refl, arith, map}
+use Rattle.gtp_reliable.specs.Waiting.{Waiting, just_sent}
+use Rattle.gtp_reliable.specs.Pending.{Requests, AreDistinct, is_pending}
+use Rattle.gtp_reliable.specs.Rows.{Sent, since, seen}
+use Rattle.gtp_reliable.specs.Ages.{AreInTurn}
 use Rattle.gtp_reliable.proofs.Requests.{distinct_push}
-use Rattle.gtp_reliable.proofs.Told.{free_told, numbered_push}
+use Rattle.gtp_reliable.proofs.Told.{waiting_of, free_is, push_is, push_turn}
 use Rattle.gtp_reliable.proofs.pending.Pending.begin.Goals as goal
 
-pub put_in-requires-clause-free : goal.put_in-requires-clause-free
-put_in-requires-clause-free g c =
-    let free : is_pending c.args.seq c.self.inside.waiting.items ≡ false = search rules in
-    let none : look c.args.seq c.self.inside.purposes.items ≡ None = c.self.invariant.1.same c.args.seq ∙ free_told c.args.seq c.self.inside.waiting.items free in
-    search rules
+pub push-requires-clause-free : goal.push-requires-clause-free
+push-requires-clause-free g c =
+    free_is c.self.inside.ticks c.self.inside.rows.rows c.args.seq (ap (λ (v : Requests _). is_pending c.args.seq v.waiting) c.self.view_is ∙ c.requires.number.free)
 
 pub invariant_of-self : goal.invariant_of-self
 invariant_of-self g c =
-    let ws = c.self.inside.waiting.items in
-    let one = just_sent c.args.seq c.args.to c.args.octets.items c.args.purpose in
-    let pushed : c.push.new.self.items ≡ ws ++ one ∷ [] = search rules in
-    let free : is_pending c.args.seq ws ≡ false = search rules in
-    let few : length ws < 256 = search rules in
-    let puts : (n : ℕ) → look n c.put_in.new.index.items ≡ cond (c.args.seq == n) (Some c.args.purpose) (look n c.self.inside.purposes.items) = λ n. search rules in (
+    let rows = c.self.inside.rows.rows in
+    let now = c.self.inside.ticks in
+    let ws = waiting_of now rows in
+    let one : Sent _ = record { seq = c.args.seq; to = c.args.to; octets = c.args.octets.items; purpose = c.args.purpose; sent = now; resent = 0 } in
+    let pushed : c.push.new.self.rows ≡ rows ++ one ∷ [] = c.push.ensures in
+    let none : since now now ≡ 0 = omega arith in
+    let left : waiting_of now c.push.new.self.rows ≡ ws ++ seen now one ∷ [] = ap (waiting_of now) pushed ∙ push_is now rows one (omega (arith, none)) in
+    let free : is_pending c.args.seq ws ≡ false = ap (λ (v : Requests _). is_pending c.args.seq v.waiting) c.self.view_is ∙ c.requires.number.free in
+    let few : length ws < 256 = omega (arith, c.requires.count, ap (λ (v : Requests _). length v.waiting) c.self.view_is) in (
       record {
         limits = c.self.invariant.0.limits;
         next = omega (arith, c.following-self-inside.ensures);
-        count = omega (arith, ap length pushed, length-append ws (one ∷ []), few);
-        distinct = subst AreDistinct (sym pushed) (distinct_push ws one c.self.invariant.0.distinct free);
+        count = omega (arith, ap length left, length-append ws (seen now one ∷ []), few);
+        distinct = subst AreDistinct (sym left) (distinct_push ws (seen now one) c.self.invariant.0.distinct free);
       },
-      subst (IsNumbered c.put_in.new.index.items) (sym pushed) (numbered_push c.self.inside.purposes.items c.put_in.new.index.items ws one c.self.invariant.1 free c.put_in.ensures.rising puts),
+      subst (λ l. AreInTurn c.self.inside.t3 (map (seen now) l)) (sym pushed) (push_turn now rows c.self.inside.t3 one c.self.invariant.1 none refl c.self.invariant.0.limits.0),
     )
+
+pub returns-clause-waiting : goal.returns-clause-waiting
+returns-clause-waiting g c =
+    let rows = c.self.inside.rows.rows in
+    let now = c.self.inside.ticks in
+    let one : Sent _ = record { seq = c.args.seq; to = c.args.to; octets = c.args.octets.items; purpose = c.args.purpose; sent = now; resent = 0 } in
+    let pushed : c.push.new.self.rows ≡ rows ++ one ∷ [] = c.push.ensures in
+    let none : since now now ≡ 0 = omega arith in
+    let just : seen now one ≡ just_sent c.args.seq c.args.to c.args.octets.items c.args.purpose = λ i. record (seen now one) { waited = none i } in
+    ap (waiting_of now) pushed
+    ∙ (push_is now rows one (omega (arith, none))
+    ∙ (ap (λ (w : Waiting _). waiting_of now rows ++ w ∷ []) just
+    ∙ ap (λ (v : Requests _). v.waiting ++ just_sent c.args.seq c.args.to c.args.octets.items c.args.purpose ∷ []) c.self.view_is))

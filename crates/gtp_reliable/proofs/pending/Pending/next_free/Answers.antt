@@ -1,12 +1,13 @@
 use Rattle.std.proofs.Common.{◌<◌, ◌∙◌, sym, subst}
 use Rattle.gtp_reliable.specs.Pending.{Requests, numbers}
 use Rattle.gtp_reliable.proofs.Numbers.{IsReached, reached_first, reached_next, reached_free}
+use Rattle.gtp_reliable.proofs.Told.{waiting_of}
 use Rattle.gtp_reliable.proofs.pending.Pending.next_free.Goals as goal
 
 pub loop-number-init : goal.loop-number-init
 loop-number-init g c =
     subst (λ (v : Requests _). IsReached v.next v.waiting c.self.inside.next) c.self.view_is
-    (reached_first c.self.inside.next c.self.inside.waiting.items c.self.invariant.0.next c.self.invariant.0.count)
+    (reached_first c.self.inside.next (waiting_of c.self.inside.ticks c.self.inside.rows.rows) c.self.invariant.0.next c.self.invariant.0.count)
 
 pub loop-number-smaller : goal.loop-number-smaller
 loop-number-smaller g c =

@@ -8,8 +8,8 @@ ghost-count_others g a = g.meets
 abbrev pub ghost-is_other : goal.ghost-is_other
 ghost-is_other g a = g.meets
 
-abbrev pub invariant-loop-self : goal.invariant-loop-self
-invariant-loop-self g l = IsReached l.self.next (others g.meets l.self.waiting) l.number
+abbrev pub invariant-loop-number : goal.invariant-loop-number
+invariant-loop-number g l = IsReached l.self.next (others g.meets l.self.waiting) l.number
 
-abbrev pub decreases-loop-self : goal.decreases-loop-self
-decreases-loop-self g l = ahead l.self.next (distance l.self.next l.number) (others g.meets l.self.waiting)
+abbrev pub decreases-loop-number : goal.decreases-loop-number
+decreases-loop-number g l = ahead l.self.next (distance l.self.next l.number) (others g.meets l.self.waiting)

@@ -1,0 +1,12 @@
+use Rattle.std.proofs.Common.{sym, subst}
+use Rattle.std.specs.FinMap.{values}
+use Rattle.gtp_tables.specs.declared.context.Session.{Session}
+use Rattle.gtp_tables.specs.Rows.{Rows}
+use Rattle.gtp_tables.specs.PoolPlaces.{AreCountedIn}
+use Rattle.gtp_tables.proofs.sessions.Sessions.remove_where.Goals as goal
+
+pub invariant_of-self : goal.invariant_of-self
+invariant_of-self g c =
+    let goes = c.requires.decides.0 in
+    let right = c.requires.decides.1 in
+    subst (λ (r : Rows Session). AreCountedIn (values r.table) c.forget_where.new.places) (sym (c.remove_where.ensures goes right)) (c.forget_where.ensures goes right)
