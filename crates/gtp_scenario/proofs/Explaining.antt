@@ -17,7 +17,7 @@ use Rattle.gtp_scenario.specs.Entries.{Entry}
 use Rattle.gtp_scenario.specs.Named.{name_of}
 use Rattle.gtp_scenario.specs.Heads.{events_at}
 use Rattle.gtp_scenario.specs.Reasons.{refusal_of, IsExplained, IsSaid, IsSo, IsEntryFlaw, IsEventAt}
-use Rattle.gtp_scenario.specs.reading.Faultless.{IsRight}
+use Rattle.gtp_scenario.specs.Named.{IsRight}
 use Rattle.gtp_scenario.specs.reading.Halted.{IsHaltedIn, IsNothing, IsTooMany, IsFlawFor}
 use Rattle.gtp_scenario.specs.Scenarios.{Scenario, Head, json_of, head_in, HasHappened, IsRead, IsListRead, IsReadOn, IsReadIn, IsReadFrom, IsReading}
 use Rattle.gtp_scenario.proofs.Halting.{halts_here, names_nothing, right_never}
@@ -95,6 +95,7 @@ pub flaw_at : (d e : Data) (halted : Halted) (flaw : EventFlaw) (h : IsHaltedIn 
 flaw_at d e halted (event.Entry flaw) h there is = record { setup = h.setup; head = h.head; items = h.items; list = h.list; entry = e; there = there; flawed = is }
 flaw_at d e halted (event.NoEvent word) h there is = record { setup = h.setup; head = h.head; items = h.items; list = h.list; entry = e; there = there; flawed = is }
 flaw_at d e halted (event.Keys kind flaw) h there is = record { setup = h.setup; head = h.head; items = h.items; list = h.list; entry = e; there = there; flawed = is }
+flaw_at d e halted (event.Named kind flaw) h there is = record { setup = h.setup; head = h.head; items = h.items; list = h.list; entry = e; there = there; flawed = is }
 flaw_at d e halted (event.Nothing name) h there is = absurd is
 flaw_at d e halted event.TooMany h there is = absurd is
 
@@ -103,6 +104,7 @@ nothing_by d e halted (event.Nothing name) h there is named = nothing_at d e hal
 nothing_by d e halted (event.Entry flaw) h there is named = absurd named
 nothing_by d e halted (event.NoEvent word) h there is named = absurd named
 nothing_by d e halted (event.Keys kind flaw) h there is named = absurd named
+nothing_by d e halted (event.Named kind flaw) h there is named = absurd named
 nothing_by d e halted event.TooMany h there is named = absurd named
 
 many_by : (d e : Data) (halted : Halted) (flaw : EventFlaw) (h : IsHaltedIn d halted) → get_item halted.place h.items ≡ Some e → halted.halt ≡ halts.TooMany → IsTooMany flaw → IsEventAt d halted.place flaw
@@ -111,6 +113,7 @@ many_by d e halted (event.Nothing name) h there is many = absurd many
 many_by d e halted (event.Entry flaw) h there is many = absurd many
 many_by d e halted (event.NoEvent word) h there is many = absurd many
 many_by d e halted (event.Keys kind flaw) h there is many = absurd many
+many_by d e halted (event.Named kind flaw) h there is many = absurd many
 
 pub flaw_by : (halt : Halt) (d e : Data) (halted : Halted) (flaw : EventFlaw) (h : IsHaltedIn d halted) → get_item halted.place h.items ≡ Some e → halted.halt ≡ halt → IsFlawFor halt e flaw → IsEventAt d halted.place flaw
 flaw_by halts.Nothing d e halted flaw h there is so = nothing_by d e halted flaw h there is so

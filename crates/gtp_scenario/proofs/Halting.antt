@@ -1,6 +1,6 @@
 -- Where reading a list of events stops.
 use Rattle.std.proofs.Common.{◌≡◌, ◌+◌, ◌-◌, ℕ, suc, Bool, true, false, cond, List, [], ◌∷◌, ◌++◌, Option, Some, None, inl, inr, Result, Ok, Err, true≢false, refl, sym, ap, subst, ◌∙◌, arith}
-use Rattle.std.specs.Prelude.{codes, nat_le, is_some}
+use Rattle.std.specs.Prelude.{codes, nat_le, is_some, MatchOption}
 use Rattle.serde_json.specs.Data.{Data, null, boolean, number, string, array, object, Items, no_items, item}
 use Rattle.serde_json.specs.Find.{get, get_item, as_str}
 use Rattle.gtp_world.specs.Runs.{Setup}
@@ -19,12 +19,11 @@ use Rattle.gtp_scenario.specs.Events.{node_at, delete_session_of, release_sessio
 use Rattle.gtp_scenario.specs.Json.{text_at, number_at, whole_number, is_among, has_only}
 use Rattle.gtp_scenario.specs.Keys.{kind_of}
 use Rattle.gtp_scenario.specs.Names.{session_name_of, bearer_name_of}
-use Rattle.gtp_scenario.specs.Named.{entry_about, session_at, bearer_at, bearer_sent_on, datagrams_said, datagram_at, name_for, name_of}
+use Rattle.gtp_scenario.specs.Named.{delivery, expected_of, IsRightBeside, IsRight, session_at, bearer_at, bearer_sent_on, datagrams_said, datagram_at, name_for, name_of}
 use Rattle.gtp_scenario.specs.Past.{Past}
-use Rattle.gtp_scenario.specs.reading.Faultless.{is_context, IsRight}
-use Rattle.gtp_scenario.specs.Scenarios.{most_events, one_within, entry_or, whole_entry, named_entry, HasHappened, IsReadBy, IsRead, AreRead, IsListRead}
+use Rattle.gtp_scenario.specs.Scenarios.{most_events, one_within, entry_or, whole_entry, named_entry, HasHappened, AreDelivered, IsReadBy, IsRead, AreRead, IsListRead}
 use Rattle.gtp_scenario.proofs.Apart.{none_then, deliver_none, session_there, bearer_there, sent_on_there, delete_session_none, release_session_none, create_bearer_none, delete_bearer_none, end_marker_none, send_none}
-use Rattle.gtp_scenario.proofs.Whole.{named, of_kind}
+use Rattle.gtp_scenario.proofs.Whole.{named, of_kind, mapped}
 
 -- ---- the item at which it stops
 
@@ -150,13 +149,22 @@ never_wrong room (Some n) entry right h = by (entry n) (right n) h
     by None r k = absurd cc
     by (Some e) r k = (let many : halts.Wrong ≡ halts.TooMany = one_halts room e halts.Wrong k in cc)
 
-context_right : (name : Name) (IsPast : Past → Type 0) (room : ℕ) (d : Data) → is_context name ≡ true → ((teid : ℕ) → is_some (entry_about teid d) ≡ true) → IsReadBy (Some name) IsPast room d (Err halts.Wrong) → ⊥
-context_right Newest IsPast room d context right read = absurd cc
-context_right All IsPast room d context right read = absurd cc
-context_right (Session node name) IsPast room d context right (past, is, read) = never_wrong room _ _ right read
-context_right (Bearer node name) IsPast room d context right (past, is, read) = never_wrong room _ _ right read
+-- reading an entry stopped, since it is wrong
+abbrev wrong : Result (List Entry) Halt
+wrong = Err halts.Wrong
+
+-- what is expected of all deliveries is read, so they are not wrong
+all_right : (IsPast : Past → Type 0) (room : ℕ) (o : Option (Option (List ℕ))) → is_some o ≡ true → MatchOption o (wrong ≡ wrong) (λ expect. (past : Past) × IsPast past × AreDelivered room expect past wrong) → ⊥
+all_right IsPast room None right read = absurd cc
+all_right IsPast room (Some expect) right (past, is, (numbers, end, delivers, more, full, many)) = (let e : halts.Wrong ≡ halts.TooMany = many in cc)
+
+beside_right : (name : Name) (IsPast : Past → Type 0) (room : ℕ) (d : Data) → IsRightBeside name d → IsReadBy (Some name) IsPast room d (Err halts.Wrong) → ⊥
+beside_right Newest IsPast room d right (past, is, read) = never_wrong room _ _ (λ n. mapped (λ expect. delivery expect n) (expected_of d) right) read
+beside_right All IsPast room d right read = all_right IsPast room (expected_of d) right read
+beside_right (Session node name) IsPast room d right (past, is, read) = never_wrong room _ _ right read
+beside_right (Bearer node name) IsPast room d right (past, is, read) = never_wrong room _ _ right read
 
 -- a right entry is not wrong
 pub right_never : (IsPast : Past → Type 0) (room : ℕ) (d : Data) → IsReadBy (name_of d) IsPast room d (Err halts.Wrong) → IsRight d → ⊥
 right_never IsPast room d read (inl some) = true≢false (sym some ∙ ap is_some (wrong_none (name_of d) IsPast room d refl read))
-right_never IsPast room d read (inr named) = context_right named.name IsPast room d named.context named.right (subst (λ o. IsReadBy o IsPast room d (Err halts.Wrong)) named.named read)
+right_never IsPast room d read (inr named) = beside_right named.name IsPast room d named.beside (subst (λ o. IsReadBy o IsPast room d (Err halts.Wrong)) named.named read)

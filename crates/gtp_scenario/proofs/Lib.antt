@@ -17,6 +17,7 @@ pub mod Readings
 pub mod Spelled
 pub mod Strict
 pub mod StrictHeads
+pub mod StrictNames
 pub mod Templates
 pub mod Texts
 pub mod Tokens

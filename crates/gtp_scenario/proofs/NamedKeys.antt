@@ -1,13 +1,14 @@
 -- Where nothing is wrong with an entry that names a session or bearer, it is read.
 use Rattle.std.proofs.Common.{◌≡◌, ℕ, Bool, true, false, cond, List, [], ◌∷◌, map, Option, Some, None, inl, inr, ◌⊎◌, true≢false, refl, sym, ap, subst, ◌∙◌}
-use Rattle.std.specs.Prelude.{is_some, codes}
+use Rattle.std.specs.Prelude.{◌||◌, is_some, bytes_eq, codes}
+use Rattle.std.specs.Option.{option_map_or}
 use Rattle.serde_json.specs.Data.{Data}
-use Rattle.serde_json.specs.Find.{get}
+use Rattle.serde_json.specs.Find.{get, as_str}
 use Rattle.gtp_machine.specs.World.{Event}
 use Rattle.gtp_machine.specs.declared.role.Role.{Role}
 use Rattle.gtp_machine.specs.declared.role.Role.TheVariants.{Serving, Packet}
 use Rattle.gtp_scenario.specs.declared.name.Name.{Name}
-use Rattle.gtp_scenario.specs.declared.name.Name.TheVariants.{Session, Bearer}
+use Rattle.gtp_scenario.specs.declared.name.Name.TheVariants.{Newest, All, Session, Bearer}
 use Rattle.gtp_scenario.specs.declared.reason.key.Key.{Key}
 use Rattle.gtp_scenario.specs.declared.reason.key.Key.TheVariants as keys
 use Rattle.gtp_scenario.specs.declared.reason.kind.EventKind.{EventKind}
@@ -15,21 +16,34 @@ use Rattle.gtp_scenario.specs.declared.reason.kind.EventKind.TheVariants as kind
 use Rattle.gtp_scenario.specs.Steps.{◌>>=◌}
 use Rattle.gtp_scenario.specs.Entries.{entry_of}
 use Rattle.gtp_scenario.specs.Events.{node_at, ebi_at, tft_at, payload_at}
-use Rattle.gtp_scenario.specs.Json.{text_at, text_if}
-use Rattle.gtp_scenario.specs.Keys.{key_text, is_met, is_met_by, kind_of, event_keys, named_keys, has_name, keys_in}
+use Rattle.gtp_scenario.specs.Json.{text_at, text_if, whole_number, number_at}
+use Rattle.gtp_scenario.specs.declared.reason.wanted.Wanted.TheVariants as wanted
+use Rattle.gtp_scenario.specs.Keys.{key_text, is_good_text, is_met, is_met_by, kind_of, event_keys, named_keys, has_name, keys_in}
 use Rattle.gtp_scenario.specs.Names.{session_name_of, bearer_name_of}
-use Rattle.gtp_scenario.specs.Named.{session_at, bearer_at, bearer_sent_on, name_for, name_of, delete_session_named, release_session_named, create_bearer_named, delete_bearer_named, end_marker_named, send_named, event_about, entry_about}
+use Rattle.gtp_scenario.specs.Named.{IsRightBeside, IsRightNamed, IsRight, datagrams_said, datagram_at, expected_of, session_at, bearer_at, bearer_sent_on, name_for, name_of, delete_session_named, release_session_named, create_bearer_named, delete_bearer_named, end_marker_named, send_named, event_about, entry_about}
 use Rattle.gtp_scenario.specs.Reasons.{fits}
-use Rattle.gtp_scenario.specs.reading.Faultless.{is_context, IsRightNamed, IsRight}
-use Rattle.gtp_scenario.proofs.Whole.{chain, pinned, gated, needed, parts, met_in, node_met, ebi_met, tft_met, payload_met, expect_met, entry_read, by_some}
+use Rattle.gtp_scenario.proofs.Whole.{is_numbered, chain, pinned, gated, needed, parts, met_in, node_met, ebi_met, tft_met, payload_met, expect_met, entry_read, by_some}
 
 -- ---- the name
+
+-- a session or bearer
+abbrev is_context : Name → Bool
+is_context Newest = false
+is_context All = false
+is_context (Session node name) = true
+is_context (Bearer node name) = true
 
 -- a context is named
 record IsContext (o : Option Name) : Type 0 where
   name : Name
   is : o ≡ Some name
   context : is_context name ≡ true
+
+context_beside : (name : Name) (d : Data) → is_context name ≡ true → ((teid : ℕ) → is_some (entry_about teid d) ≡ true) → IsRightBeside name d
+context_beside Newest d context right = absurd cc
+context_beside All d context right = absurd cc
+context_beside (Session node name) d context right = right
+context_beside (Bearer node name) d context right = right
 
 some_of : {A : Type 0} (o : Option A) → is_some o ≡ true → (x : A) × (o ≡ Some x)
 some_of None h = absurd cc
@@ -113,9 +127,59 @@ named_right d word kind said is has h =
     record {
       name = c.name;
       named = bound (text_at (codes "do") d >>= kind_of) kind (λ k. name_for k d) c.name at c.is;
-      context = c.context;
-      right = λ teid. pinned (text_at (codes "do") d >>= kind_of) kind _ at (chain (event_about kind teid d) _ (event_met kind teid d has h) (λ e. chain (text_if (get (codes "expect") d)) _ (expect_met d (get (codes "expect") d) (expect_at kind d has h)) (λ x. refl)));
+      beside = context_beside c.name d c.context (λ teid. pinned (text_at (codes "do") d >>= kind_of) kind _ at (chain (event_about kind teid d) _ (event_met kind teid d has h) (λ e. chain (text_if (get (codes "expect") d)) _ (expect_met d (get (codes "expect") d) (expect_at kind d has h)) (λ x. refl))));
     }
+
+-- ---- deliveries
+
+or_right : (a b : Bool) → a ≡ false → a || b ≡ true → b ≡ true
+or_right a b not h = subst (λ x. x || b ≡ true) not h
+
+said_all : (v : Data) → option_map_or (is_good_text wanted.NumberOrAll) (as_str v) false ≡ true → datagrams_said (Some v) ≡ Some All
+said_all v h = by (as_str v) h
+  where
+    by : (o : Option (List ℕ)) → option_map_or (is_good_text wanted.NumberOrAll) o false ≡ true → (o >>= λ text. cond (bytes_eq text (codes "all")) (Some All) None) ≡ Some All
+    by None k = absurd cc
+    by (Some text) k = rw k refl
+
+-- the name of what is delivered
+record IsDelivered (d : Data) : Type 0 where
+  name : Name
+  is : datagram_at d ≡ Some name
+  beside : is_some (expected_of d) ≡ true → IsRightBeside name d
+
+delivered : (d : Data) → is_met d keys.DatagramOrAll ≡ true → is_some (number_at (codes "datagram") d) ≡ false → IsDelivered d
+unfolding datagram_at
+delivered d met not = by (get (codes "datagram") d) refl met not
+  where
+    by : (o : Option Data) → get (codes "datagram") d ≡ o → is_met_by d keys.DatagramOrAll o ≡ true → is_some (o >>= whole_number) ≡ false → IsDelivered d
+    by None at m n = record { name = Newest; is = ap datagrams_said at; beside = λ right. right }
+    by (Some v) at m n = record { name = All; is = ap datagrams_said at ∙ said_all v (or_right (is_some (whole_number v)) _ n m); beside = λ right. right }
+
+delivery_right : (d : Data) (word : List ℕ) → text_at (codes "do") d ≡ Some word → kind_of word ≡ Some kinds.Deliver → is_some (number_at (codes "datagram") d) ≡ false → fits (event_keys kinds.Deliver) d ≡ true → IsRightNamed d
+unfolding name_of expected_of
+delivery_right d word said is not h =
+    let found = delivered d (met_in (event_keys kinds.Deliver) d h 2 keys.DatagramOrAll refl) not in
+    record {
+      name = found.name;
+      named = bound (text_at (codes "do") d >>= kind_of) kinds.Deliver (λ k. name_for k d) found.name (kind_said d word kinds.Deliver said is) found.is;
+      beside = found.beside (gated _ _ (parts (event_keys kinds.Deliver) d h).only (expect_met d (get (codes "expect") d) (met_in (event_keys kinds.Deliver) d h 1 keys.Expect refl)));
+    }
+
+-- only a delivery may have no number
+delivery_named : (d : Data) (word : List ℕ) (kind : EventKind) → text_at (codes "do") d ≡ Some word → kind_of word ≡ Some kind → is_numbered kind d ≡ false → fits (event_keys kind) d ≡ true → IsRightNamed d
+delivery_named d word kinds.Deliver said is not h = delivery_right d word said is not h
+delivery_named d word kinds.CreateSession said is not h = absurd cc
+delivery_named d word kinds.DeleteSession said is not h = absurd cc
+delivery_named d word kinds.ReleaseSession said is not h = absurd cc
+delivery_named d word kinds.EndMarker said is not h = absurd cc
+delivery_named d word kinds.CreateBearer said is not h = absurd cc
+delivery_named d word kinds.DeleteBearer said is not h = absurd cc
+delivery_named d word kinds.Echo said is not h = absurd cc
+delivery_named d word kinds.Restart said is not h = absurd cc
+delivery_named d word kinds.Tick said is not h = absurd cc
+delivery_named d word kinds.Send said is not h = absurd cc
+delivery_named d word kinds.Cut said is not h = absurd cc
 
 -- an entry with which nothing is wrong is read
 pub entry_right : (d : Data) (word : List ℕ) (kind : EventKind) → text_at (codes "do") d ≡ Some word → kind_of word ≡ Some kind → fits (keys_in d kind) d ≡ true → IsRight d
@@ -123,4 +187,8 @@ entry_right d word kind said is h = by (has_name d kind) refl h
   where
     by : (b : Bool) → has_name d kind ≡ b → fits (cond b (named_keys kind) (event_keys kind)) d ≡ true → IsRight d
     by true has k = inr (named_right d word kind said is has k)
-    by false has k = inl (by_some (entry_of d) (entry_read d word kind said is k))
+    by false has k = numbered (is_numbered kind d) refl k
+      where
+        numbered : (b : Bool) → is_numbered kind d ≡ b → fits (event_keys kind) d ≡ true → IsRight d
+        numbered true number all = inl (by_some (entry_of d) (entry_read d word kind said is number all))
+        numbered false not all = inr (delivery_named d word kind said is not all)

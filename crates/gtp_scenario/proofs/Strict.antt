@@ -1,6 +1,6 @@
 -- Where something is wrong with an object, it is not read.
 use Rattle.std.proofs.Common.{◌≡◌, ◌&&◌, ℕ, Bool, true, false, cond, List, [], ◌∷◌, map, length, Option, Some, None, option_map, refl, sym, ap, subst, ◌∙◌, true≢false}
-use Rattle.std.specs.Prelude.{is_some, codes, nat_le, find, not, string_bytes}
+use Rattle.std.specs.Prelude.{is_some, codes, nat_le, find, not}
 use Rattle.std.specs.List.{list_all}
 use Rattle.std.specs.Option.{option_map_or}
 use Rattle.serde_json.specs.Data.{Data, null, boolean, number, string, array, object}
@@ -11,17 +11,15 @@ use Rattle.gtp_scenario.specs.declared.reason.kind.EventKind.{EventKind}
 use Rattle.gtp_scenario.specs.declared.reason.kind.EventKind.TheVariants as kinds
 use Rattle.gtp_scenario.specs.declared.reason.flaw.ObjectFlaw.{ObjectFlaw}
 use Rattle.gtp_scenario.specs.declared.reason.flaw.ObjectFlaw.TheVariants as flaws
-use Rattle.gtp_scenario.specs.declared.reason.event.EventFlaw.{EventFlaw}
-use Rattle.gtp_scenario.specs.declared.reason.event.EventFlaw.TheVariants as event
 use Rattle.gtp_scenario.specs.Steps.{◌>>=◌}
 use Rattle.gtp_scenario.specs.Json.{text_at, text_if, whole_number, number_at, number_or, within, has_only}
 use Rattle.gtp_scenario.specs.Texts.{imsi_of, apn_of, teid_of, octets_of}
 use Rattle.gtp_scenario.specs.Events.{role_of, node_at, teid_at, ebi_at, pdn_at, subscriber_at, tft_at, payload_at, create_session_of, lone_teid_of, delete_session_of, release_session_of, end_marker_of, create_bearer_of, delete_bearer_of, lone_node_of, echo_of, restart_of, tick_of, send_of, deliver_of, cut_of, event_named}
 use Rattle.gtp_scenario.specs.Entries.{entry_of}
-use Rattle.gtp_scenario.specs.Keys.{key_text, wanted_of, is_good, is_good_text, may_be_absent, is_met, is_met_by, kind_of, event_keys, named_keys, has_name}
-use Rattle.gtp_scenario.specs.Reasons.{fits, IsWordless, IsFlaw, IsEntryFlaw}
+use Rattle.gtp_scenario.specs.Keys.{key_text, wanted_of, is_good, is_good_text, may_be_absent, is_met, is_met_by, kind_of, event_keys, named_keys, has_name, keys_in}
+use Rattle.gtp_scenario.specs.Reasons.{fits, IsWordless, IsFlaw}
 use Rattle.gtp_scenario.proofs.Apart.{has_no_event}
-use Rattle.gtp_scenario.proofs.Whole.{by_text, absent, of_kind, named}
+use Rattle.gtp_scenario.proofs.Whole.{by_text, absent, of_kind, named, none_named}
 
 -- ---- steps that had values
 
@@ -68,17 +66,17 @@ teid_kept : (d : Data) → is_some (teid_at d) ≡ true → is_met d keys.Teid �
 unfolding teid_at
 teid_kept d h = kept keys.Teid d (get (codes "teid") d) (λ v. as_str v >>= teid_of) (λ v. by_text teid_of (as_str v)) (apart (get (codes "teid") d) as_str teid_of h)
 
-node_kept : (d : Data) → is_some (node_at d) ≡ true → is_met d keys.Node ≡ true
+pub node_kept : (d : Data) → is_some (node_at d) ≡ true → is_met d keys.Node ≡ true
 unfolding node_at
 node_kept d h = kept keys.Node d (get (codes "node") d) (λ v. as_str v >>= role_of) (λ v. by_text role_of (as_str v)) (apart (get (codes "node") d) as_str role_of h)
 
-imsi_kept : (d : Data) → is_some (text_at (codes "imsi") d >>= imsi_of) ≡ true → is_met d keys.Imsi ≡ true
+pub imsi_kept : (d : Data) → is_some (text_at (codes "imsi") d >>= imsi_of) ≡ true → is_met d keys.Imsi ≡ true
 imsi_kept d h = kept keys.Imsi d (get (codes "imsi") d) (λ v. as_str v >>= imsi_of) (λ v. by_text imsi_of (as_str v)) (apart (get (codes "imsi") d) as_str imsi_of h)
 
 pub apn_kept : (d : Data) → is_some (text_at (codes "apn") d >>= apn_of) ≡ true → is_met d keys.Apn ≡ true
 apn_kept d h = kept keys.Apn d (get (codes "apn") d) (λ v. as_str v >>= apn_of) (λ v. by_text apn_of (as_str v)) (apart (get (codes "apn") d) as_str apn_of h)
 
-ebi_kept : (d : Data) → is_some (ebi_at d) ≡ true → is_met d keys.Ebi ≡ true
+pub ebi_kept : (d : Data) → is_some (ebi_at d) ≡ true → is_met d keys.Ebi ≡ true
 unfolding ebi_at
 ebi_kept d h = kept keys.Ebi d (get (codes "ebi") d) (λ v. whole_number v >>= within 5 15) (λ v. refl) (apart (get (codes "ebi") d) whole_number (within 5 15) h)
 
@@ -99,9 +97,17 @@ tft_kept d h =
     turned None h = h
     turned (Some v) h = h
 
-payload_kept : (d : Data) → is_some (payload_at d) ≡ true → is_met d keys.Payload ≡ true
+pub payload_kept : (d : Data) → is_some (payload_at d) ≡ true → is_met d keys.Payload ≡ true
 unfolding payload_at
 payload_kept d h = kept keys.Payload d (get (codes "payload") d) (λ v. as_str v >>= octets_of) (λ v. refl) (apart (get (codes "payload") d) as_str octets_of h)
+
+-- a number is one of those that the key of a delivery may have
+numbered_kept : (d : Data) → is_some (number_at (codes "datagram") d) ≡ true → is_met d keys.DatagramOrAll ≡ true
+numbered_kept d h = by (get (codes "datagram") d) h
+  where
+    by : (o : Option Data) → is_some (o >>= whole_number) ≡ true → is_met_by d keys.DatagramOrAll o ≡ true
+    by None k = absurd cc
+    by (Some v) k = rw k refl
 
 datagram_kept : (d : Data) → is_some (number_at (codes "datagram") d) ≡ true → is_met d keys.Datagram ≡ true
 datagram_kept d h = kept keys.Datagram d (get (codes "datagram") d) whole_number (λ v. refl) h
@@ -109,14 +115,14 @@ datagram_kept d h = kept keys.Datagram d (get (codes "datagram") d) whole_number
 length_kept : (d : Data) → is_some (number_at (codes "length") d) ≡ true → is_met d keys.Length ≡ true
 length_kept d h = kept keys.Length d (get (codes "length") d) whole_number (λ v. refl) h
 
-word_kept : (d : Data) (word : List ℕ) → text_at (codes "do") d ≡ Some word → is_met d keys.Do ≡ true
+pub word_kept : (d : Data) (word : List ℕ) → text_at (codes "do") d ≡ Some word → is_met d keys.Do ≡ true
 word_kept d word said = by (get (codes "do") d) said
   where
     by : (o : Option Data) → (o >>= as_str) ≡ Some word → is_met_by d keys.Do o ≡ true
     by None h = absurd cc
     by (Some v) h = ap (λ o. option_map_or (is_good_text (wanted_of keys.Do)) o false) h
 
-expect_kept : (d : Data) (o : Option Data) → is_some (text_if o) ≡ true → is_met_by d keys.Expect o ≡ true
+pub expect_kept : (d : Data) (o : Option Data) → is_some (text_if o) ≡ true → is_met_by d keys.Expect o ≡ true
 expect_kept d None h = refl
 expect_kept d (Some v) h = by (as_str v) h
   where
@@ -177,9 +183,9 @@ send_fit d h =
     let teid = two (teid_at d) _ node.1.next in
     (gate _ _ h, with_key d keys.Node (keys.Teid ∷ keys.Payload ∷ []) (node_kept d node.0) (with_key d keys.Teid (keys.Payload ∷ []) (teid_kept d teid.0) (with_key d keys.Payload [] (payload_kept d (had (payload_at d) _ teid.1.next)) refl)))
 
-deliver_fit : (d : Data) → is_some (deliver_of d) ≡ true → Fit kinds.Deliver d (keys.Datagram ∷ [])
+deliver_fit : (d : Data) → is_some (deliver_of d) ≡ true → Fit kinds.Deliver d (keys.DatagramOrAll ∷ [])
 unfolding deliver_of
-deliver_fit d h = (gate _ _ h, with_key d keys.Datagram [] (datagram_kept d (had (number_at (codes "datagram") d) _ (behind _ _ h))) refl)
+deliver_fit d h = (gate _ _ h, with_key d keys.DatagramOrAll [] (numbered_kept d (had (number_at (codes "datagram") d) _ (behind _ _ h))) refl)
 
 cut_fit : (d : Data) → is_some (cut_of d) ≡ true → Fit kinds.Cut d (keys.Datagram ∷ keys.Length ∷ [])
 unfolding cut_of
@@ -254,7 +260,7 @@ no_key key (array ds) h = refl
 no_key key (object ms) h = absurd cc
 
 -- a flaw of an entry without a word says that it has none
-wordless : (d : Data) (flaw : ObjectFlaw) → IsWordless d flaw → text_at (codes "do") d ≡ None
+pub wordless : (d : Data) (flaw : ObjectFlaw) → IsWordless d flaw → text_at (codes "do") d ≡ None
 wordless d flaws.NoObject is = ap (λ o. o >>= as_str) (no_key (codes "do") d is)
 wordless d (flaws.Unknown text) is = absurd is
 wordless d (flaws.Missing key) is = ap (λ o. o >>= as_str) (subst (λ k. get (key_text k) d ≡ None) is.0 is.1.absent)
@@ -272,30 +278,27 @@ unnamed : (kind : EventKind) (d : Data) (b : Bool) → has_name d kind ≡ b →
 unnamed kind d false has h = has
 unnamed kind d true has h = absurd (true≢false (sym h ∙ ap is_some (has_no_event kind d has)))
 
-same_word : (o : Option (List ℕ)) (a b : List ℕ) → o ≡ Some a → o ≡ Some b → a ≡ b
-same_word o a b h k = (let both : Some a ≡ Some b = sym h ∙ k in cc)
-
--- an entry with a flaw is none
-pub entry_never : (d : Data) (flaw : EventFlaw) → IsEntryFlaw d flaw → is_some (entry_of d) ≡ true → ⊥
+-- an entry with all of its numbers has the keys of its kind
+pub entry_fit : (d : Data) (kind : EventKind) → (text_at (codes "do") d >>= kind_of) ≡ Some kind → is_some (entry_of d) ≡ true → fits (keys_in d kind) d ≡ true
 unfolding entry_of
-entry_never d (event.Entry flaw) is h = true≢false (sym (had (text_at (codes "do") d) _ h) ∙ ap is_some (wordless d flaw is))
-entry_never d (event.NoEvent word) is h =
+entry_fit d kind is h =
     let said = step (text_at (codes "do") d) _ h in
-    let same = same_word (text_at (codes "do") d) said.value (string_bytes word) said.is is.0 in
-    true≢false (sym (had (event_named said.value d) _ said.next) ∙ ap is_some (ap (λ w. event_named w d) same ∙ is.1 d))
-entry_never d (event.Keys kind flaw) is h =
-    let said = step (text_at (codes "do") d) _ h in
-    let kind_is : kind_of said.value ≡ Some kind = sym (ap (λ o. o >>= kind_of) said.is) ∙ is.0 in
+    let kind_is : kind_of said.value ≡ Some kind = sym (ap (λ o. o >>= kind_of) said.is) ∙ is in
     let event = step (event_named said.value d) _ said.next in
     let read : is_some (of_kind kind d) ≡ true = sym (ap is_some (named said.value kind d kind_is)) ∙ had (event_named said.value d) _ said.next in
     let times = step (number_or 1 (get (codes "times") d) >>= within 1 1000) _ event.next in
     let expect = expect_kept d (get (codes "expect") d) (had (text_if (get (codes "expect") d)) _ times.next) in
     let fit = entry_fits kind d (word_kept d said.value said.is) expect (had (number_or 1 (get (codes "times") d) >>= within 1 1000) _ event.next) read in
     let no_name : has_name d kind ≡ false = unnamed kind d (has_name d kind) refl read in
-    true≢false (sym fit ∙ flaw_unfit (event_keys kind) d flaw (subst (λ b. IsFlaw (cond b (named_keys kind) (event_keys kind)) d flaw) no_name is.1))
-entry_never d (event.Nothing name) is h = is
-entry_never d event.TooMany is h = is
+    subst (λ b. fits (cond b (named_keys kind) (event_keys kind)) d ≡ true) (sym no_name) fit
 
-pub none_of : {A : Type 0} (o : Option A) → (is_some o ≡ true → ⊥) → o ≡ None
-none_of None never = refl
-none_of (Some x) never = absurd (never refl)
+-- its word is that of an event
+pub entry_worded : (d : Data) → is_some (entry_of d) ≡ true → is_some (text_at (codes "do") d >>= kind_of) ≡ true
+unfolding entry_of
+entry_worded d h =
+    let said = step (text_at (codes "do") d) _ h in
+    rw said.is (by said.value (kind_of said.value) refl (had (event_named said.value d) _ said.next))
+  where
+    by : (word : List ℕ) (o : Option EventKind) → kind_of word ≡ o → is_some (event_named word d) ≡ true → is_some o ≡ true
+    by word None none k = absurd (true≢false (sym k ∙ ap is_some (none_named word d none)))
+    by word (Some kind) is k = refl

@@ -246,11 +246,9 @@ send_read d h =
     let met = met_in (event_keys kinds.Send) d h in
     gated _ _ (parts (event_keys kinds.Send) d h).only (chain (node_at d) _ (node_met d (met 2 keys.Node refl)) (λ n. chain (teid_at d) _ (teid_met d (met 3 keys.Teid refl)) (λ t. chain (payload_at d) _ (payload_met d (met 4 keys.Payload refl)) (λ o. refl))))
 
-deliver_read : (d : Data) → fits (event_keys kinds.Deliver) d ≡ true → is_some (deliver_of d) ≡ true
+deliver_read : (d : Data) → is_some (number_at (codes "datagram") d) ≡ true → fits (event_keys kinds.Deliver) d ≡ true → is_some (deliver_of d) ≡ true
 unfolding deliver_of
-deliver_read d h =
-    let met = met_in (event_keys kinds.Deliver) d h in
-    gated _ _ (parts (event_keys kinds.Deliver) d h).only (chain (number_at (codes "datagram") d) _ (datagram_met d (met 2 keys.Datagram refl)) (λ n. refl))
+deliver_read d numbered h = gated _ _ (parts (event_keys kinds.Deliver) d h).only (chain (number_at (codes "datagram") d) _ numbered (λ n. refl))
 
 cut_read : (d : Data) → fits (event_keys kinds.Cut) d ≡ true → is_some (cut_of d) ≡ true
 unfolding cut_of
@@ -258,21 +256,26 @@ cut_read d h =
     let met = met_in (event_keys kinds.Cut) d h in
     gated _ _ (parts (event_keys kinds.Cut) d h).only (chain (number_at (codes "datagram") d) _ (datagram_met d (met 2 keys.Datagram refl)) (λ n. chain (number_at (codes "length") d) _ (length_met d (met 3 keys.Length refl)) (λ l. refl)))
 
+-- the datagram of a delivery has a number
+abbrev pub is_numbered : EventKind → Data → Bool
+is_numbered kinds.Deliver d = is_some (number_at (codes "datagram") d)
+is_numbered _ d = true
+
 -- the event of a kind is read
-kind_read : (kind : EventKind) (d : Data) → fits (event_keys kind) d ≡ true → is_some (of_kind kind d) ≡ true
+kind_read : (kind : EventKind) (d : Data) → is_numbered kind d ≡ true → fits (event_keys kind) d ≡ true → is_some (of_kind kind d) ≡ true
 unfolding delete_session_of release_session_of end_marker_of echo_of restart_of
-kind_read kinds.CreateSession d h = create_session_read d h
-kind_read kinds.DeleteSession d h = chain (lone_teid_of d) _ (lone_teid d h) (λ t. refl)
-kind_read kinds.ReleaseSession d h = chain (lone_teid_of d) _ (lone_teid d h) (λ t. refl)
-kind_read kinds.EndMarker d h = chain (lone_teid_of d) _ (lone_teid d h) (λ t. refl)
-kind_read kinds.CreateBearer d h = create_bearer_read d h
-kind_read kinds.DeleteBearer d h = delete_bearer_read d h
-kind_read kinds.Echo d h = chain (lone_node_of d) _ (lone_node d h) (λ n. refl)
-kind_read kinds.Restart d h = chain (lone_node_of d) _ (lone_node d h) (λ n. refl)
-kind_read kinds.Tick d h = tick_read d h
-kind_read kinds.Send d h = send_read d h
-kind_read kinds.Deliver d h = deliver_read d h
-kind_read kinds.Cut d h = cut_read d h
+kind_read kinds.CreateSession d numbered h = create_session_read d h
+kind_read kinds.DeleteSession d numbered h = chain (lone_teid_of d) _ (lone_teid d h) (λ t. refl)
+kind_read kinds.ReleaseSession d numbered h = chain (lone_teid_of d) _ (lone_teid d h) (λ t. refl)
+kind_read kinds.EndMarker d numbered h = chain (lone_teid_of d) _ (lone_teid d h) (λ t. refl)
+kind_read kinds.CreateBearer d numbered h = create_bearer_read d h
+kind_read kinds.DeleteBearer d numbered h = delete_bearer_read d h
+kind_read kinds.Echo d numbered h = chain (lone_node_of d) _ (lone_node d h) (λ n. refl)
+kind_read kinds.Restart d numbered h = chain (lone_node_of d) _ (lone_node d h) (λ n. refl)
+kind_read kinds.Tick d numbered h = tick_read d h
+kind_read kinds.Send d numbered h = send_read d h
+kind_read kinds.Deliver d numbered h = deliver_read d numbered h
+kind_read kinds.Cut d numbered h = cut_read d h
 
 -- how often it happens is read
 times_read : (kind : EventKind) (d : Data) → fits (event_keys kind) d ≡ true → is_some (number_or 1 (get (codes "times") d) >>= within 1 1000) ≡ true
@@ -341,8 +344,8 @@ pub none_named : (word : List ℕ) (d : Data) → kind_of word ≡ None → even
 none_named word d is = by_word word d ∙ ap (λ o. of_named o d) is
 
 -- an entry with which nothing is wrong is read
-pub entry_read : (d : Data) (word : List ℕ) (kind : EventKind) → text_at (codes "do") d ≡ Some word → kind_of word ≡ Some kind → fits (event_keys kind) d ≡ true → IsSome (entry_of d)
+pub entry_read : (d : Data) (word : List ℕ) (kind : EventKind) → text_at (codes "do") d ≡ Some word → kind_of word ≡ Some kind → is_numbered kind d ≡ true → fits (event_keys kind) d ≡ true → IsSome (entry_of d)
 unfolding entry_of
-entry_read d word kind said is h =
+entry_read d word kind said is numbered h =
     is_some_by _ (pinned (text_at (codes "do") d) word _ said
-    (chain (event_named word d) _ (rw (named word kind d is) (kind_read kind d h)) (λ e. chain (number_or 1 (get (codes "times") d) >>= within 1 1000) _ (times_read kind d h) (λ t. chain (text_if (get (codes "expect") d)) _ (expect_read kind d h) (λ x. refl)))))
+    (chain (event_named word d) _ (rw (named word kind d is) (kind_read kind d numbered h)) (λ e. chain (number_or 1 (get (codes "times") d) >>= within 1 1000) _ (times_read kind d h) (λ t. chain (text_if (get (codes "expect") d)) _ (expect_read kind d h) (λ x. refl)))))

@@ -46,6 +46,7 @@ key_text keys.Teid = codes "teid"
 key_text keys.Node = codes "node"
 key_text keys.Payload = codes "payload"
 key_text keys.Datagram = codes "datagram"
+key_text keys.DatagramOrAll = codes "datagram"
 key_text keys.Length = codes "length"
 key_text keys.Session = codes "session"
 key_text keys.Bearer = codes "bearer"
@@ -91,7 +92,7 @@ event_keys kinds.Echo = keys.Do ∷ keys.Expect ∷ keys.Node ∷ []
 event_keys kinds.Restart = keys.Do ∷ keys.Expect ∷ keys.Node ∷ []
 event_keys kinds.Tick = keys.Do ∷ keys.Expect ∷ keys.Node ∷ keys.Times ∷ []
 event_keys kinds.Send = keys.Do ∷ keys.Expect ∷ keys.Node ∷ keys.Teid ∷ keys.Payload ∷ []
-event_keys kinds.Deliver = keys.Do ∷ keys.Expect ∷ keys.Datagram ∷ []
+event_keys kinds.Deliver = keys.Do ∷ keys.Expect ∷ keys.DatagramOrAll ∷ []
 event_keys kinds.Cut = keys.Do ∷ keys.Expect ∷ keys.Datagram ∷ keys.Length ∷ []
 
 -- the same where a session or bearer is named in place of its TEID
@@ -104,15 +105,30 @@ named_keys kinds.EndMarker = keys.Do ∷ keys.Expect ∷ keys.Bearer ∷ []
 named_keys kinds.Send = keys.Do ∷ keys.Expect ∷ keys.Node ∷ keys.Bearer ∷ keys.Payload ∷ []
 named_keys kind = event_keys kind
 
+-- the key at which an event of this kind may name a session or bearer
+abbrev pub name_key : EventKind → Option Key
+name_key kinds.DeleteSession = Some keys.Session
+name_key kinds.ReleaseSession = Some keys.Session
+name_key kinds.CreateBearer = Some keys.Session
+name_key kinds.DeleteBearer = Some keys.Session
+name_key kinds.EndMarker = Some keys.Bearer
+name_key kinds.Send = Some keys.Bearer
+name_key _ = None
+
+-- something stands at that key
+abbrev pub is_named_at : Data → Option Key → Bool
+is_named_at d None = false
+is_named_at d (Some key) = is_some (get (key_text key) d)
+
 -- the object has a name where an event of this kind may have one
 abbrev pub has_name : Data → EventKind → Bool
-has_name d kinds.DeleteSession = is_some (get (codes "session") d)
-has_name d kinds.ReleaseSession = is_some (get (codes "session") d)
-has_name d kinds.CreateBearer = is_some (get (codes "session") d)
-has_name d kinds.DeleteBearer = is_some (get (codes "session") d)
-has_name d kinds.EndMarker = is_some (get (codes "bearer") d)
-has_name d kinds.Send = is_some (get (codes "bearer") d)
-has_name d kind = false
+has_name d kind = is_named_at d (name_key kind)
+
+-- the keys of the name of a session or bearer
+abbrev pub member_keys : Key → List Key
+member_keys keys.Session = keys.Imsi ∷ keys.Apn ∷ []
+member_keys keys.Bearer = keys.Imsi ∷ keys.Apn ∷ keys.Ebi ∷ []
+member_keys _ = []
 
 -- the keys that an object is to have as an event of this kind
 abbrev pub keys_in : Data → EventKind → List Key
@@ -165,6 +181,7 @@ wanted_of keys.Teid = wanted.Teid
 wanted_of keys.Node = wanted.Gateway
 wanted_of keys.Payload = wanted.Octets
 wanted_of keys.Datagram = wanted.Number
+wanted_of keys.DatagramOrAll = wanted.NumberOrAll
 wanted_of keys.Length = wanted.Number
 wanted_of keys.Session = wanted.Session
 wanted_of keys.Bearer = wanted.Bearer
@@ -183,6 +200,7 @@ is_good_text wanted.AccessPoint text = is_some (apn_of text)
 is_good_text wanted.Imsi text = is_some (imsi_of text)
 is_good_text wanted.Teid text = is_some (teid_of text)
 is_good_text wanted.Gateway text = is_some (role_of text)
+is_good_text wanted.NumberOrAll text = bytes_eq text (codes "all")
 is_good_text _ text = false
 
 -- the octets that a value is in hexadecimal digits
@@ -194,6 +212,7 @@ abbrev pub is_good : Wanted → Data → Bool
 is_good wanted.Object d = is_some (as_object d)
 is_good wanted.List d = is_some (as_array d)
 is_good wanted.Number d = is_some (whole_number d)
+is_good wanted.NumberOrAll d = is_some (whole_number d) || option_map_or (is_good_text wanted.NumberOrAll) (as_str d) false
 is_good (wanted.Within low high) d = is_some (whole_number d >>= within low high)
 is_good wanted.AccessPoints d = is_some (as_array d >>= λ items. if nat_le (count_of items) 16 then access_points_in items else None)
 is_good wanted.Octets d = is_some (octets_in d)
@@ -202,7 +221,7 @@ is_good wanted.Session d = is_some (session_name_of d)
 is_good wanted.Bearer d = is_some (bearer_name_of d)
 is_good kind d = option_map_or (is_good_text kind) (as_str d) false
 
--- the object may do without the key: a pool of IPv6 addresses has both of its keys or none
+-- the object may do without the key: a pool of IPv6 addresses has both of its keys or none, and an event without `datagram` is about the one that was sent last
 abbrev pub may_be_absent : Data → Key → Bool
 may_be_absent d keys.T3Response = true
 may_be_absent d keys.N3Requests = true
@@ -211,6 +230,7 @@ may_be_absent d keys.Templates = true
 may_be_absent d keys.Expect = true
 may_be_absent d keys.Times = true
 may_be_absent d keys.Pdn = true
+may_be_absent d keys.DatagramOrAll = true
 may_be_absent d keys.Pool6 = is_none (get (codes "count6") d)
 may_be_absent d keys.Count6 = is_none (get (codes "pool6") d)
 may_be_absent d _ = false

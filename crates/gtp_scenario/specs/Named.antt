@@ -1,5 +1,5 @@
 -- Entries that name a datagram, a session or a bearer in place of its number.
-use Rattle.std.specs.Prelude.{ℕ, List, [], ◌∷◌, codes, bytes_eq, if◌then◌else◌, Option, Some, None}
+use Rattle.std.specs.Prelude.{◌≡◌, ◌⊎◌, ℕ, List, [], ◌∷◌, true, codes, bytes_eq, if◌then◌else◌, Option, Some, None, is_some}
 use Rattle.serde_json.specs.Data.{Data}
 use Rattle.serde_json.specs.Find.{get, as_str}
 use Rattle.gtp_machine.specs.declared.role.Role.{Role}
@@ -14,7 +14,7 @@ use Rattle.gtp_scenario.specs.Keys.{kind_of}
 use Rattle.gtp_scenario.specs.Steps.{◌>>=◌}
 use Rattle.gtp_scenario.specs.Json.{text_at, text_if, has_only}
 use Rattle.gtp_scenario.specs.Events.{node_at, ebi_at, tft_at, payload_at, qos}
-use Rattle.gtp_scenario.specs.Entries.{Entry}
+use Rattle.gtp_scenario.specs.Entries.{Entry, entry_of}
 use Rattle.gtp_scenario.specs.Names.{session_name_of, bearer_name_of}
 
 -- ---- names
@@ -121,3 +121,21 @@ delivery expect number = record { event = Deliver number; times = 1; expect = ex
 -- what is expected of a delivery without a number
 unfoldable pub expected_of : Data → Option (Option (List ℕ))
 expected_of d = if has_only (codes "do" ∷ codes "expect" ∷ codes "datagram" ∷ []) d then text_if (get (codes "expect") d) else None
+
+-- ---- entries with which nothing is wrong
+
+-- all that an entry says beside this name is right
+abbrev pub IsRightBeside : Name → Data → Type 0
+IsRightBeside Newest d = is_some (expected_of d) ≡ true
+IsRightBeside All d = is_some (expected_of d) ≡ true
+IsRightBeside (Session node name) d = (teid : ℕ) → is_some (entry_about teid d) ≡ true
+IsRightBeside (Bearer node name) d = (teid : ℕ) → is_some (entry_about teid d) ≡ true
+
+pub record IsRightNamed (d : Data) : Type 0 where
+  pub name : Name
+  pub named : name_of d ≡ Some name
+  pub beside : IsRightBeside name d
+
+-- an entry that has all of its numbers, or a name
+abbrev pub IsRight : Data → Type 0
+IsRight d = (is_some (entry_of d) ≡ true) ⊎ IsRightNamed d

@@ -1,5 +1,5 @@
 -- Names of sessions and bearers.
-use Rattle.std.specs.Prelude.{ℕ, [], ◌∷◌, codes, if◌then◌else◌, Option, Some, None}
+use Rattle.std.specs.Prelude.{[], ◌∷◌, codes, if◌then◌else◌, Option, Some, None}
 use Rattle.serde_json.specs.Data.{Data}
 use Rattle.gtp_scenario.specs.declared.name.SessionName.{SessionName}
 use Rattle.gtp_scenario.specs.declared.name.BearerName.{BearerName}

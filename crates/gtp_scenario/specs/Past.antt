@@ -1,5 +1,5 @@
 -- What has happened before an entry, and what a name stands for then.
-use Rattle.std.specs.Prelude.{◌≡◌, ℕ, zero, suc, ◌+◌, ◌-◌, ◌==◌, List, [], ◌∷◌, ◌++◌, length, map, not, Bool, false, ◌&&◌, bytes_eq, if◌then◌else◌, Option, Some, None}
+use Rattle.std.specs.Prelude.{◌≡◌, ℕ, zero, suc, ◌-◌, ◌==◌, List, [], ◌∷◌, ◌++◌, length, map, not, Bool, false, ◌&&◌, bytes_eq, Option, Some, None}
 use Rattle.std.specs.FinMap.{entries}
 use Rattle.std.specs.List.{filter, range_with_len, last_or}
 use Rattle.std.specs.Option.{option_map_or}

@@ -26,6 +26,7 @@ use Rattle.gtp_scenario.specs.declared.reason.head.HeadFlaw.{HeadFlaw}
 use Rattle.gtp_scenario.specs.declared.reason.head.HeadFlaw.TheVariants as head
 use Rattle.gtp_scenario.specs.declared.reason.gateway.GatewayFlaw.{GatewayFlaw}
 use Rattle.gtp_scenario.specs.declared.reason.gateway.GatewayFlaw.TheVariants as gateway
+use Rattle.gtp_scenario.specs.declared.reason.kind.EventKind.{EventKind}
 use Rattle.gtp_scenario.specs.declared.reason.event.EventFlaw.{EventFlaw}
 use Rattle.gtp_scenario.specs.declared.reason.event.EventFlaw.TheVariants as event
 use Rattle.gtp_scenario.specs.declared.reason.not_json.JsonFlaw.{JsonFlaw}
@@ -35,9 +36,9 @@ use Rattle.gtp_scenario.specs.declared.reason.Reason.TheVariants as reasons
 use Rattle.gtp_scenario.specs.Steps.{◌>>=◌}
 use Rattle.gtp_scenario.specs.Json.{text_at, is_among, has_only}
 use Rattle.gtp_scenario.specs.Texts.{apn_of}
-use Rattle.gtp_scenario.specs.Events.{event_named, role_of}
+use Rattle.gtp_scenario.specs.Events.{role_of}
 use Rattle.gtp_scenario.specs.Heads.{setup_of, access_points_at, pool_at, prefixes_at, events_at}
-use Rattle.gtp_scenario.specs.Keys.{key_text, wanted_of, is_good, may_be_absent, is_met, is_unmet, kind_of, keys_in, scenario_keys, serving_keys, packet_keys, template_keys, serving_gateway_keys, packet_gateway_keys, peer_keys}
+use Rattle.gtp_scenario.specs.Keys.{key_text, wanted_of, is_good, may_be_absent, is_met, is_unmet, kind_of, keys_in, name_key, member_keys, scenario_keys, serving_keys, packet_keys, template_keys, serving_gateway_keys, packet_gateway_keys, peer_keys}
 use Rattle.gtp_scenario.specs.Named.{name_of}
 use Rattle.gtp_scenario.specs.Scenarios.{Scenario, json_of, most_octets, IsListRead}
 
@@ -135,19 +136,25 @@ IsGatewayFlaw d (gateway.Peer flaw) = IsFlawAt (IsFlaw peer_keys) (codes "peer")
 
 -- ---- events
 
--- no event has this name, whatever else is said of it
-abbrev pub NamesNoEvent : List ℕ → Type 0
-NamesNoEvent word = (d : Data) → event_named word d ≡ None
+-- its word is that of an event of this kind
+abbrev pub IsOfKind : Data → EventKind → Type 0
+IsOfKind d kind = (text_at (codes "do") d >>= kind_of) ≡ Some kind
 
 -- what is wrong with an entry that has no word
 abbrev pub IsWordless : Data → ObjectFlaw → Type 0
 IsWordless d flaw = IsFlawOfKey keys.Do d flaw
 
+-- what is wrong with the session or bearer that is named at this key
+abbrev pub IsNameFlaw : Data → Option Key → ObjectFlaw → Type 0
+IsNameFlaw d None flaw = ⊥
+IsNameFlaw d (Some key) flaw = IsFlawAt (IsFlaw (member_keys key)) (key_text key) d flaw
+
 -- what is wrong with an entry itself
 abbrev pub IsEntryFlaw : Data → EventFlaw → Type 0
 IsEntryFlaw d (event.Entry flaw) = IsWordless d flaw
-IsEntryFlaw d (event.NoEvent word) = (text_at (codes "do") d ≡ Some (string_bytes word)) × NamesNoEvent (string_bytes word)
-IsEntryFlaw d (event.Keys kind flaw) = ((text_at (codes "do") d >>= kind_of) ≡ Some kind) × IsFlaw (keys_in d kind) d flaw
+IsEntryFlaw d (event.NoEvent word) = (text_at (codes "do") d ≡ Some (string_bytes word)) × (kind_of (string_bytes word) ≡ None)
+IsEntryFlaw d (event.Keys kind flaw) = IsOfKind d kind × IsFlaw (keys_in d kind) d flaw
+IsEntryFlaw d (event.Named kind flaw) = IsOfKind d kind × IsNameFlaw d (name_key kind) flaw
 IsEntryFlaw d (event.Nothing name) = ⊥
 IsEntryFlaw d event.TooMany = ⊥
 

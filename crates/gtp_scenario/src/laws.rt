@@ -1,6 +1,6 @@
 //! The laws of scenarios. Their functions do nothing: each clause is a law.
 
-ghost use Rattle.std.specs.Prelude.{◌≡◌, ◌↔◌, ◌<◌, ◌≤◌, Result, Ok, Some, None, IsSome, ℕ, List, take, option_and_then};
+ghost use Rattle.std.specs.Prelude.{◌≡◌, ◌↔◌, ◌<◌, ◌≤◌, Result, Ok, Some, IsSome, ℕ, List, take, option_and_then};
 ghost use Rattle.serde_json.specs.Data.{Data};
 ghost use Rattle.serde_json.specs.Read.{read};
 ghost use Rattle.serde_json.specs.Written.{compact_text};
@@ -9,6 +9,7 @@ ghost use Rattle.gtp_scenario.specs.declared.fault.Refusal.{Refusal};
 ghost use Rattle.gtp_scenario.specs.declared.reason.event.EventFlaw.{EventFlaw};
 ghost use Rattle.gtp_scenario.specs.declared.reason.head.HeadFlaw.{HeadFlaw};
 ghost use Rattle.gtp_scenario.specs.Heads.{setup_of, events_at};
+ghost use Rattle.gtp_scenario.specs.Named.{IsRight};
 ghost use Rattle.gtp_scenario.specs.Reasons.{IsHeadFlaw, IsEntryFlaw};
 ghost use Rattle.gtp_scenario.specs.Scenarios.{Scenario, most_octets, most_events, count_in, IsReading};
 ghost use Rattle.gtp_scenario.specs.Spelling.{spelling, IsEvent, FitsIn64Bits};
@@ -40,9 +41,9 @@ pub fn scenarios_have_few_events()
         count_in scenario.entries ≤ most_events }
 {}
 
-/// A head with a flaw is refused, and an entry with a flaw has not all of its numbers.
+/// A head with a flaw is refused. An entry with a flaw has neither all of its numbers nor a name beside which all is right.
 pub fn flaws_are_refused()
     ensures head { (d : Data) (flaw : HeadFlaw) → IsHeadFlaw d flaw →
         IsSome (setup_of d) → ¬ (IsSome (events_at d)) }
-    ensures entry { (d : Data) (flaw : EventFlaw) → IsEntryFlaw d flaw → entry_of d ≡ None }
+    ensures entry { (d : Data) (flaw : EventFlaw) → IsEntryFlaw d flaw → ¬ IsRight d }
 {}

@@ -1,25 +1,14 @@
 -- Objects with which nothing is wrong; for private clauses.
-use Rattle.std.specs.Prelude.{◌≡◌, ◌⊎◌, ℕ, List, Bool, true, false, ◌&&◌, codes, Some, IsSome, is_some}
+use Rattle.std.specs.Prelude.{◌≡◌, ℕ, List, Bool, true, ◌&&◌, codes, Some, IsSome}
 use Rattle.serde_json.specs.Data.{Data, Items, no_items, item}
 use Rattle.serde_json.specs.Find.{get, as_array}
 use Rattle.gtp_machine.specs.declared.role.Role.{Role}
 use Rattle.gtp_machine.specs.declared.role.Role.TheVariants.{Serving, Packet}
 use Rattle.gtp_scenario.specs.declared.reason.key.Key.{Key}
-use Rattle.gtp_scenario.specs.declared.name.Name.{Name}
-use Rattle.gtp_scenario.specs.declared.name.Name.TheVariants.{Newest, All, Session, Bearer}
-use Rattle.gtp_scenario.specs.Entries.{entry_of}
-use Rattle.gtp_scenario.specs.Named.{name_of, entry_about}
 use Rattle.gtp_scenario.specs.Steps.{◌>>=◌}
 use Rattle.gtp_scenario.specs.Heads.{access_points_at, pool_at, prefixes_at}
 use Rattle.gtp_scenario.specs.Keys.{serving_keys, packet_keys, template_keys, serving_gateway_keys, packet_gateway_keys, peer_keys}
 use Rattle.gtp_scenario.specs.Reasons.{fits, names_one_of, role_at}
-
--- a session or bearer
-abbrev pub is_context : Name → Bool
-is_context Newest = false
-is_context All = false
-is_context (Session node name) = true
-is_context (Bearer node name) = true
 
 abbrev pub is_template : List (List ℕ) → Data → Bool
 is_template names d = fits template_keys d && names_one_of names d
@@ -38,17 +27,6 @@ pub record IsPacket (known : List Key) (d : Data) : Type 0 where
   pub pool : IsSome (pool_at d)
   pub prefixes : IsSome (prefixes_at d)
   pub templates : AreTemplatesOf d
-
--- an entry, whatever TEID the session or bearer has that it names
-pub record IsRightNamed (d : Data) : Type 0 where
-  pub name : Name
-  pub named : name_of d ≡ Some name
-  pub context : is_context name ≡ true
-  pub right : (teid : ℕ) → is_some (entry_about teid d) ≡ true
-
--- an entry, with all of its numbers or a name
-abbrev pub IsRight : Data → Type 0
-IsRight d = (is_some (entry_of d) ≡ true) ⊎ IsRightNamed d
 
 -- both gateways, by the keys of a scenario
 abbrev pub IsPacketAt : Data → Type 0

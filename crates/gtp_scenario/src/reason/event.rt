@@ -1,12 +1,13 @@
 //! What is wrong with an entry of the list of events.
 
-ghost use Rattle.std.specs.Prelude.{◌≡◌, Some, None, codes, IfOk, MatchOption};
+ghost use Rattle.std.specs.Prelude.{◌≡◌, Some, None, codes, IfOk, IfSome, MatchOption};
 ghost use Rattle.gtp_scenario.specs.Json.{text_at};
-ghost use Rattle.gtp_scenario.specs.reading.Faultless.{IsRight};
-ghost use Rattle.gtp_scenario.specs.Reasons.{IsWordless, IsEntryFlaw};
+ghost use Rattle.gtp_scenario.specs.Named.{IsRight};
+ghost use Rattle.gtp_scenario.specs.Keys.{keys_in, name_key};
+ghost use Rattle.gtp_scenario.specs.Reasons.{IsOfKind, IsWordless, IsFlaw, IsNameFlaw, IsEntryFlaw};
 ghost use Rattle.gtp_scenario.specs.Trees.{view};
 
-use crate::members::{has, is_object, text_at};
+use crate::members::{has, is_object, text_at, value_at};
 use crate::name::Name;
 use crate::reason::flaw::{ObjectFlaw, flaw_of};
 use crate::reason::key::Key;
@@ -24,6 +25,8 @@ pub enum EventFlaw {
     NoEvent(String),
     /// Something is wrong with the keys that an event of this kind has.
     Keys(EventKind, ObjectFlaw),
+    /// Something is wrong in the object by which it names a session or bearer.
+    Named(EventKind, ObjectFlaw),
     /// What it names is not there: no datagram was sent, or the gateway has no such session or bearer.
     Nothing(Name),
     /// With it there are more than 100,000 events.
@@ -45,6 +48,46 @@ fn wordless(value: &Tree<'_, '_>) -> ObjectFlaw
     }
 }
 
+/// What is wrong in the object by which an entry of this kind names a session or bearer, if it is one.
+fn name_flaw(
+    alloc: Global,
+    kind: EventKind,
+    value: &Tree<'_, '_>,
+) -> Result<Option<ObjectFlaw>, Memory>
+    ensures { IfOk result (λ flaw. IfSome flaw (IsNameFlaw (view value.now) (name_key kind))) }
+{
+    let Some(key) = kind.name_key() else {
+        return Ok(None);
+    };
+    let Some(name) = value_at(value, key.text()) else {
+        return Ok(None);
+    };
+    if !is_object(&name) {
+        return Ok(None);
+    }
+    flaw_of(alloc, key.member_keys(), &name)
+}
+
+/// What is wrong with an entry of this kind that has this flaw: of a name that is bad, what is wrong in it.
+fn keys_flaw(
+    alloc: Global,
+    kind: EventKind,
+    flaw: ObjectFlaw,
+    value: &Tree<'_, '_>,
+) -> Result<EventFlaw, Memory>
+    requires kind { IsOfKind (view value.now) kind }
+    requires flaw { IsFlaw (keys_in (view value.now) kind) (view value.now) flaw }
+    ensures { IfOk result (IsEntryFlaw (view value.now)) }
+{
+    let (ObjectFlaw::Bad(Key::Session) | ObjectFlaw::Bad(Key::Bearer)) = flaw else {
+        return Ok(EventFlaw::Keys(kind, flaw));
+    };
+    match name_flaw(alloc, kind, value)? {
+        Some(inner) => Ok(EventFlaw::Named(kind, inner)),
+        None => Ok(EventFlaw::Keys(kind, flaw)),
+    }
+}
+
 /// What is wrong with an entry that has this word.
 fn worded(alloc: Global, word: &str, value: &Tree<'_, '_>) -> Result<Option<EventFlaw>, Memory>
     requires { text_at (codes "do") (view value.now) ≡ Some word.now }
@@ -55,7 +98,7 @@ fn worded(alloc: Global, word: &str, value: &Tree<'_, '_>) -> Result<Option<Even
         return Ok(Some(EventFlaw::NoEvent(String::from_str(alloc, word)?)));
     };
     match flaw_of(alloc, kind.keys_in(value), value)? {
-        Some(flaw) => Ok(Some(EventFlaw::Keys(kind, flaw))),
+        Some(flaw) => Ok(Some(keys_flaw(alloc, kind, flaw, value)?)),
         None => Ok(None),
     }
 }

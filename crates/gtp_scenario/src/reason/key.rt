@@ -1,7 +1,7 @@
 //! Keys of a scenario's objects.
 
 ghost use Rattle.std.specs.Prelude.{◌≡◌};
-ghost use Rattle.gtp_scenario.specs.Keys.{key_text, wanted_of, may_be_absent};
+ghost use Rattle.gtp_scenario.specs.Keys.{key_text, wanted_of, may_be_absent, member_keys};
 ghost use Rattle.gtp_scenario.specs.Trees.{view};
 
 use crate::members::has;
@@ -38,6 +38,8 @@ pub enum Key {
     Node,
     Payload,
     Datagram,
+    /// The `datagram` of an event that may be about all that wait, or about the one that was sent last.
+    DatagramOrAll,
     Length,
     /// A session, by its subscriber and access point.
     Session,
@@ -84,7 +86,7 @@ impl Key {
             Key::Teid => "teid",
             Key::Node => "node",
             Key::Payload => "payload",
-            Key::Datagram => "datagram",
+            Key::Datagram | Key::DatagramOrAll => "datagram",
             Key::Length => "length",
             Key::Session => "session",
             Key::Bearer => "bearer",
@@ -109,6 +111,7 @@ impl Key {
             Key::Ebi => Wanted::Within(5, 15),
             Key::Pdn => Wanted::Within(0, 7),
             Key::Datagram | Key::Length => Wanted::Number,
+            Key::DatagramOrAll => Wanted::NumberOrAll,
             Key::Serving | Key::Packet | Key::Peer => Wanted::Object,
             Key::Events | Key::Templates => Wanted::List,
             Key::Do | Key::Expect => Wanted::Text,
@@ -127,13 +130,24 @@ impl Key {
         }
     }
 
+    /// The keys of its value, where that is the name of a session or bearer.
+    pub(crate) fn member_keys(self) -> &'static [Key]
+        ensures { result.now ≡ member_keys self }
+    {
+        match self {
+            Key::Session => &[Key::Imsi, Key::Apn],
+            Key::Bearer => &[Key::Imsi, Key::Apn, Key::Ebi],
+            _ => &[],
+        }
+    }
+
     /// Whether this object may do without it. A pool of IPv6 addresses has both of its keys or none.
     pub(crate) fn may_be_absent(self, value: &Tree<'_, '_>) -> bool
         ensures { result ≡ may_be_absent (view value.now) self }
     {
         match self {
             Key::T3Response | Key::N3Requests | Key::Hold | Key::Templates => true,
-            Key::Expect | Key::Times | Key::Pdn => true,
+            Key::Expect | Key::Times | Key::Pdn | Key::DatagramOrAll => true,
             Key::Pool6 => !has(value, "count6"),
             Key::Count6 => !has(value, "pool6"),
             _ => false,

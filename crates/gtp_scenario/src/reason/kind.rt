@@ -1,7 +1,7 @@
 //! Kinds of events.
 
 ghost use Rattle.std.specs.Prelude.{◌≡◌, Some};
-ghost use Rattle.gtp_scenario.specs.Keys.{kind_of, event_keys, named_keys, has_name, keys_in};
+ghost use Rattle.gtp_scenario.specs.Keys.{kind_of, event_keys, named_keys, name_key, has_name, keys_in};
 ghost use Rattle.gtp_scenario.specs.Trees.{view};
 
 use crate::members::has;
@@ -88,7 +88,7 @@ impl EventKind {
             EventKind::Echo | EventKind::Restart => &[Key::Do, Key::Expect, Key::Node],
             EventKind::Tick => &[Key::Do, Key::Expect, Key::Node, Key::Times],
             EventKind::Send => &[Key::Do, Key::Expect, Key::Node, Key::Teid, Key::Payload],
-            EventKind::Deliver => &[Key::Do, Key::Expect, Key::Datagram],
+            EventKind::Deliver => &[Key::Do, Key::Expect, Key::DatagramOrAll],
             EventKind::Cut => &[Key::Do, Key::Expect, Key::Datagram, Key::Length],
         }
     }
@@ -109,17 +109,27 @@ impl EventKind {
         }
     }
 
-    /// Whether an object has a name where an event of this kind may have one.
-    fn has_name(self, value: &Tree<'_, '_>) -> bool
-        ensures { result ≡ has_name (view value.now) self }
+    /// The key at which it may name a session or bearer in place of a TEID.
+    pub(crate) fn name_key(self) -> Option<Key>
+        ensures { result ≡ name_key self }
     {
         match self {
             EventKind::DeleteSession
             | EventKind::ReleaseSession
             | EventKind::CreateBearer
-            | EventKind::DeleteBearer => has(value, "session"),
-            EventKind::EndMarker | EventKind::Send => has(value, "bearer"),
-            _ => false,
+            | EventKind::DeleteBearer => Some(Key::Session),
+            EventKind::EndMarker | EventKind::Send => Some(Key::Bearer),
+            _ => None,
+        }
+    }
+
+    /// Whether an object has a name where an event of this kind may have one.
+    fn has_name(self, value: &Tree<'_, '_>) -> bool
+        ensures { result ≡ has_name (view value.now) self }
+    {
+        match self.name_key() {
+            Some(key) => has(value, key.text()),
+            None => false,
         }
     }
 

@@ -7,10 +7,12 @@ use crate::reason::flaw::ObjectFlaw;
 use crate::reason::gateway::GatewayFlaw;
 use crate::reason::head::HeadFlaw;
 use crate::reason::key::Key;
+use crate::reason::kind::EventKind;
 use crate::reason::not_json::JsonFlaw;
 use crate::reason::packet::PacketFlaw;
 use crate::reason::template::TemplateFlaw;
 use crate::reason::wanted::Wanted;
+use gtp_gateway::Role;
 use std::fmt;
 
 /// The most octets that are printed of a key or a word of a scenario.
@@ -71,6 +73,9 @@ impl fmt::Display for Wanted {
             Wanted::List => f.write_str("a list is wanted"),
             Wanted::Text => f.write_str("a text is wanted"),
             Wanted::Number => write!(f, "a number from 0 to {} is wanted", u64::MAX),
+            Wanted::NumberOrAll => {
+                write!(f, "a number from 0 to {} or \"all\" is wanted", u64::MAX)
+            }
             Wanted::Within(low, high) => write!(f, "a number from {low} to {high} is wanted"),
             Wanted::Address => f.write_str("an IPv4 address is wanted"),
             Wanted::Address6 => f.write_str("32 hexadecimal digits are wanted"),
@@ -120,6 +125,8 @@ enum Place {
     Peer,
     /// A template of the packet gateway at this place.
     Template(PacketPlace, usize),
+    /// The session or bearer that an event names at this key.
+    Name(Key),
 }
 
 /// What a key of the object begins with.
@@ -131,6 +138,7 @@ impl fmt::Display for Place {
             Place::Packet => f.write_str("packet."),
             Place::Peer => f.write_str("peer."),
             Place::Template(packet, place) => write!(f, "{packet}templates[{place}]."),
+            Place::Name(key) => write!(f, "{key}."),
         }
     }
 }
@@ -216,6 +224,19 @@ impl fmt::Display for HeadFlaw {
     }
 }
 
+/// The gateway that lacks what is named.
+#[derive(Clone, Copy)]
+struct Owner(Role);
+
+impl fmt::Display for Owner {
+    fn fmt<W: fmt::Write>(&self, f: &mut fmt::Formatter<W>) -> fmt::Result {
+        match self.0 {
+            Role::Serving => f.write_str("the serving gateway"),
+            Role::Packet => f.write_str("the packet gateway"),
+        }
+    }
+}
+
 /// That nothing has this name.
 #[derive(Clone, Copy)]
 struct Lacking(Name);
@@ -224,24 +245,50 @@ impl fmt::Display for Lacking {
     fn fmt<W: fmt::Write>(&self, f: &mut fmt::Formatter<W>) -> fmt::Result {
         match self.0 {
             Name::Newest | Name::All => f.write_str("no datagram was sent"),
-            Name::Session(_, name) => {
+            Name::Session(role, name) => {
                 write!(
                     f,
-                    "no session of IMSI {} at {}",
-                    name.imsi, name.access_point
+                    "{} has no session of IMSI {} at {}",
+                    Owner(role),
+                    name.imsi,
+                    name.access_point
                 )
             }
-            Name::Bearer(_, name) => {
+            Name::Bearer(role, name) => {
                 let session = name.session;
                 write!(
                     f,
-                    "no bearer {} of IMSI {} at {}",
+                    "{} has no bearer {} of IMSI {} at {}",
+                    Owner(role),
                     name.identity.number(),
                     session.imsi,
                     session.access_point
                 )
             }
         }
+    }
+}
+
+/// Whether an event that is to have either a TEID or a name has both or neither.
+fn is_about_teid(flaw: &ObjectFlaw) -> bool {
+    match flaw {
+        ObjectFlaw::Unknown(key) => key.as_str() == Key::Teid.text(),
+        ObjectFlaw::Missing(key) => *key == Key::Teid,
+        _ => false,
+    }
+}
+
+/// What is wrong with the keys of an event of this kind.
+fn write_keys<W: fmt::Write>(
+    f: &mut fmt::Formatter<W>,
+    kind: EventKind,
+    flaw: &ObjectFlaw,
+) -> fmt::Result {
+    match kind.name_key() {
+        Some(key) if is_about_teid(flaw) => {
+            write!(f, "one of {} and {key} is wanted", Key::Teid)
+        }
+        _ => write_flaw(f, Place::Whole, kind.word(), flaw),
     }
 }
 
@@ -252,7 +299,11 @@ impl fmt::Display for EventFlaw {
             EventFlaw::NoEvent(word) => {
                 write!(f, "do: no event is called {}", Quoted(word.as_str()))
             }
-            EventFlaw::Keys(kind, flaw) => write_flaw(f, Place::Whole, kind.word(), flaw),
+            EventFlaw::Keys(kind, flaw) => write_keys(f, *kind, flaw),
+            EventFlaw::Named(kind, flaw) => match kind.name_key() {
+                Some(key) => write_flaw(f, Place::Name(key), kind.word(), flaw),
+                None => write_flaw(f, Place::Whole, kind.word(), flaw),
+            },
             EventFlaw::Nothing(name) => write!(f, "{}", Lacking(*name)),
             EventFlaw::TooMany => f.write_str("more than 100000 events"),
         }

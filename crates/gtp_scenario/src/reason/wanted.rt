@@ -27,6 +27,8 @@ pub enum Wanted {
     Text,
     /// A number from 0 to 2^64 - 1, without a fraction and an exponent.
     Number,
+    /// Such a number, or the text `all`.
+    NumberOrAll,
     /// Such a number, from the first of these to the second.
     Within(u32, u32),
     /// An IPv4 address.
@@ -118,6 +120,7 @@ fn is_wanted_text(wanted: Wanted, text: &str) -> bool
         Wanted::Imsi => imsi_of(text).is_some(),
         Wanted::Teid => teid_of(text).is_some(),
         Wanted::Gateway => role_of(text).is_some(),
+        Wanted::NumberOrAll => text == "all",
         _ => false,
     }
 }
@@ -131,6 +134,13 @@ fn is_text(wanted: Wanted, value: &Tree<'_, '_>) -> bool
     }
 }
 
+/// Whether a value is a number or the text `all`.
+fn is_number_or_all(value: &Tree<'_, '_>) -> bool
+    ensures { result ≡ is_good Wanted.NumberOrAll (view value.now) }
+{
+    whole_number(value).is_some() || is_text(Wanted::NumberOrAll, value)
+}
+
 impl Wanted {
     /// Whether a value is as it has to be.
     pub(crate) fn is_good(self, alloc: Global, value: &Tree<'_, '_>) -> Result<bool, Memory>
@@ -140,6 +150,7 @@ impl Wanted {
             Wanted::Object => Ok(is_object(value)),
             Wanted::List => Ok(as_list(value).is_some()),
             Wanted::Number => Ok(whole_number(value).is_some()),
+            Wanted::NumberOrAll => Ok(is_number_or_all(value)),
             Wanted::Within(low, high) => Ok(is_within(value, low, high)),
             Wanted::AccessPoints => are_access_points(alloc, value),
             Wanted::Octets => are_octets(alloc, value),
