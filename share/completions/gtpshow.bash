@@ -8,8 +8,8 @@ _gtpshow() {
   done
   local words='--help'
   case $command in
-    decode) words='--user --all --json --join --help' ;;
-    capture) words='--brief --all --json --faults --type --imsi --teid --address --control-port --user-port --help' ;;
+    decode) words='--user --all --json --places --join --help' ;;
+    capture) words='--brief --all --json --places --faults --type --imsi --teid --address --control-port --user-port --help' ;;
     replay) words='--diagram --svg --pcap --json --help' ;;
     gateway | explain) words='--help' ;;
     help) words='decode capture replay gateway explain' ;;

@@ -16,8 +16,8 @@ _gtpshow() {
     return
   fi
   case $words[2] in
-    decode) _arguments '--user[the datagram is of the user plane]' '--all[show each element that is whole]' '--json[show a JSON object a line]' '--join[join lines of plain hexadecimal]' '--help[print help]' ':octets in hexadecimal:' ;;
-    capture) _arguments '--brief[show one line a datagram]' '--all[show each element that is whole]' '--json[show a JSON object a line]' '--faults[show only datagrams at fault]' '--type[show only messages of this type]:name:' '--imsi[show only messages that tell this subscriber]:digits:' '--teid[show only messages with this TEID]:teid:' '--address[show only datagrams from or to this address]:address:' '--control-port[a port of control datagrams]:port:' '--user-port[a port of user datagrams]:port:' '--help[print help]' ':capture:_files' ;;
+    decode) _arguments '--user[the datagram is of the user plane]' '--all[show each element that is whole]' '--json[show a JSON object a line]' '--places[with --all --json, show octets and places]' '--join[join lines of plain hexadecimal]' '--help[print help]' ':octets in hexadecimal:' ;;
+    capture) _arguments '--brief[show one line a datagram]' '--all[show each element that is whole]' '--json[show a JSON object a line]' '--places[with --all --json, show octets and places]' '--faults[show only datagrams at fault]' '--type[show only messages of this type]:name:' '--imsi[show only messages that tell this subscriber]:digits:' '--teid[show only messages with this TEID]:teid:' '--address[show only datagrams from or to this address]:address:' '--control-port[a port of control datagrams]:port:' '--user-port[a port of user datagrams]:port:' '--help[print help]' ':capture:_files' ;;
     replay) _arguments '--diagram[draw the run as a sequence diagram]' '--svg[draw the same diagram as a picture]' '--pcap[write the run as a packet capture]' '--json[show a JSON object a line]' '--help[print help]' ':scenario:_files' ;;
     gateway) _arguments '--help[print help]' ;;
     explain) _arguments '--help[print help]' ':code:' ;;

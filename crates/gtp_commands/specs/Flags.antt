@@ -30,20 +30,20 @@ abbrev pub plane_of : Option Plane → Plane
 plane_of (Some plane) = plane
 plane_of None = Control
 
--- what `--json` and `--all` ask of `decode`
-abbrev pub dump_form : (json all : Bool) → DumpForm
-dump_form true true = dump.Json members.All
-dump_form true false = dump.Json members.Plain
-dump_form false true = dump.All
-dump_form false false = dump.Lines
+-- what `--json`, `--all` and `--places` ask of `decode`
+abbrev pub dump_form : (json all places : Bool) → DumpForm
+dump_form true true places = dump.Json (members.All places)
+dump_form true false places = dump.Json members.Plain
+dump_form false true places = dump.All
+dump_form false false places = dump.Lines
 
 -- and, with `--brief`, of `capture`
-abbrev pub capture_form : (json brief all : Bool) → CaptureForm
-capture_form true brief true = Json members.All
-capture_form true brief false = Json members.Plain
-capture_form false true all = Text frames.Brief
-capture_form false false true = Text frames.All
-capture_form false false false = Text frames.Lines
+abbrev pub capture_form : (json brief all places : Bool) → CaptureForm
+capture_form true brief true places = Json (members.All places)
+capture_form true brief false places = Json members.Plain
+capture_form false true all places = Text frames.Brief
+capture_form false false true places = Text frames.All
+capture_form false false false places = Text frames.Lines
 
 -- of several forms of `replay` the first counts
 abbrev pub replay_form : (json pcap svg diagram : Bool) → ReplayForm
@@ -96,11 +96,11 @@ is_set values name = says_true (values name)
 
 -- what the words of `decode` ask for
 abbrev pub dump_of : Values → Asked
-dump_of values = record { plane = plane_named (is_set values (codes "user")); form = dump_form (is_set values (codes "json")) (is_set values (codes "all")); join = is_set values (codes "join") }
+dump_of values = record { plane = plane_named (is_set values (codes "user")); form = dump_form (is_set values (codes "json")) (is_set values (codes "all")) (is_set values (codes "places")); join = is_set values (codes "join") }
 
 -- in which form the words of `capture` and of `replay` ask for what is shown
 abbrev pub capture_form_of : Values → CaptureForm
-capture_form_of values = capture_form (is_set values (codes "json")) (is_set values (codes "brief")) (is_set values (codes "all"))
+capture_form_of values = capture_form (is_set values (codes "json")) (is_set values (codes "brief")) (is_set values (codes "all")) (is_set values (codes "places"))
 
 abbrev pub replay_form_of : Values → ReplayForm
 replay_form_of values = replay_form (is_set values (codes "json")) (is_set values (codes "pcap")) (is_set values (codes "svg")) (is_set values (codes "diagram"))

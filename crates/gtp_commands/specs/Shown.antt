@@ -5,7 +5,7 @@ use Rattle.hex.specs.Hex.{decode_of}
 use Rattle.gtp_counted.specs.Streams.{WritesFront}
 use Rattle.gtp_values.specs.declared.plane.Plane.{Plane}
 use Rattle.gtp_lines.specs.Lines.{LinesOf}
-use Rattle.gtp_dump.specs.Decoded.{ShowsOne, AreTold}
+use Rattle.gtp_dump.specs.Decoded.{ShowsWord, AreTold}
 use Rattle.gtp_dump.specs.declared.decoding.Asked.{Asked}
 use Rattle.gtp_dump.specs.declared.decoding.Tally.{Tally}
 
@@ -25,14 +25,14 @@ abbrev pub IsShownInPart : Plane → List ℕ → Option (List ℕ) → Option (
 IsShownInPart plane digits before now =
     (octets : List ℕ) × (text : List ℕ) × (faulty : Bool) × (decode_of digits ≡ Ok octets) × LinesOf plane octets text faulty × WritesFront before now text
 
--- the word spells a datagram, as a line of a dump does, and this was written of it
+-- the word spells a datagram, and this was written of it
 abbrev pub IsWordShown : Asked → List ℕ → Option (List ℕ) → Option (List ℕ) → ℕ → Type 0
 IsWordShown asked word before now status =
-    (text : List ℕ) × (faulty : Bool) × ShowsOne asked word text faulty × Appends before now text × (status ≡ status_shown faulty)
+    (text : List ℕ) × (faulty : Bool) × ShowsWord asked word text faulty × Appends before now text × (status ≡ status_shown faulty)
 
 -- or a beginning of this
 abbrev pub IsWordShownInPart : Asked → List ℕ → Option (List ℕ) → Option (List ℕ) → Type 0
-IsWordShownInPart asked word before now = (text : List ℕ) × (faulty : Bool) × ShowsOne asked word text faulty × WritesFront before now text
+IsWordShownInPart asked word before now = (text : List ℕ) × (faulty : Bool) × ShowsWord asked word text faulty × WritesFront before now text
 
 -- the exit status of a dump: 2 where a line was bad
 abbrev pub dump_status : Tally → ℕ

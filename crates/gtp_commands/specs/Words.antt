@@ -21,7 +21,7 @@ needed_word name = record (plain_word name) { required = true }
 
 -- further forms of a datagram
 abbrev pub with_form_words : App → App
-with_form_words app = with_rule (with_rule app (flag_word (codes "all"))) (flag_word (codes "json"))
+with_form_words app = with_rule (with_rule (with_rule app (flag_word (codes "all"))) (flag_word (codes "json"))) (flag_word (codes "places"))
 
 -- to show datagrams
 abbrev pub decode_words : App

@@ -32,8 +32,8 @@ A scenario:
     \"apns\": [\"internet\"], \"pool\": \"10.1.0.1\", \"count\": 10},
    \"events\": [
     {\"do\": \"create_session\", \"imsi\": \"001010123456789\", \"apn\": \"internet\", \"ebi\": 5},
-    {\"do\": \"deliver\", \"datagram\": 0},
-    {\"do\": \"deliver\", \"datagram\": 1, \"expect\": \"opened\"}]}
+    {\"do\": \"deliver\"},
+    {\"do\": \"deliver\", \"expect\": \"opened\"}]}
 
 FORMATS.md (docs, or share/doc/gtpshow where it is installed) lists all events, and explains the report";
 
@@ -102,12 +102,20 @@ fn with_forms<'a>(alloc: Global, command: Command<'a>) -> Result<Command<'a>, Al
             "Shows each element that is whole also of a datagram at fault",
         ),
     )?;
-    taking(
+    let command = taking(
         command,
         flag(
             alloc,
             "json",
             "Shows a JSON object a line for each datagram",
+        ),
+    )?;
+    taking(
+        command,
+        flag(
+            alloc,
+            "places",
+            "With --all --json: the octets of a datagram, and where each element stands",
         ),
     )
 }

@@ -36,11 +36,11 @@ pub fn plane_of(named: Option<Plane>) -> Plane
 }
 
 /// In which form `decode` shows datagrams.
-fn dump_form(is_json: bool, is_all: bool) -> gtp_dump::Form
-    ensures { result ≡ dump_form is_json is_all }
+fn dump_form(is_json: bool, is_all: bool, places: bool) -> gtp_dump::Form
+    ensures { result ≡ dump_form is_json is_all places }
 {
     match (is_json, is_all) {
-        (true, true) => gtp_dump::Form::Json(Members::All),
+        (true, true) => gtp_dump::Form::Json(Members::All { places }),
         (true, false) => gtp_dump::Form::Json(Members::Plain),
         (false, true) => gtp_dump::Form::All,
         (false, false) => gtp_dump::Form::Lines,
@@ -48,11 +48,11 @@ fn dump_form(is_json: bool, is_all: bool) -> gtp_dump::Form
 }
 
 /// In which form `capture` shows them.
-fn capture_form(is_json: bool, is_brief: bool, is_all: bool) -> CaptureForm
-    ensures { result ≡ capture_form is_json is_brief is_all }
+fn capture_form(is_json: bool, is_brief: bool, is_all: bool, places: bool) -> CaptureForm
+    ensures { result ≡ capture_form is_json is_brief is_all places }
 {
     match (is_json, is_brief, is_all) {
-        (true, _, true) => CaptureForm::Json(Members::All),
+        (true, _, true) => CaptureForm::Json(Members::All { places }),
         (true, _, false) => CaptureForm::Json(Members::Plain),
         (false, true, _) => CaptureForm::Text(Form::Brief),
         (false, false, true) => CaptureForm::Text(Form::All),
@@ -89,7 +89,11 @@ pub fn dump_asked(asked: &ArgMatches) -> Asked
 {
     Asked {
         plane: plane_named(is_set(asked, "user")),
-        form: dump_form(is_set(asked, "json"), is_set(asked, "all")),
+        form: dump_form(
+            is_set(asked, "json"),
+            is_set(asked, "all"),
+            is_set(asked, "places"),
+        ),
         join: is_set(asked, "join"),
     }
 }
@@ -102,6 +106,7 @@ fn capture_form_asked(asked: &ArgMatches) -> CaptureForm
         is_set(asked, "json"),
         is_set(asked, "brief"),
         is_set(asked, "all"),
+        is_set(asked, "places"),
     )
 }
 

@@ -5,7 +5,7 @@ use crate::flags::{imsi_of, kinds_of, teid_of};
 use crate::kept::Watched;
 use clap::ArgMatches;
 use gtp_capture::begins_as_capture;
-use gtp_dump::{Flaw, Hint, LineFault, flaw_of, hint_of, read_line};
+use gtp_dump::{Flaw, Hint, LineFault, begins_dump, flaw_of, hint_of, read_line, row_digits};
 use gtp_lines::{Plane, decode_lines, fault_context};
 use gtp_scenario::reason_of;
 use gtp_serve::head_reason;
@@ -105,13 +105,30 @@ pub fn hint_of_dump<R: Eprint>(rt: &R, first: &[u8]) -> io::Result<()> {
     Ok(())
 }
 
-/// Says what the first line of standard input spells in place of a datagram, where it begins as a frame, a packet or an offset does.
+/// Says what the first row of a dump is in place of the beginning of a datagram.
+fn hint_of_row<R: Eprint>(rt: &R, alloc: Global, row: &[u8]) -> io::Result<()> {
+    let Ok(digits) = row_digits(alloc, row) else {
+        return Ok(());
+    };
+    let Ok(octets) = hex::decode(alloc, digits.as_slice()) else {
+        return Ok(());
+    };
+    match hint_of(&octets) {
+        Some(Hint::Offset) | None => Ok(()),
+        Some(hint) => eprintln!(rt; "gtpshow: standard input, line 1: {hint}"),
+    }
+}
+
+/// Says what the first line of standard input spells in place of a datagram, where it begins as a frame or a packet does.
 pub fn hint_of_pasted<R: Eprint>(rt: &R, alloc: Global, first: &[u8]) -> io::Result<()> {
     let end = first
         .iter()
         .position(|octet| *octet == b'\n')
         .unwrap_or(first.len());
     let line = &first[..end];
+    if begins_dump(line) {
+        return hint_of_row(rt, alloc, line);
+    }
     // The last digit of a line that is not held whole may be half of an octet.
     let found = match read_line(alloc, None, line) {
         Err(LineFault::BadHex) => read_line(alloc, None, &line[..line.len().saturating_sub(1)]),

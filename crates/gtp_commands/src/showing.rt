@@ -1,6 +1,6 @@
 //! Showing one datagram.
 
-ghost use Rattle.std.specs.Prelude.{◌≡◌, ◌≢◌, ◌-◌, ◌^◌, ◌<◌, ◌≤◌, ◌⊎◌, length, IsErr, Err, IfOk, IfErr, IfSome, OnErr};
+ghost use Rattle.std.specs.Prelude.{◌≡◌, ◌≢◌, ◌-◌, ◌^◌, ◌<◌, ◌≤◌, ◌⊎◌, [], length, IsErr, Err, IfOk, IfErr, IfSome, OnErr};
 ghost use Rattle.hex.specs.Hex.{decode_of};
 ghost use Rattle.gtp_counted.specs.Counts.{inner_of, failures_of, NoneFailed};
 ghost use Rattle.gtp_dump.specs.Decoded.{AreFirstTold, AreToldInPart, WriteFailed, WriteClosed};
@@ -11,7 +11,7 @@ ghost use Rattle.gtp_commands.specs.Stops.{TellsReads, TellsWrites, TellsClosed,
 use crate::capturing::unwritten;
 use crate::command::Failure;
 use gtp_counted::Counted;
-use gtp_dump::{Asked, DumpFault, LineFault, decode_dump, decode_line};
+use gtp_dump::{Asked, DumpFault, LineFault, decode_dump, decode_word};
 use gtp_lines::{Plane, decode_lines};
 use hex::FromHexError;
 use std::alloc::Global;
@@ -53,8 +53,8 @@ pub fn show<W: Write>(
 }
 
 /// Writes in a form the datagram that a word spells, as a line of a dump does, and returns the exit status: 0, or 1
-/// for a datagram with a fault. `BadHex` if the word has no digits, an odd number of them, or what is none, or is too long;
-/// `Memory` if an allocation was refused, `Write` or `Closed` if the write failed.
+/// for a datagram with a fault. An empty word is a datagram of no octets. `BadHex` if another word has no digits, an odd
+/// number of them, or what is none, or is too long; `Memory` if an allocation was refused, `Write` or `Closed` if the write failed.
 pub fn show_word<W: Write>(
     alloc: Global,
     out: &mut Counted<W>,
@@ -67,12 +67,13 @@ pub fn show_word<W: Write>(
     ensures front { (result ≡ Err Failure.Write) ⊎ (result ≡ Err Failure.Closed) →
         IsWordShownInPart asked word.now
         (W.contents (inner_of out.old)) (W.contents (inner_of out.new)) }
-    ensures bad { result ≡ Err Failure.BadHex → (IsBlank word.now ⊎ IsBad word.now) × (out.new ≡ out.old) }
+    ensures bad { result ≡ Err Failure.BadHex →
+        (IsBlank word.now ⊎ IsBad word.now) × (word.now ≢ []) × (out.new ≡ out.old) }
     ensures memory { result ≡ Err Failure.Memory → out.new ≡ out.old }
     ensures writes { TellsClosed result out.old out.new }
     ensures kind { IfErr result StopsWord }
 {
-    let shown = match decode_line(alloc, asked, word.as_bytes()) {
+    let shown = match decode_word(alloc, asked, word.as_bytes()) {
         Ok(Some(shown)) => shown,
         Ok(None) => return Err(Failure::BadHex),
         Err(LineFault::BadHex) => return Err(Failure::BadHex),

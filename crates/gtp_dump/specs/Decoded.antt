@@ -11,7 +11,7 @@ use Rattle.gtp_values.specs.declared.plane.Plane.{Plane}
 use Rattle.gtp_lines.specs.Lines.{LinesOf}
 use Rattle.gtp_lines.specs.All.{AllLines}
 use Rattle.gtp_json.specs.Datagram.{DatagramJson}
-use Rattle.gtp_dump.specs.Text.{Spells}
+use Rattle.gtp_dump.specs.Text.{SpellsWord}
 use Rattle.gtp_dump.specs.Flaw.{flaw_text}
 use Rattle.gtp_dump.specs.Entries.{Reading, Nothing, Bad, Datagram, IsEntry}
 use Rattle.gtp_dump.specs.declared.flaw.Flaw.{Flaw}
@@ -41,9 +41,9 @@ ShowsAs forms.Lines plane octets text faulty = LinesOf plane octets text faulty
 ShowsAs forms.All plane octets text faulty = AllLines plane octets text faulty
 ShowsAs (forms.Json members) plane octets text faulty = DatagramJson members plane octets text faulty
 
--- this of the datagram of a line
-abbrev pub ShowsOne : Asked → List ℕ → List ℕ → Bool → Type 0
-ShowsOne asked line text faulty = (plane : Plane) × (octets : List ℕ) × Spells asked.plane line plane octets × ShowsAs asked.form plane octets text faulty
+-- this of the datagram of a word
+abbrev pub ShowsWord : Asked → List ℕ → List ℕ → Bool → Type 0
+ShowsWord asked word text faulty = (plane : Plane) × (octets : List ℕ) × SpellsWord asked.plane word plane octets × ShowsAs asked.form plane octets text faulty
 
 -- the line before those of a datagram; none before an object
 abbrev pub index_line : Form → ℕ → List ℕ

@@ -80,6 +80,11 @@ pub record Spells (asked : Option Plane) (line : List ℕ) (plane : Plane) (octe
   pub has : HasOctets rest octets
   pub plane_is : plane ≡ plane_of named asked octets
 
+-- a word spells a datagram as a line does, and an empty word one of no octets
+abbrev pub SpellsWord : Option Plane → List ℕ → Plane → List ℕ → Type 0
+SpellsWord asked [] plane octets = (octets ≡ []) × (plane ≡ plane_of None asked [])
+SpellsWord asked (c ∷ word) plane octets = Spells asked (c ∷ word) plane octets
+
 -- the line has no digits
 abbrev pub IsBlank : List ℕ → Type 0
 IsBlank line = (length line ≤ 1048576) × (named : Option Plane) × (rest : List ℕ) × Names line named rest × (digits_in rest ≡ [])

@@ -4,13 +4,13 @@ ghost use Rattle.std.specs.Prelude.{◌≡◌, ◌≢◌, ◌+◌, ◌++◌, ◌
 ghost use Rattle.gtp_counted.specs.Counts.{inner_of, failures_of, NoneFailed};
 ghost use Rattle.gtp_dump.specs.declared.decoding.DumpFault.TheVariants as faults;
 ghost use Rattle.gtp_dump.specs.Text.{IsBlank, IsBad};
-ghost use Rattle.gtp_dump.specs.Decoded.{nothing_read, bad_text, index_line, ShowsAs, ShowsOne, Shows, IsTold, IsToldInPart, AreTold, AreFirstTold, AreToldInPart, WriteFailed, WriteClosed};
+ghost use Rattle.gtp_dump.specs.Decoded.{nothing_read, bad_text, index_line, ShowsAs, ShowsWord, Shows, IsTold, IsToldInPart, AreTold, AreFirstTold, AreToldInPart, WriteFailed, WriteClosed};
 ghost use Rattle.gtp_dump.specs.Held.{reading_of, Stands, GoesOnAfter, lines_read, datagrams_begun, Moves, MovesInPart};
 
 use crate::entry::{Kept, Reading, goes_on, opening, read_alone};
 use crate::flaw::{Flaw, put_flaw};
 use crate::holding::next_line;
-use crate::text::{Dumped, LineFault, read_line};
+use crate::text::{Dumped, LineFault, read_word};
 use gtp_counted::{Counted, Failed};
 use gtp_json::{Members, datagram_json};
 use gtp_lines::text::{put, put_number};
@@ -413,14 +413,14 @@ pub fn decode_dump<R: BufRead, W: Write, E: Write>(
     Err(DumpFault::TooLong)
 }
 
-/// The lines of the datagram that a line spells, as `read_line` reads it, or none in a line without digits.
-pub fn decode_line(alloc: Global, asked: Asked, line: &[u8]) -> Result<Option<Shown>, LineFault>
+/// The lines of the datagram that a word spells, as `read_word` reads it, or none of a word without digits that is not empty.
+pub fn decode_word(alloc: Global, asked: Asked, word: &[u8]) -> Result<Option<Shown>, LineFault>
     ensures some { IfOk result (λ found. IfSome found (λ shown.
-        ShowsOne asked line.now shown.text.items shown.faulty)) }
-    ensures none { result ≡ Ok None → IsBlank line.now }
-    ensures bad { result ≡ Err LineFault.BadHex → IsBad line.now }
+        ShowsWord asked word.now shown.text.items shown.faulty)) }
+    ensures none { result ≡ Ok None → IsBlank word.now × (word.now ≢ []) }
+    ensures bad { result ≡ Err LineFault.BadHex → IsBad word.now × (word.now ≢ []) }
 {
-    let Some(dumped) = read_line(alloc, asked.plane, line)? else {
+    let Some(dumped) = read_word(alloc, asked.plane, word)? else {
         return Ok(None);
     };
     match lines_of(alloc, asked.form, &dumped) {

@@ -10,9 +10,10 @@ mod holding;
 mod row;
 mod text;
 
-pub use decoding::{Asked, DumpFault, Form, Tally, decode_dump, decode_line};
+pub use decoding::{Asked, DumpFault, Form, Tally, decode_dump, decode_word};
 pub use flaw::{Flaw, flaw_of};
 pub use hint::{Hint, hint_of};
+pub use row::{begins_dump, row_digits};
 pub use text::{Dumped, LineFault, MOST_OCTETS, read_line};
 
 /// What the signatures here name of the crates below.

@@ -1,8 +1,8 @@
 //! One line of a hex dump.
 
-ghost use Rattle.std.specs.Prelude.{◌≡◌, ◌≤◌, [], length, slice_index, IsTrue, None, Ok, Err, IfOk, IfSome, IsErr};
+ghost use Rattle.std.specs.Prelude.{◌≡◌, ◌≢◌, ◌≤◌, [], length, slice_index, IsTrue, None, Ok, Err, IfOk, IfSome, IsErr};
 ghost use Rattle.hex.specs.Hex.{decode_of};
-ghost use Rattle.gtp_dump.specs.Text.{is_between, begins_prefix, from_digit, digits_in, has_digits, HasOctets, Names, plane_by_version, Spells, IsBlank, IsBad};
+ghost use Rattle.gtp_dump.specs.Text.{is_between, begins_prefix, from_digit, digits_in, has_digits, HasOctets, Names, plane_by_version, Spells, SpellsWord, IsBlank, IsBad};
 
 use gtp_values::{Memory, Plane};
 use hex::FromHexError;
@@ -179,4 +179,24 @@ pub fn read_line(
     };
     let plane = plane.or(asked).unwrap_or_else(|| plane_by_version(&octets));
     Ok(Some(Dumped { plane, octets }))
+}
+
+/// The datagram that a word spells, as `read_line` reads it; an empty word is a datagram of no octets.
+pub fn read_word(
+    alloc: Global,
+    asked: Option<Plane>,
+    word: &[u8],
+) -> Result<Option<Dumped>, LineFault>
+    ensures some { IfOk result (λ found. IfSome found (λ dumped.
+        SpellsWord asked word.now dumped.plane dumped.octets.items)) }
+    ensures none { result ≡ Ok None → IsBlank word.now × (word.now ≢ []) }
+    ensures bad { result ≡ Err LineFault.BadHex → IsBad word.now × (word.now ≢ []) }
+{
+    if word.is_empty() {
+        return Ok(Some(Dumped {
+            plane: asked.unwrap_or_else(|| plane_by_version(word)),
+            octets: Vec::new(alloc),
+        }));
+    }
+    read_line(alloc, asked, word)
 }

@@ -26,7 +26,7 @@ use Rattle.gtp_json.specs.Tree.{object_of, line_of}
 use Rattle.gtp_json.specs.Control.{CarriedMembers, MessageMembers, PairMembers, header_members, head_members, elements_members, second_member, placed_members, fault_member}
 use Rattle.gtp_json.specs.User.{user_members, user_fault_members}
 use Rattle.gtp_json.specs.All.{rest_members, MessageShown, AloneShown, SecondShown, ShownBy}
-use Rattle.gtp_json.specs.Datagram.{plane_member, ControlMembers, BeforeFault, WithFault, MembersBy}
+use Rattle.gtp_json.specs.Datagram.{plane_member, ControlMembers, BeforeFault, WithFault, MembersBy, octets_shown, WholeMembers}
 use Rattle.gtp_json.specs.Frames.{frame_members, RestMembers}
 use Rattle.gtp_json.specs.Laws.{OneLine, OneFrameLine}
 
@@ -68,7 +68,7 @@ carried_one octets m (Fields fields) a b (es, are, is) (ds, others, b_is) =
     let at = place_of m.teid in
     let here = drop at octets in
     let p = one_front at here es [] ds [] (all_front at here es are) (all_front at here ds others) in
-    is ∙ (ap elements_members p.0 ∙ sym b_is)
+    is ∙ (ap (elements_members false) p.0 ∙ sym b_is)
 
 message_one : (octets : List ℕ) (ms ns : List (List ℕ × Json)) → MessageMembers octets ms → MessageMembers octets ns → ms ≡ ns
 message_one octets ms ns (m, spelled, (carried, has, is)) (n, other, (brought, had, ns_is)) =
@@ -95,7 +95,7 @@ spelled_both octets ms (front, back, announces, (a, b, (m, sm, am), (n, sn, bn),
 pub spelled : (members : Members) (octets : List ℕ) (ms : List (List ℕ × Json)) → ControlMembers members octets ms → (d : DatagramValue) × IsDatagram octets d
 spelled Plain octets ms (inl h) = let s = spelled_alone octets ms h in (alone s.0, s.1)
 spelled Plain octets ms (inr h) = let s = spelled_both octets ms h in (both s.0 s.1, s.2)
-spelled All octets ms (d, how) = d
+spelled (All places) octets ms (d, how) = d
 
 not_both : (octets : List ℕ) (ms ns : List (List ℕ × Json)) → MessageMembers octets ms → PairMembers octets ns → ⊥
 not_both octets ms ns a p =
@@ -107,26 +107,26 @@ not_both octets ms ns a p =
 
 -- ---- all that can be shown
 
-front_one : (h : Headed) (ms ns : List (List ℕ × Json)) → MessageShown h ms → MessageShown h ns → ms ≡ ns
-front_one h ms ns (es, rest, front, is) (ds, left, other, ns_is) =
+front_one : (places : Bool) (h : Headed) (ms ns : List (List ℕ × Json)) → MessageShown places h ms → MessageShown places h ns → ms ≡ ns
+front_one places h ms ns (es, rest, front, is) (ds, left, other, ns_is) =
     let p = one_front h.at h.rest es rest ds left front other in
     let head = header_members h.kind h.teid h.seq h.priority in
-    is ∙ (ap (λ (xs : List Element). head ++ (elements_members xs ++ rest_members rest)) p.0 ∙ (ap (λ (xs : List ℕ). head ++ (elements_members ds ++ rest_members xs)) p.1 ∙ sym ns_is))
+    is ∙ (ap (λ (xs : List Element). head ++ (elements_members places xs ++ rest_members rest)) p.0 ∙ (ap (λ (xs : List ℕ). head ++ (elements_members places ds ++ rest_members xs)) p.1 ∙ sym ns_is))
 
-alone_one : (w : Option Headed) (ms ns : List (List ℕ × Json)) → AloneShown w ms → AloneShown w ns → ms ≡ ns
-alone_one None ms ns a b = a ∙ sym b
-alone_one (Some h) ms ns a b = front_one h ms ns a b
+alone_one : (places : Bool) (w : Option Headed) (ms ns : List (List ℕ × Json)) → AloneShown places w ms → AloneShown places w ns → ms ≡ ns
+alone_one places None ms ns a b = a ∙ sym b
+alone_one places (Some h) ms ns a b = front_one places h ms ns a b
 
-second_one : (back : List ℕ) (w : Option Headed) (ms ns : List (List ℕ × Json)) → SecondShown back w ms → SecondShown back w ns → ms ≡ ns
-second_one back None ms ns a b = a ∙ sym b
-second_one back (Some h) ms ns a b = front_one h ms ns a b
+second_one : (places : Bool) (back : List ℕ) (w : Option Headed) (ms ns : List (List ℕ × Json)) → SecondShown places back w ms → SecondShown places back w ns → ms ≡ ns
+second_one places back None ms ns a b = a ∙ sym b
+second_one places back (Some h) ms ns a b = front_one places h ms ns a b
 
-shown_one : (p : Option (Headed × List ℕ)) (w : Option Headed) (ms ns : List (List ℕ × Json)) → ShownBy p w ms → ShownBy p w ns → ms ≡ ns
-shown_one None w ms ns a b = alone_one w ms ns a b
-shown_one (Some pair) w ms ns (a, b, first, second, is) (c, d, other, third, ns_is) =
+shown_one : (places : Bool) (p : Option (Headed × List ℕ)) (w : Option Headed) (ms ns : List (List ℕ × Json)) → ShownBy places p w ms → ShownBy places p w ns → ms ≡ ns
+shown_one places None w ms ns a b = alone_one places w ms ns a b
+shown_one places (Some pair) w ms ns (a, b, first, second, is) (c, d, other, third, ns_is) =
     is
-    ∙ (ap (λ (xs : List (List ℕ × Json)). xs ++ second_member b) (front_one pair.0 a c first other)
-    ∙ (ap (λ (xs : List (List ℕ × Json)). c ++ second_member xs) (second_one pair.1 (head_at pair.1) b d second third) ∙ sym ns_is))
+    ∙ (ap (λ (xs : List (List ℕ × Json)). xs ++ second_member b) (front_one places pair.0 a c first other)
+    ∙ (ap (λ (xs : List (List ℕ × Json)). c ++ second_member xs) (second_one places pair.1 (head_at pair.1) b d second third) ∙ sym ns_is))
 
 -- ---- datagrams
 
@@ -135,12 +135,12 @@ control_one Plain octets ms ns (inl a) (inl b) = message_one octets ms ns a b
 control_one Plain octets ms ns (inl a) (inr b) = absurd (not_both octets ms ns a b)
 control_one Plain octets ms ns (inr a) (inl b) = absurd (not_both octets ns ms b a)
 control_one Plain octets ms ns (inr a) (inr b) = pair_one octets ms ns a b
-control_one All octets ms ns (d, a) (e, b) = shown_one (pair_at octets) (head_at octets) ms ns a b
+control_one (All places) octets ms ns (d, a) (e, b) = shown_one places (pair_at octets) (head_at octets) ms ns a b
 
 before_one : (members : Members) (plane : Plane) (octets : List ℕ) (ms ns : List (List ℕ × Json)) → BeforeFault members plane octets ms → BeforeFault members plane octets ns → ms ≡ ns
 before_one Plain plane octets ms ns a b = a ∙ sym b
-before_one All planes.Control octets ms ns a b = shown_one (pair_at octets) (head_at octets) ms ns a b
-before_one All planes.User octets ms ns a b = a ∙ sym b
+before_one (All places) planes.Control octets ms ns a b = shown_one places (pair_at octets) (head_at octets) ms ns a b
+before_one (All places) planes.User octets ms ns a b = a ∙ sym b
 
 fault_one : (members : Members) (plane : Plane) (octets : List ℕ) (fs gs ms ns : List (List ℕ × Json)) → fs ≡ gs → WithFault members plane octets fs ms → WithFault members plane octets gs ns → ms ≡ ns
 fault_one members plane octets fs gs ms ns same (a, before, is) (b, other, ns_is) =
@@ -174,9 +174,14 @@ members_one members planes.User octets ms ns false false (m, said, is) (n, other
     let one = one_of _ (IsUserMessage octets) (IsUserFault octets) (user_decided octets) in
     (is ∙ (ap user_members (one.value m n said other) ∙ sym ns_is), refl)
 
+whole_one : (members : Members) (plane : Plane) (octets : List ℕ) (ms ns : List (List ℕ × Json)) (x y : Bool) → WholeMembers members plane octets ms x → WholeMembers members plane octets ns y → (ms ≡ ns) × (x ≡ y)
+whole_one members plane octets ms ns x y (a, has, is) (b, had, ns_is) =
+    let same = members_one members plane octets a b x y has had in
+    (is ∙ (ap (λ (xs : List (List ℕ × Json)). octets_shown members octets ++ xs) same.0 ∙ sym ns_is), same.1)
+
 pub one_line : OneLine
 one_line members plane octets text faulty other wrong (j, (ms, a, j_is), text_is) (i, (ns, b, i_is), other_is) =
-    let same = members_one members plane octets ms ns faulty wrong a b in
+    let same = whole_one members plane octets ms ns faulty wrong a b in
     let value : j ≡ i = j_is ∙ (ap (λ (xs : List (List ℕ × Json)). object_of (plane_member plane ++ xs)) same.0 ∙ sym i_is) in
     (text_is ∙ (ap line_of value ∙ sym other_is), same.1)
 
@@ -186,7 +191,7 @@ rest_one : (members : Members) (p : Captured) (ms ns : List (List ℕ × Json)) 
 rest_one members p ms ns x y (inl (part, a, is)) (inl (partly, b, ns_is)) = (is ∙ sym ns_is, a ∙ sym b)
 rest_one members p ms ns x y (inl (part, a, is)) (inr (all, b)) = absurd cc
 rest_one members p ms ns x y (inr (all, a)) (inl (part, b, is)) = absurd cc
-rest_one members p ms ns x y (inr (all, a)) (inr (wholly, b)) = members_one members p.plane p.octets ms ns x y a b
+rest_one members p ms ns x y (inr (all, a)) (inr (wholly, b)) = whole_one members p.plane p.octets ms ns x y a b
 
 pub one_frame_line : OneFrameLine
 one_frame_line members d text faulty other wrong (j, (ms, a, j_is), text_is) (i, (ns, b, i_is), other_is) =

@@ -1,6 +1,7 @@
 -- The lines of a datagram and its object are of one reading.
-use Rattle.std.proofs.Common.{ℕ, true, false, List, [], ◌++◌, inl, inr, refl, subst, ◌∙◌, ap}
+use Rattle.std.proofs.Common.{◌≡◌, ℕ, true, false, List, [], ◌++◌, inl, inr, refl, subst, ◌∙◌, ap}
 use Rattle.json.specs.Json.{Json}
+use Rattle.gtp_values.specs.declared.plane.Plane.{Plane}
 use Rattle.gtp_values.specs.declared.plane.Plane.TheVariants as planes
 use Rattle.gtp_v2.specs.declared.fault.V2Fault.{V2Fault}
 use Rattle.gtp_v2.specs.Message.{MessageValue}
@@ -18,7 +19,7 @@ use Rattle.gtp_json.specs.declared.datagram.Members.TheVariants.{Plain, All}
 use Rattle.gtp_json.specs.Tree.{object_of}
 use Rattle.gtp_json.specs.Control.{placed_members}
 use Rattle.gtp_json.specs.User.{user_members, user_fault_members}
-use Rattle.gtp_json.specs.Datagram.{plane_member}
+use Rattle.gtp_json.specs.Datagram.{plane_member, octets_shown}
 use Rattle.gtp_json.specs.Laws.{LinesBy, fault_lines, EndsInLine, EndsInFault, OneReading}
 use Rattle.gtp_json.proofs.OneLine.{one_of, spelled}
 
@@ -32,53 +33,57 @@ lines_both octets text (front, back, announces, (before, (a, first, rest), (b, s
 lines_of : (members : Members) (octets text : List ℕ) → LinesBy members planes.Control octets text false → (d : DatagramValue) × IsDatagram octets d
 lines_of Plain octets text (inl h) = let s = lines_alone octets text h in (alone s.0, s.1)
 lines_of Plain octets text (inr h) = let s = lines_both octets text h in (both s.0 s.1, s.2)
-lines_of All octets text (d, how) = d
+lines_of (All places) octets text (d, how) = d
 
 -- the fault that lines end in
 fault_of : (members : Members) (octets text : List ℕ) → LinesBy members planes.Control octets text true → (f : V2Fault) × IsDatagramFault octets f × EndsInLine members planes.Control octets (fault_lines members octets f) text
 fault_of Plain octets text (f, fails, is) = (f, fails, ([], refl, is))
-fault_of All octets text found = found
+fault_of (All places) octets text found = found
 
 user_fault_of : (members : Members) (octets text : List ℕ) → LinesBy members planes.User octets text true → (f : UserFault) × IsUserFault octets f × EndsInLine members planes.User octets (user_fault_line f) text
 user_fault_of Plain octets text (f, fails, is) = (f, fails, ([], refl, is))
-user_fault_of All octets text (f, fails, is) = (f, fails, (user_shown (user_head_at octets), refl, is))
+user_fault_of (All places) octets text (f, fails, is) = (f, fails, (user_shown (user_head_at octets), refl, is))
 
 -- and a message of the user plane
 user_of : (members : Members) (octets text : List ℕ) → LinesBy members planes.User octets text false → UserLines octets text false
 user_of Plain octets text lines = lines
-user_of All octets text lines = lines
+user_of (All places) octets text lines = lines
+
+-- an object of these members
+whole_is : (members : Members) (plane : Plane) (octets : List ℕ) (ms said : List (List ℕ × Json)) (j : Json) → ms ≡ octets_shown members octets ++ said → j ≡ object_of (plane_member plane ++ ms) → j ≡ object_of (plane_member plane ++ (octets_shown members octets ++ said))
+whole_is members plane octets ms said j whole is = is ∙ ap (λ (xs : List (List ℕ × Json)). object_of (plane_member plane ++ xs)) whole
 
 pub one_reading : OneReading
-one_reading members planes.Control octets text true j true lines (ms, (g, fault, has), is) =
+one_reading members planes.Control octets text true j true lines (ms, (said, (g, fault, has), whole), is) =
     let one = one_of _ (IsDatagram octets) (IsDatagramFault octets) (datagram_decided octets) in
     let found = fault_of members octets text lines in
-    (refl, (found.0, found.1, found.2, subst (λ (z : V2Fault). EndsInFault members planes.Control octets (placed_members octets z) j) (one.fault g found.0 fault found.1) (ms, has, is)))
-one_reading members planes.Control octets text true j false lines (ms, has, is) =
+    (refl, (found.0, found.1, found.2, subst (λ (z : V2Fault). EndsInFault members planes.Control octets (placed_members octets z) j) (one.fault g found.0 fault found.1) (said, has, whole_is members planes.Control octets ms said j whole is)))
+one_reading members planes.Control octets text true j false lines (ms, (said, has, whole), is) =
     let one = one_of _ (IsDatagram octets) (IsDatagramFault octets) (datagram_decided octets) in
     let found = fault_of members octets text lines in
-    let s = spelled members octets ms has in
+    let s = spelled members octets said has in
     absurd (one.either s.0 found.0 s.1 found.1)
-one_reading members planes.Control octets text false j true lines (ms, (f, fails, has), is) =
+one_reading members planes.Control octets text false j true lines (ms, (said, (f, fails, has), whole), is) =
     let one = one_of _ (IsDatagram octets) (IsDatagramFault octets) (datagram_decided octets) in
     let s = lines_of members octets text lines in
     absurd (one.either s.0 f s.1 fails)
-one_reading members planes.Control octets text false j false lines (ms, has, is) =
+one_reading members planes.Control octets text false j false lines (ms, (said, has, whole), is) =
     let one = one_of _ (IsDatagram octets) (IsDatagramFault octets) (datagram_decided octets) in
     let s = lines_of members octets text lines in
     (refl, (s.0, s.1, λ other other_is. one.value other s.0 other_is s.1))
-one_reading members planes.User octets text true j true lines (ms, (g, fault, has), is) =
+one_reading members planes.User octets text true j true lines (ms, (said, (g, fault, has), whole), is) =
     let one = one_of _ (IsUserMessage octets) (IsUserFault octets) (user_decided octets) in
     let found = user_fault_of members octets text lines in
-    (refl, (found.0, found.1, found.2, subst (λ (z : UserFault). EndsInFault members planes.User octets (user_fault_members z) j) (one.fault g found.0 fault found.1) (ms, has, is)))
-one_reading members planes.User octets text true j false lines (ms, (m, said, ms_is), is) =
+    (refl, (found.0, found.1, found.2, subst (λ (z : UserFault). EndsInFault members planes.User octets (user_fault_members z) j) (one.fault g found.0 fault found.1) (said, has, whole_is members planes.User octets ms said j whole is)))
+one_reading members planes.User octets text true j false lines (ms, (said, (m, spells, said_is), whole), is) =
     let one = one_of _ (IsUserMessage octets) (IsUserFault octets) (user_decided octets) in
     let found = user_fault_of members octets text lines in
-    absurd (one.either m found.0 said found.1)
-one_reading members planes.User octets text false j true lines (ms, (f, fails, has), is) =
+    absurd (one.either m found.0 spells found.1)
+one_reading members planes.User octets text false j true lines (ms, (said, (f, fails, has), whole), is) =
     let one = one_of _ (IsUserMessage octets) (IsUserFault octets) (user_decided octets) in
     let s = user_of members octets text lines in
     absurd (one.either s.0 f s.1 fails)
-one_reading members planes.User octets text false j false lines (ms, (n, other, ms_is), is) =
+one_reading members planes.User octets text false j false lines (ms, (said, (n, other, said_is), whole), is) =
     let one = one_of _ (IsUserMessage octets) (IsUserFault octets) (user_decided octets) in
     let s = user_of members octets text lines in
-    (refl, (s.0, s.1, s.2, is ∙ ap (λ (xs : List (List ℕ × Json)). object_of (plane_member planes.User ++ xs)) (ms_is ∙ ap user_members (one.value n s.0 other s.1))))
+    (refl, (s.0, s.1, s.2, whole_is members planes.User octets ms said j whole is ∙ ap (λ (xs : List (List ℕ × Json)). object_of (plane_member planes.User ++ (octets_shown members octets ++ xs))) (said_is ∙ ap user_members (one.value n s.0 other s.1))))

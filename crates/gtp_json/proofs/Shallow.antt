@@ -31,12 +31,12 @@ use Rattle.gtp_ie.specs.declared.form.Form.TheVariants as forms
 use Rattle.gtp_codes.specs.Words.{word_in, cause_words, interface_type_words, pdn_type_words}
 use Rattle.gtp_lines.specs.Words.{read_word}
 use Rattle.gtp_json.specs.Values.{word_members, beside, offending_members, cause_members, paa_members, v4_members, v6_members, interface_members, end_members, value_json, octets_members, named_members, form_members, body_members}
-use Rattle.gtp_json.specs.Control.{element_head, inner_json, group_members, element_members, element_json, named_by, title_members, teid_members, priority_members, header_members, head_members, elements_members, CarriedMembers, MessageMembers, second_member, element_fault_members, fault_members, context_members, placed_members, fault_member}
+use Rattle.gtp_json.specs.Control.{place_members, element_head, inner_json, group_members, element_members, element_json, named_by, title_members, teid_members, priority_members, header_members, head_members, elements_members, CarriedMembers, MessageMembers, second_member, element_fault_members, fault_members, context_members, placed_members, fault_member}
 use Rattle.gtp_lines.specs.User.{user_name, body_name}
 use Rattle.gtp_json.specs.User.{named, user_title, target_members, some_member, user_head, extension_json, extensions_members, user_carried, user_members, user_fault_members}
 use Rattle.gtp_json.specs.declared.datagram.Members.{Members}
 use Rattle.gtp_json.specs.declared.datagram.Members.TheVariants.{Plain, All}
-use Rattle.gtp_json.specs.Datagram.{plane_member, ControlMembers, BeforeFault, WithFault, MembersBy}
+use Rattle.gtp_json.specs.Datagram.{plane_member, ControlMembers, BeforeFault, WithFault, MembersBy, octets_shown, WholeMembers}
 use Rattle.gtp_v2.specs.Headed.{Headed}
 use Rattle.gtp_lines.specs.All.{UserHead, fault_context, head_at, pair_at, user_head_at}
 use Rattle.gtp_json.specs.All.{rest_members, MessageShown, AloneShown, SecondShown, ShownBy, kind_members, user_shown}
@@ -148,28 +148,33 @@ body_within : (kind : ℕ) (body : List ℕ) → Within 2 (body_members kind bod
 unfolding body_members
 body_within kind body = form_within (form_of kind) kind body
 
-head_within : (e : Element) → Within 2 (element_head e)
+place_within : (places : Bool) (e : Element) → Within 2 (place_members places e)
 unfolding member
-head_within e = (omega arith, (omega arith, tt))
+place_within false e = tt
+place_within true e = (omega arith, (omega arith, tt))
 
-inner_depth : (e : Element) → depth (inner_json e) ≤ 3
-inner_depth e = object_depth 2 (element_head e ++ body_members e.kind e.body) (join 2 (element_head e) (body_members e.kind e.body) (head_within e) (body_within e.kind e.body))
-
-group_within : (e : Element) (r : Result (List Element) ℕ) → Within 4 (group_members e r)
+head_within : (places : Bool) (e : Element) → Within 2 (element_head places e)
 unfolding member
-group_within e (Ok inner) = (omega arith, (array_depth 3 inner_json inner inner_depth, tt))
-group_within e (Err at) = more 2 4 (octets_members e.body) (omega arith) (octets_within e.body)
+head_within places e = (omega arith, (omega arith, place_within places e))
+
+inner_depth : (places : Bool) (e : Element) → depth (inner_json places e) ≤ 3
+inner_depth places e = object_depth 2 (element_head places e ++ body_members e.kind e.body) (join 2 (element_head places e) (body_members e.kind e.body) (head_within places e) (body_within e.kind e.body))
+
+group_within : (places : Bool) (e : Element) (r : Result (List Element) ℕ) → Within 4 (group_members places e r)
+unfolding member
+group_within places e (Ok inner) = (omega arith, (array_depth 3 (inner_json places) inner (inner_depth places), tt))
+group_within places e (Err at) = more 2 4 (octets_members e.body) (omega arith) (octets_within e.body)
 
 chosen_within : (b : Bool) (n : ℕ) (x y : List (List ℕ × Json)) → Within n x → Within n y → Within n (if b then x else y)
 chosen_within true n x y h k = h
 chosen_within false n x y h k = k
 
-element_within : (e : Element) → Within 4 (element_members e)
-element_within e =
-    chosen_within (e.kind == bearer_context) 4 (group_members e (elements_of (e.at + 4) e.body)) (body_members e.kind e.body) (group_within e (elements_of (e.at + 4) e.body)) (more 2 4 (body_members e.kind e.body) (omega arith) (body_within e.kind e.body))
+element_within : (places : Bool) (e : Element) → Within 4 (element_members places e)
+element_within places e =
+    chosen_within (e.kind == bearer_context) 4 (group_members places e (elements_of (e.at + 4) e.body)) (body_members e.kind e.body) (group_within places e (elements_of (e.at + 4) e.body)) (more 2 4 (body_members e.kind e.body) (omega arith) (body_within e.kind e.body))
 
-element_depth : (e : Element) → depth (element_json e) ≤ 5
-element_depth e = object_depth 4 (element_head e ++ element_members e) (join 4 (element_head e) (element_members e) (more 2 4 (element_head e) (omega arith) (head_within e)) (element_within e))
+element_depth : (places : Bool) (e : Element) → depth (element_json places e) ≤ 5
+element_depth places e = object_depth 4 (element_head places e ++ element_members places e) (join 4 (element_head places e) (element_members places e) (more 2 4 (element_head places e) (omega arith) (head_within places e)) (element_within places e))
 
 -- ---- control messages
 
@@ -199,7 +204,7 @@ header_within kind teid seq priority = join 6 (title_members kind) _ (title_with
 carried_within : (octets : List ℕ) (m : MessageValue) (content : Content) (ms : List (List ℕ × Json)) → CarriedMembers octets m content ms → Within 6 ms
 unfolding member
 carried_within octets m (Raw carried) ms is = subst (Within 6) (sym is) (omega arith, tt)
-carried_within octets m (Fields fields) ms (es, are, is) = subst (Within 6) (sym is) (array_depth 5 element_json es element_depth, tt)
+carried_within octets m (Fields fields) ms (es, are, is) = subst (Within 6) (sym is) (array_depth 5 (element_json false) es (element_depth false), tt)
 
 message_within : (octets : List ℕ) (ms : List (List ℕ × Json)) → MessageMembers octets ms → Within 6 ms
 message_within octets ms (m, spelled, (carried, has, is)) = subst (Within 6) (sym is) (join 6 (head_members m) carried (header_within m.kind m.teid m.seq m.priority) (carried_within octets m m.content carried has))
@@ -299,24 +304,24 @@ unfolding member
 left_within [] = tt
 left_within (octet ∷ octets) = (omega arith, tt)
 
-shown_within : (h : Headed) (ms : List (List ℕ × Json)) → MessageShown h ms → Within 6 ms
+shown_within : (places : Bool) (h : Headed) (ms : List (List ℕ × Json)) → MessageShown places h ms → Within 6 ms
 unfolding member
-shown_within h ms (es, rest, front, is) =
-    let elements : Within 6 (elements_members es) = (array_depth 5 element_json es element_depth, tt) in
-    subst (Within 6) (sym is) (join 6 (header_members h.kind h.teid h.seq h.priority) _ (header_within h.kind h.teid h.seq h.priority) (join 6 (elements_members es) (rest_members rest) elements (left_within rest)))
+shown_within places h ms (es, rest, front, is) =
+    let elements : Within 6 (elements_members places es) = (array_depth 5 (element_json places) es (element_depth places), tt) in
+    subst (Within 6) (sym is) (join 6 (header_members h.kind h.teid h.seq h.priority) _ (header_within h.kind h.teid h.seq h.priority) (join 6 (elements_members places es) (rest_members rest) elements (left_within rest)))
 
-alone_within : (h : Option Headed) (ms : List (List ℕ × Json)) → AloneShown h ms → Within 6 ms
-alone_within None ms is = subst (Within 6) (sym is) tt
-alone_within (Some h) ms shown = shown_within h ms shown
+alone_within : (places : Bool) (h : Option Headed) (ms : List (List ℕ × Json)) → AloneShown places h ms → Within 6 ms
+alone_within places None ms is = subst (Within 6) (sym is) tt
+alone_within places (Some h) ms shown = shown_within places h ms shown
 
-second_within : (octets : List ℕ) (h : Option Headed) (ms : List (List ℕ × Json)) → SecondShown octets h ms → Within 6 ms
-second_within octets None ms is = subst (Within 6) (sym is) (left_within octets)
-second_within octets (Some h) ms shown = shown_within h ms shown
+second_within : (places : Bool) (octets : List ℕ) (h : Option Headed) (ms : List (List ℕ × Json)) → SecondShown places octets h ms → Within 6 ms
+second_within places octets None ms is = subst (Within 6) (sym is) (left_within octets)
+second_within places octets (Some h) ms shown = shown_within places h ms shown
 
-by_within : (pair : Option (Headed × List ℕ)) (whole : Option Headed) (ms : List (List ℕ × Json)) → ShownBy pair whole ms → Within 7 ms
-by_within None whole ms shown = more 6 7 ms (omega arith) (alone_within whole ms shown)
-by_within (Some pair) whole ms (a, b, first, second, is) =
-    subst (Within 7) (sym is) (join 7 a (second_member b) (more 6 7 a (omega arith) (shown_within pair.0 a first)) (one 7 (codes "second") (object_of b) (object_depth 6 b (second_within pair.1 (head_at pair.1) b second))))
+by_within : (places : Bool) (pair : Option (Headed × List ℕ)) (whole : Option Headed) (ms : List (List ℕ × Json)) → ShownBy places pair whole ms → Within 7 ms
+by_within places None whole ms shown = more 6 7 ms (omega arith) (alone_within places whole ms shown)
+by_within places (Some pair) whole ms (a, b, first, second, is) =
+    subst (Within 7) (sym is) (join 7 a (second_member b) (more 6 7 a (omega arith) (shown_within places pair.0 a first)) (one 7 (codes "second") (object_of b) (object_depth 6 b (second_within places pair.1 (head_at pair.1) b second))))
 
 user_shown_within : (h : Option UserHead) → Within 7 (user_shown h)
 unfolding member
@@ -330,21 +335,30 @@ control_within Plain octets ms (inl h) = more 6 7 ms (omega arith) (message_with
 control_within Plain octets ms (inr (front, back, announces, (a, b, ha, hb, is))) =
     subst (Within 7) (sym is)
     (join 7 a (second_member b) (more 6 7 a (omega arith) (message_within front a ha)) (one 7 (codes "second") (object_of b) (object_depth 6 b (message_within back b hb))))
-control_within All octets ms (is, how) = by_within (pair_at octets) (head_at octets) ms how
+control_within (All places) octets ms (is, how) = by_within places (pair_at octets) (head_at octets) ms how
 
 before_within : (members : Members) (plane : Plane) (octets : List ℕ) (ms : List (List ℕ × Json)) → BeforeFault members plane octets ms → Within 7 ms
 before_within Plain plane octets ms is = subst (Within 7) (sym is) tt
-before_within All planes.Control octets ms how = by_within (pair_at octets) (head_at octets) ms how
-before_within All planes.User octets ms is = subst (Within 7) (sym is) (user_shown_within (user_head_at octets))
+before_within (All places) planes.Control octets ms how = by_within places (pair_at octets) (head_at octets) ms how
+before_within (All places) planes.User octets ms is = subst (Within 7) (sym is) (user_shown_within (user_head_at octets))
 
 with_fault_within : (members : Members) (plane : Plane) (octets : List ℕ) (fault ms : List (List ℕ × Json)) → Within 1 fault → WithFault members plane octets fault ms → Within 7 ms
 with_fault_within members plane octets fault ms low (before, how, is) = subst (Within 7) (sym is) (join 7 before _ (before_within members plane octets before how) (fault_member_within fault low))
 
-pub by_members_within : (members : Members) (plane : Plane) (octets : List ℕ) (ms : List (List ℕ × Json)) (faulty : Bool) → MembersBy members plane octets ms faulty → Within 7 ms
+by_members_within : (members : Members) (plane : Plane) (octets : List ℕ) (ms : List (List ℕ × Json)) (faulty : Bool) → MembersBy members plane octets ms faulty → Within 7 ms
 by_members_within members planes.Control octets ms true (f, first, has) = with_fault_within members planes.Control octets (placed_members octets f) ms (placed_within octets f) has
 by_members_within members planes.Control octets ms false has = control_within members octets ms has
 by_members_within members planes.User octets ms true (f, first, has) = with_fault_within members planes.User octets (user_fault_members f) ms (user_fault_within f) has
 by_members_within members planes.User octets ms false (m, spelled, is) = subst (Within 7) (sym is) (user_message_within m)
+
+octets_shown_within : (members : Members) (octets : List ℕ) → Within 7 (octets_shown members octets)
+unfolding member
+octets_shown_within Plain octets = tt
+octets_shown_within (All false) octets = tt
+octets_shown_within (All true) octets = (omega arith, tt)
+
+pub whole_within : (members : Members) (plane : Plane) (octets : List ℕ) (ms : List (List ℕ × Json)) (faulty : Bool) → WholeMembers members plane octets ms faulty → Within 7 ms
+whole_within members plane octets ms faulty (said, has, is) = subst (Within 7) (sym is) (join 7 (octets_shown members octets) said (octets_shown_within members octets) (by_members_within members plane octets said faulty has))
 
 pub plane_within : (plane : Plane) → Within 7 (plane_member plane)
 plane_within plane = one 7 (codes "plane") _ (omega arith)
@@ -365,4 +379,4 @@ part_within p = chosen_within p.fragment 7 (member (codes "fragment") (boolean t
 
 pub rest_within : (members : Members) (p : Captured) (ms : List (List ℕ × Json)) (faulty : Bool) → RestMembers members p ms faulty → Within 7 ms
 rest_within members p ms faulty (inl (part, none, is)) = subst (Within 7) (sym is) (part_within p)
-rest_within members p ms faulty (inr (all, h)) = by_members_within members p.plane p.octets ms faulty h
+rest_within members p ms faulty (inr (all, h)) = whole_within members p.plane p.octets ms faulty h

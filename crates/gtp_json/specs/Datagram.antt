@@ -11,6 +11,7 @@ use Rattle.gtp_lines.specs.All.{user_head_at}
 use Rattle.gtp_json.specs.declared.datagram.Members.{Members}
 use Rattle.gtp_json.specs.declared.datagram.Members.TheVariants.{Plain, All}
 use Rattle.gtp_json.specs.Tree.{member, object_of, line_of}
+use Rattle.gtp_json.specs.Values.{hexadecimal}
 use Rattle.gtp_json.specs.Control.{MessageMembers, PairMembers, placed_members, fault_member}
 use Rattle.gtp_json.specs.User.{user_fault_members, UserMembers}
 use Rattle.gtp_json.specs.All.{ControlShown, user_shown}
@@ -25,13 +26,13 @@ plane_member plane = member (codes "plane") (string (plane_word plane))
 -- the members of a control datagram without a fault: those of its message or of its two; or all that can be shown of it, where it spells these
 abbrev pub ControlMembers : Members → List ℕ → List (List ℕ × Json) → Type 0
 ControlMembers Plain octets ms = MessageMembers octets ms ⊎ PairMembers octets ms
-ControlMembers All octets ms = ((d : DatagramValue) × IsDatagram octets d) × ControlShown octets ms
+ControlMembers (All places) octets ms = ((d : DatagramValue) × IsDatagram octets d) × ControlShown places octets ms
 
 -- what stands before a fault: nothing; or all that can be shown
 abbrev pub BeforeFault : Members → Plane → List ℕ → List (List ℕ × Json) → Type 0
 BeforeFault Plain plane octets ms = ms ≡ []
-BeforeFault All Control octets ms = ControlShown octets ms
-BeforeFault All User octets ms = ms ≡ user_shown (user_head_at octets)
+BeforeFault (All places) Control octets ms = ControlShown places octets ms
+BeforeFault (All places) User octets ms = ms ≡ user_shown (user_head_at octets)
 
 -- and then the fault, of these members
 abbrev pub WithFault : Members → Plane → List ℕ → List (List ℕ × Json) → List (List ℕ × Json) → Type 0
@@ -44,9 +45,18 @@ MembersBy members Control octets ms false = ControlMembers members octets ms
 MembersBy members User octets ms true = (f : UserFault) × IsUserFault octets f × WithFault members User octets (user_fault_members f) ms
 MembersBy members User octets ms false = UserMembers octets ms
 
+-- its octets, where places are asked for
+abbrev pub octets_shown : Members → List ℕ → List (List ℕ × Json)
+octets_shown (All true) octets = member (codes "datagram") (hexadecimal octets)
+octets_shown members octets = []
+
+-- both
+abbrev pub WholeMembers : Members → Plane → List ℕ → List (List ℕ × Json) → Bool → Type 0
+WholeMembers members plane octets ms faulty = (said : List (List ℕ × Json)) × MembersBy members plane octets said faulty × (ms ≡ octets_shown members octets ++ said)
+
 -- the JSON of a datagram: its plane, and then these members
 abbrev pub IsDatagramJson : Members → Plane → List ℕ → Json → Bool → Type 0
-IsDatagramJson members plane octets j faulty = (ms : List (List ℕ × Json)) × MembersBy members plane octets ms faulty × (j ≡ object_of (plane_member plane ++ ms))
+IsDatagramJson members plane octets j faulty = (ms : List (List ℕ × Json)) × WholeMembers members plane octets ms faulty × (j ≡ object_of (plane_member plane ++ ms))
 
 -- and its line
 abbrev pub DatagramJson : Members → Plane → List ℕ → List ℕ → Bool → Type 0

@@ -8,7 +8,7 @@ use Rattle.gtp_capture.specs.Seen.{Seen}
 use Rattle.gtp_frames.specs.Frames.{time_text, is_whole}
 use Rattle.gtp_json.specs.Tree.{member, object_of, number_of, line_of}
 use Rattle.gtp_json.specs.declared.datagram.Members.{Members}
-use Rattle.gtp_json.specs.Datagram.{plane_member, MembersBy}
+use Rattle.gtp_json.specs.Datagram.{plane_member, WholeMembers}
 
 -- where a datagram is from or to
 abbrev pub end_members : Endpoint → List (List ℕ × Json)
@@ -31,7 +31,7 @@ part_members p = if p.fragment then member (codes "fragment") (boolean true) els
 
 -- the members after those of the frame: the datagram's, where the capture has all its octets; else why it has not
 abbrev pub RestMembers : Members → Packet → List (List ℕ × Json) → Bool → Type 0
-RestMembers members p ms faulty = ((is_whole p ≡ false) × (faulty ≡ false) × (ms ≡ part_members p)) ⊎ ((is_whole p ≡ true) × MembersBy members p.plane p.octets ms faulty)
+RestMembers members p ms faulty = ((is_whole p ≡ false) × (faulty ≡ false) × (ms ≡ part_members p)) ⊎ ((is_whole p ≡ true) × WholeMembers members p.plane p.octets ms faulty)
 
 -- the JSON of a datagram of a capture, and whether it has a fault
 abbrev pub IsFrameJson : Members → Seen → Json → Bool → Type 0

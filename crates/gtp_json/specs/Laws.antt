@@ -18,7 +18,7 @@ use Rattle.gtp_json.specs.declared.datagram.Members.TheVariants.{Plain, All}
 use Rattle.gtp_json.specs.Tree.{object_of}
 use Rattle.gtp_json.specs.Control.{placed_members}
 use Rattle.gtp_json.specs.User.{user_members, user_fault_members}
-use Rattle.gtp_json.specs.Datagram.{plane_member, WithFault, IsDatagramJson, DatagramJson}
+use Rattle.gtp_json.specs.Datagram.{plane_member, octets_shown, WithFault, IsDatagramJson, DatagramJson}
 use Rattle.gtp_json.specs.Frames.{FrameJson}
 
 -- a datagram has one line, in each form, and whether it has a fault is determined
@@ -36,13 +36,13 @@ OneFrameLine =
 -- the lines of a datagram: those of its message or of its two, or of its first fault; or all that can be shown of it, and then the fault
 abbrev pub LinesBy : Members → Plane → List ℕ → List ℕ → Bool → Type 0
 LinesBy Plain plane octets text faulty = LinesOf plane octets text faulty
-LinesBy All plane octets text faulty = AllLines plane octets text faulty
+LinesBy (All places) plane octets text faulty = AllLines plane octets text faulty
 
 -- what stands before the line of a fault: nothing; or all that can be shown
 abbrev pub LinesBefore : Members → Plane → List ℕ → List ℕ → Type 0
 LinesBefore Plain plane octets text = text ≡ []
-LinesBefore All planes.Control octets text = ControlShown octets text
-LinesBefore All planes.User octets text = text ≡ user_shown (user_head_at octets)
+LinesBefore (All places) planes.Control octets text = ControlShown octets text
+LinesBefore (All places) planes.User octets text = text ≡ user_shown (user_head_at octets)
 
 -- and then the line
 abbrev pub EndsInLine : Members → Plane → List ℕ → List ℕ → List ℕ → Type 0
@@ -50,12 +50,12 @@ EndsInLine members plane octets line text = (before : List ℕ) × LinesBefore m
 
 -- an object whose last member is a fault
 abbrev pub EndsInFault : Members → Plane → List ℕ → List (List ℕ × Json) → Json → Type 0
-EndsInFault members plane octets fault j = (ms : List (List ℕ × Json)) × WithFault members plane octets fault ms × (j ≡ object_of (plane_member plane ++ ms))
+EndsInFault members plane octets fault j = (ms : List (List ℕ × Json)) × WithFault members plane octets fault ms × (j ≡ object_of (plane_member plane ++ (octets_shown members octets ++ ms)))
 
 -- the line of a fault; and, of all that can be shown, that of the bearer context in which it lies
 abbrev pub fault_lines : Members → List ℕ → V2Fault → List ℕ
 fault_lines Plain octets f = fault_line f
-fault_lines All octets f = fault_line f ++ context_line (fault_context octets f)
+fault_lines (All places) octets f = fault_line f ++ context_line (fault_context octets f)
 
 -- the text and the object say the one fault of the octets, or their one message of the user plane; of a datagram of the control plane the octets spell one and
 -- no other, so both are of that
@@ -65,7 +65,7 @@ OfOne members planes.Control octets true text j =
 OfOne members planes.Control octets false text j = (d : DatagramValue) × IsDatagram octets d × ((other : DatagramValue) → IsDatagram octets other → other ≡ d)
 OfOne members planes.User octets true text j =
     (f : UserFault) × IsUserFault octets f × EndsInLine members planes.User octets (user_fault_line f) text × EndsInFault members planes.User octets (user_fault_members f) j
-OfOne members planes.User octets false text j = (m : UserValue) × IsUserMessage octets m × (text ≡ user_lines m) × (j ≡ object_of (plane_member planes.User ++ user_members m))
+OfOne members planes.User octets false text j = (m : UserValue) × IsUserMessage octets m × (text ≡ user_lines m) × (j ≡ object_of (plane_member planes.User ++ (octets_shown members octets ++ user_members m)))
 
 -- the lines of a datagram and its object are of one reading
 abbrev pub OneReading : Type 0

@@ -28,64 +28,69 @@ fn put_rest(out: &mut Output, rest: &[u8]) -> Result<(), AllocError>
 
 /// Writes elements and the octets after them.
 #[tactic(auto, using(crate::proofs::Tokens::appending))]
-fn put_list(out: &mut Output, elements: &Elements, rest: &[u8]) -> Result<(), AllocError>
+fn put_list(
+    out: &mut Output,
+    places: bool,
+    elements: &Elements,
+    rest: &[u8],
+) -> Result<(), AllocError>
     ensures ok { OnOk result (out.new
-        ≡ out.old ++ written (elements_members elements.now ++ rest_members rest.now)) }
+        ≡ out.old ++ written (elements_members places elements.now ++ rest_members rest.now)) }
 {
-    put_elements(out, elements)?;
+    put_elements(out, places, elements)?;
     put_rest(out, rest)
 }
 
 /// Writes a message with this header.
-fn put_message(out: &mut Output, header: &Header) -> Result<(), AllocError>
-    ensures ok { OnOk result (Adds (MessageShown (headed_of header.now)) out.old out.new) }
+fn put_message(out: &mut Output, places: bool, header: &Header) -> Result<(), AllocError>
+    ensures ok { OnOk result (Adds (MessageShown places (headed_of header.now)) out.old out.new) }
 {
     put_head_members(out, header.kind, header.teid, header.seq, header.priority)?;
     let (elements, rest) = front_elements(header.rest, header.place());
-    put_list(out, &elements, rest)?;
+    put_list(out, places, &elements, rest)?;
     Ok(())
 }
 
 /// Writes a message, where there is a header.
-fn put_alone(out: &mut Output, octets: &[u8]) -> Result<(), AllocError>
-    ensures ok { OnOk result (Adds (AloneShown (spec_head_at octets.now)) out.old out.new) }
+fn put_alone(out: &mut Output, places: bool, octets: &[u8]) -> Result<(), AllocError>
+    ensures ok { OnOk result (Adds (AloneShown places (spec_head_at octets.now)) out.old out.new) }
 {
     match head_at(octets) {
-        Some(header) => put_message(out, &header),
+        Some(header) => put_message(out, places, &header),
         None => Ok(()),
     }
 }
 
 /// Writes a second message, or its octets where there is no header.
-fn put_second(out: &mut Output, octets: &[u8]) -> Result<(), AllocError>
+fn put_second(out: &mut Output, places: bool, octets: &[u8]) -> Result<(), AllocError>
     ensures ok { OnOk result
-        (Adds (SecondShown octets.now (spec_head_at octets.now)) out.old out.new) }
+        (Adds (SecondShown places octets.now (spec_head_at octets.now)) out.old out.new) }
 {
     match head_at(octets) {
-        Some(header) => put_message(out, &header),
+        Some(header) => put_message(out, places, &header),
         None => put_rest(out, octets),
     }
 }
 
 /// Writes a first message with this header, and an object of the octets after it.
-fn put_pair(out: &mut Output, header: &Header, back: &[u8]) -> Result<(), AllocError>
-    ensures ok { OnOk result (Adds (PairShown (headed_of header.now) back.now) out.old out.new) }
+fn put_pair(out: &mut Output, places: bool, header: &Header, back: &[u8]) -> Result<(), AllocError>
+    ensures ok { OnOk result (Adds (PairShown places (headed_of header.now) back.now) out.old out.new) }
 {
-    put_message(out, header)?;
+    put_message(out, places, header)?;
     out.key("second")?;
     out.begin_object()?;
-    put_second(out, back)?;
+    put_second(out, places, back)?;
     out.end_object()?;
     Ok(())
 }
 
 /// Writes what can be shown of a control datagram.
-pub fn put_shown(out: &mut Output, octets: &[u8]) -> Result<(), AllocError>
-    ensures ok { OnOk result (Adds (ControlShown octets.now) out.old out.new) }
+pub fn put_shown(out: &mut Output, places: bool, octets: &[u8]) -> Result<(), AllocError>
+    ensures ok { OnOk result (Adds (ControlShown places octets.now) out.old out.new) }
 {
     match pair_at(octets) {
-        Some((header, back)) => put_pair(out, &header, back),
-        None => put_alone(out, octets),
+        Some((header, back)) => put_pair(out, places, &header, back),
+        None => put_alone(out, places, octets),
     }
 }
 

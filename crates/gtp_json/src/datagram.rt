@@ -4,7 +4,7 @@ ghost use Rattle.std.specs.Prelude.{◌≡◌, ◌++◌, OnOk, IfOk};
 ghost use Rattle.gtp_values.specs.declared.plane.Plane.TheVariants as planes;
 ghost use Rattle.gtp_json.specs.reading.Tokens.{written};
 ghost use Rattle.gtp_json.specs.Adds.{Adds};
-ghost use Rattle.gtp_json.specs.Datagram.{plane_word, plane_member, BeforeFault, MembersBy, IsDatagramJson, DatagramJson};
+ghost use Rattle.gtp_json.specs.Datagram.{plane_word, plane_member, BeforeFault, MembersBy, octets_shown, WholeMembers, IsDatagramJson, DatagramJson};
 ghost use Rattle.gtp_json.specs.Reads.{ReadsBack};
 
 use crate::all::{put_shown, put_user_shown};
@@ -21,7 +21,8 @@ pub enum Members {
     /// Those of its message or of its two; or, in their place, its first fault.
     Plain,
     /// All that can be shown of it, and then its first fault, if it has one; of a user datagram without a fault, those of its message.
-    All,
+    /// With places: the octets of the datagram before these, and of each element of the control plane where it stands.
+    All { places: bool },
 }
 
 /// The word of a plane.
@@ -52,8 +53,8 @@ fn put_before(
 {
     match (members, plane) {
         (Members::Plain, _) => Ok(()),
-        (Members::All, Plane::Control) => put_shown(out, octets),
-        (Members::All, Plane::User) => put_user_shown(out, octets),
+        (Members::All { places }, Plane::Control) => put_shown(out, places, octets),
+        (Members::All { .. }, Plane::User) => put_user_shown(out, octets),
     }
 }
 
@@ -66,7 +67,7 @@ fn put_control(out: &mut Output, members: Members, octets: &[u8]) -> Result<bool
         Ok(seen) => {
             match members {
                 Members::Plain => control::put_datagram(out, &seen)?,
-                Members::All => put_shown(out, octets)?,
+                Members::All { places } => put_shown(out, places, octets)?,
             }
             Ok(false)
         }
@@ -96,8 +97,19 @@ fn put_user(out: &mut Output, members: Members, octets: &[u8]) -> Result<bool, A
     }
 }
 
-/// Writes the members of a datagram after its plane, and tells whether it has a fault.
-pub fn put_members(
+/// Writes the octets of a datagram, where places are asked for.
+#[tactic(auto, using(crate::proofs::Tokens::appending))]
+fn put_octets_shown(out: &mut Output, members: Members, octets: &[u8]) -> Result<(), AllocError>
+    ensures ok { OnOk result (out.new ≡ out.old ++ written (octets_shown members octets.now)) }
+{
+    match members {
+        Members::All { places: true } => out.hex_member("datagram", octets),
+        _ => Ok(()),
+    }
+}
+
+/// Writes what stands after them, and tells whether the datagram has a fault.
+fn put_said(
     out: &mut Output,
     members: Members,
     plane: Plane,
@@ -112,10 +124,26 @@ pub fn put_members(
     }
 }
 
+/// Writes the members of a datagram after its plane, and tells whether it has a fault.
+pub fn put_members(
+    out: &mut Output,
+    members: Members,
+    plane: Plane,
+    octets: &[u8],
+) -> Result<bool, AllocError>
+    ensures { IfOk result (λ faulty.
+        Adds (λ ms. WholeMembers members plane octets.now ms faulty) out.old out.new) }
+{
+    put_octets_shown(out, members, octets)?;
+    let faulty = put_said(out, members, plane, octets)?;
+    Ok(faulty)
+}
+
 /// A datagram as one JSON object on one line, in ASCII, with a line feed: its plane, and then these members; and whether it
 /// has a fault. `Plain`: those of its message or of its two, or its first fault alone. `All`: of each message of the control
 /// plane its header and its elements, as many as are whole, and the octets that are left; and then the datagram's first fault,
-/// if it has one. `Memory` where an allocation was refused.
+/// if it has one. `All` with places has before these `datagram`, its octets, and each element of the control plane has `at`, the place of its
+/// first octet, and `length`, how many octets it is. `Memory` where an allocation was refused.
 pub fn datagram_json(
     alloc: Global,
     members: Members,

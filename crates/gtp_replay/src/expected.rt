@@ -21,8 +21,8 @@ fn is_second_refused(second: Option<Outcome>) -> bool
     }
 }
 
-/// Whether this is expected: the first word of an outcome, or else any that is no refusal.
-fn is_met(expect: &Option<String>, note: &Note) -> bool
+/// Whether an outcome is expected: this first word, or else any that is no refusal.
+pub fn is_met(expect: &Option<String>, note: &Note) -> bool
     ensures { result ≡ told_is_met (option_map (λ s. string_bytes s) expect.now)
         (told_by note.now) }
 {
