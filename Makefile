@@ -1,6 +1,6 @@
 # Installs gtpshow: the program, its manual page, completions for three shells, the pages, the reference of the public calls, test
-# vectors and the examples; and for C programs
-# the library, the toolchain's functions for memory that it calls, the header and gtp.pc (pkg-config).
+# vectors, the examples and, where scripts/page has made it, the program as a page for browsers; and for C programs the library, the
+# toolchain's functions for memory that it calls, the header and gtp.pc (pkg-config).
 #
 #   make                          proves and builds the program (scripts/prove) and the library (scripts/library), if they are not built
 #   make install PREFIX=/usr      installs it below PREFIX, by default /usr/local; DESTDIR goes in front. With an empty PREFIX gtp.pc
@@ -12,6 +12,7 @@ INSTALL ?= install
 
 program = crates/gtpshow/out/gtpshow
 library = crates/gtp_c/out/libgtp_c.a
+browsers = out/page/gtpshow.html
 heap = $(dir $(shell rt doc))c/liblibc_c.a
 root = $(DESTDIR)$(PREFIX)
 pages = $(root)/share/doc/gtpshow
@@ -46,12 +47,13 @@ install: $(program) $(library)
 	$(INSTALL) -d $(root)/lib/pkgconfig
 	sed 's|@PREFIX@|$(or $(PREFIX),$${pcfiledir}/../..)|' share/gtp.pc > $(root)/lib/pkgconfig/gtp.pc
 	$(INSTALL) -d $(pages)/examples
-	$(INSTALL) -m 644 docs/PROTOCOL.md docs/FORMATS.md docs/JSON.md docs/C.md docs/PROVED.md docs/BELIEVE.md docs/CHANGELOG.md docs/SECURITY.md $(pages)
+	$(INSTALL) -m 644 docs/PROTOCOL.md docs/FORMATS.md docs/JSON.md docs/C.md docs/PROVED.md docs/BELIEVE.md docs/CHANGELOG.md docs/SECURITY.md docs/PAGE.md docs/page-capture.png docs/page-scenario.png $(pages)
 	sed -i 's|](../include/|](../../../include/|g; s|](../examples/|](examples/|g; s|](../rust/gtp)|](../../gtp/rust)|g' $(pages)/*.md
 	sed -i -E 's/\[([^]]*)\]\(($(left_out))[^)]*\)/\1/g' $(pages)/*.md
 	scripts/reference $(pages)/reference.html > /dev/null
 	scripts/vectors $(pages)/vectors > /dev/null
 	cd $(pages)/vectors && sha256sum control.jsonl user.jsonl > SHA256SUMS
+	if [ -f $(browsers) ]; then $(INSTALL) -m 644 $(browsers) $(pages); else echo 'install: no page for browsers, since scripts/page has not made it' >&2; fi
 	cp -R examples/scenarios examples/captures examples/datagrams examples/bridge examples/c examples/rust $(pages)/examples
 	rm -rf $(pages)/examples/rust/target
 	sed -i 's|"../../rust/gtp"|"../../../../gtp/rust"|' $(pages)/examples/rust/Cargo.toml
