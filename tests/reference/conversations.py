@@ -4,8 +4,8 @@ cut, added or sent from elsewhere, messages of every kind that fit no request, p
 import random
 
 from decoding import ROWS
-from gateways import (AMBR, APN, BOTH, CAUSE, CHARGING_ID, CONTEXT, CREATE_BEARER, CREATE_SESSION, DELETE_BEARER, DELETE_SESSION, EBI, FTEID, IMSI,
-                      IPV4, IPV6, PAA, PACKET, PDN_TYPE, QUALITY, RAT, RATES, RECOVERY, S5S8_PGW_GTP_C, S5S8_PGW_GTP_U, S5S8_SGW_GTP_C,
+from gateways import (APN, BOTH, CAUSE, CHARGING_ID, CONTEXT, CREATE_BEARER, CREATE_SESSION, DELETE_BEARER, DELETE_SESSION, EBI, FTEID, IMSI,
+                      IPV4, IPV6, PACKET, PDN_TYPE, QUALITY, RAT, RATES, RECOVERY, S5S8_PGW_GTP_C, S5S8_PGW_GTP_U, S5S8_SGW_GTP_C,
                       S5S8_SGW_GTP_U, SELECTION, SERVING, SERVING_NETWORK, TFT, Address, allocation, announced, cause_of, control, element, end_of,
                       error_indication, name_of, number_of, packed, user)
 from served import answer, octets_of, station

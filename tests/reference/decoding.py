@@ -2,7 +2,6 @@
 and the protocol profile and not after the program. Clauses are those of TS 29.274 and, of the user plane, TS 29.281."""
 
 from dataclasses import dataclass
-from typing import Optional
 
 from gateways import (AMBR, APN, CAUSE, CHARGING_ID, CONDITIONAL_IE_MISSING, CONTEXT, EBI, ERROR_INDICATION, FTEID, IMSI,
                       INVALID_LENGTH, MANDATORY_IE_INCORRECT, MANDATORY_IE_MISSING, PAA, PDN_TYPE, QOS, RAT, RECOVERY, SELECTION,

@@ -1,7 +1,7 @@
 """The run of a scenario as a sequence diagram, in plain text and as a picture (SVG)."""
 
 from gateways import PACKET, SERVING, has_two, last_message
-from world import other, outcome_text
+from world import outcome_text
 
 HEAD = "event  serving                                                     packet  outcome"
 WIDTH = 64  # of what stands between the lines of both gateways

@@ -7,7 +7,7 @@ from ipaddress import ip_address
 from decoding import ROWS, Fault, defect_of, read_datagram, read_message, read_user_datagram
 from gateways import (CREATE_BEARER, CREATE_SESSION, DELETE_BEARER, DELETE_SESSION, ECHO_REQUEST, ECHO_RESPONSE, END_MARKER,
                       ERROR_INDICATION, FTEID, G_PDU, PACKET, PENDING, RECOVERY, SERVING, Gateway, Refused, Setup, Told, control,
-                      element, error_indication, first, has_two, number_of, teid_in)
+                      element, first, has_two, number_of, teid_in)
 from run_json import bearer_object, if_known, outcome_members, session_object
 
 PORTS = {"control": 2123, "user": 2152}
