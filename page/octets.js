@@ -175,31 +175,23 @@ function nodeAt(nodes, at) {
   return null;
 }
 
-// The octets that a fault is about: those of the element that begins at its place, or those of the header that it is about. A first message
-// whose second one is shown is whole, so of these the fault is the second one's.
+// The octets that a fault is about: those of what begins where it lies, or of its header those that it is about.
 function markOf(octets, fault, nodes) {
-  const at = fault.at ?? fault.element?.at;
-  if (at !== undefined) {
-    const found = nodeAt(nodes, at), end = found ? found.to : at + 4;
-    return { from: Math.min(at, octets.length), to: Math.min(end, octets.length) };
-  }
-  const begin = nodes[nodes.length - 1].from, part = (from, to) => ({ from: begin + from, to: Math.min(begin + to, octets.length) });
+  const at = fault.element?.at ?? fault.at, part = (from, to) => ({ from: Math.min(from, octets.length), to: Math.min(to, octets.length) });
   switch (fault.code) {
-    case "H1": case "U1": return part(0, octets.length);
-    case "H2": case "U2": case "U3": return part(0, 1);
-    case "H3": case "U4": return part(2, 4);
-    case "H4": return nodes.length === 1 ? part(0, 2) : null;
+    case "H1": case "U1": return part(at, octets.length);
+    case "H2": case "U2": case "U3": return part(at, at + 1);
+    case "H3": case "U4": return part(at + 2, at + 4);
+    case "H4": return part(at, at + 2);
+    case "H6": return fault.bearer_context ? part(at, nodeAt(nodes, at).to) : part(at + 1, at + 2);
+    case "U7": return part(at, at + 4 * octets[at]);
     case "U8": return part(1, 2);
-    default: return null;
+    default: return part(at, nodeAt(nodes, at)?.to ?? at + 4);
   }
 }
 
-// What lacks an element: the one message, or bearer context of that number, in which there is none.
-function lacking(messages, { type, instance, bearer_context: number }) {
-  const holders = messages.map((it) => number ? it.children.filter((inner) => inner.type === CONTEXT)[number - 1] : it).filter(Boolean);
-  const found = holders.filter((it) => !it.children.some((inner) => inner.type === type && inner.instance === instance));
-  return found.length === 1 ? found[0] : null;
-}
+// The message, or the bearer context, that lacks an element.
+function lacking(nodes, { at, bearer_context: number }) { return number ? nodeAt(nodes, at) : nodes.find((it) => it.from === at); }
 
 // The whole of a datagram: its nodes and the mark of its fault.
 function treeOf(octets, object) {

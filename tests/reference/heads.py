@@ -6,9 +6,10 @@ program."""
 import re
 
 from diagram import NAMES
-from decoding import ROWS, Fault, read_datagram, read_user_datagram
+from decoding import ROWS, Fault, read_datagram, read_message, read_user_datagram
 from words import words_of
 
+BEARER_CONTEXT = 93
 CONTROL = {**NAMES["control"], 3: "version-not-supported"}
 USER = {**NAMES["user"], 31: "supported-extensions"}
 
@@ -32,6 +33,47 @@ def context_of(plane, octets):
     """The number of the bearer context in which an element at fault lies or is missing, or None."""
     fault = first_fault(plane, octets)
     return fault.context if fault and plane == "control" else None
+
+
+def message_at_fault(octets):
+    """Where the message at fault begins: the second one, if the first announces it and is right."""
+    if len(octets) < 4 or octets[0] >> 5 != 2 or octets[0] & 16 == 0:
+        return 0
+    size = 4 + int.from_bytes(octets[2:4], "big")
+    try:
+        read_message(bytes([octets[0] & ~16]) + octets[1:size])
+    except Fault:
+        return 0
+    return size
+
+
+def context_at(octets, begin, number):
+    """Where the bearer context of this number begins, counted from 1, in the message that begins there."""
+    at = begin + (12 if octets[begin] & 8 else 8)
+    while octets[at] != BEARER_CONTEXT or number > 1:
+        number -= octets[at] == BEARER_CONTEXT
+        at += 4 + int.from_bytes(octets[at + 1 : at + 3], "big")
+    return at
+
+
+def needed_extension_at(octets):
+    """Where the first extension header begins that has to be understood: the highest bit of its type is set (TS 29.281 5.2.1)."""
+    kind, at = octets[11], 12
+    while kind < 128:
+        at += 4 * octets[at]
+        kind = octets[at - 1]
+    return at
+
+
+def fault_place(plane, octets):
+    """Where the fault of a datagram lies, or None: it has none, or what follows its code has a place."""
+    fault = first_fault(plane, octets)
+    if fault is None or fault.code in ("H5", "H7", "U5", "U6", "U9"):
+        return None
+    if plane == "user":
+        return needed_extension_at(octets) if fault.code == "U7" else 0
+    begin = message_at_fault(octets)
+    return context_at(octets, begin, fault.context) if fault.context else begin
 
 
 def control_head(octets):

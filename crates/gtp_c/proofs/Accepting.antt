@@ -33,7 +33,7 @@ no_message m f is = true≢false (ap is_message is ∙ fault_is_none f) where
   is_message (User_fault n) = false
 
   fault_is_none : (f : UserFault) → is_message (user_fault f) ≡ false
-  fault_is_none (faults.ExtensionNeeded kind) = refl
+  fault_is_none (faults.ExtensionNeeded kind at) = refl
   fault_is_none (faults.Short held) = refl
   fault_is_none (faults.Version version) = refl
   fault_is_none faults.Protocol = refl

@@ -45,7 +45,7 @@ user_told user.Protocol = no_fault 3
 user_told (user.Length stated held) = record (no_fault 4) { stated = stated; held = held }
 user_told (user.ExtensionZero at) = record (no_fault 5) { at = at }
 user_told (user.ExtensionPast at) = record (no_fault 6) { at = at }
-user_told (user.ExtensionNeeded kind) = record (no_fault 7) { element = kind }
+user_told (user.ExtensionNeeded kind at) = record (no_fault 7) { at = at; element = kind }
 user_told (user.Missing kind) = record (no_fault 8) { element = kind }
 user_told (user.Element at) = record (no_fault 9) { at = at }
 user_told user.Memory = no_fault 10

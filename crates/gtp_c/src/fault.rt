@@ -119,8 +119,11 @@ impl Fault {
             UserFault::ExtensionZero { at }
             | UserFault::ExtensionPast { at }
             | UserFault::Element { at } => told.at = at as u64,
-            UserFault::ExtensionNeeded { kind } | UserFault::Missing { kind } => told.element =
-                kind,
+            UserFault::ExtensionNeeded { kind, at } => {
+                told.at = at as u64;
+                told.element = kind;
+            }
+            UserFault::Missing { kind } => told.element = kind,
             UserFault::Protocol | UserFault::Memory | UserFault::TooLong => {}
         }
         told

@@ -79,8 +79,8 @@ const OF_USER_MESSAGES: &[(UserFault, &str)] = &[
         "the extension header at 12 is not whole",
     ),
     (
-        UserFault::ExtensionNeeded { kind: 192 },
-        "the extension header of type 192 is not understood",
+        UserFault::ExtensionNeeded { kind: 192, at: 12 },
+        "the extension header of type 192 at 12 is not understood",
     ),
     (UserFault::Missing { kind: 14 }, "the element 14 is missing"),
     (UserFault::Element { at: 12 }, "there is no element at 12"),

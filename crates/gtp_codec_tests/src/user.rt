@@ -71,7 +71,7 @@ const CHAINS: [(u8, &[u8], Option<UserFault>); 8] = [
     (
         0xc1,
         b"\x01\xaa\xbb\x00",
-        Some(UserFault::ExtensionNeeded { kind: 0xc1 }),
+        Some(UserFault::ExtensionNeeded { kind: 0xc1, at: 0 }),
     ),
 ];
 

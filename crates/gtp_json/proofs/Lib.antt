@@ -3,5 +3,6 @@ pub mod Names
 pub mod Seen
 pub mod Shallow
 pub mod Reading
+pub mod FaultPlaces
 pub mod OneLine
 pub mod OneReading

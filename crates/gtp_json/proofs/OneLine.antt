@@ -1,16 +1,17 @@
 -- A datagram has one line in each form.
-use Rattle.std.proofs.Common.{◌≡◌, ℕ, ◌+◌, Bool, true, false, List, [], ◌∷◌, ◌++◌, length, take, drop, Option, Some, None, Result, refl, sym, ap, subst, ◌∙◌, inl, inr, arith}
-use Rattle.std.proofs.lemmas.List.{take_at, drop_at}
+use Rattle.std.proofs.Common.{◌≡◌, ℕ, Bool, true, false, List, [], ◌++◌, drop, Option, Some, None, Result, refl, sym, ap, subst, ◌∙◌, inl, inr}
+use Rattle.std.specs.Prelude.{codes}
 use Rattle.json.specs.Json.{Json}
 use Rattle.gtp_values.specs.Decides.{Decides}
 use Rattle.gtp_values.proofs.Outcomes.{ok_same, err_same, apart}
 use Rattle.gtp_values.specs.declared.plane.Plane.{Plane}
 use Rattle.gtp_values.specs.declared.plane.Plane.TheVariants as planes
 use Rattle.gtp_ie.specs.Element.{Element}
+use Rattle.gtp_v2.specs.declared.fault.V2Fault.{V2Fault}
 use Rattle.gtp_v2.specs.Datagram.{IsMessage, IsFault}
 use Rattle.gtp_v2.specs.Headed.{Headed}
 use Rattle.gtp_v2.specs.Message.{Content, Fields, Raw, MessageValue}
-use Rattle.gtp_v2.specs.Pair.{DatagramValue, IsDatagram, IsDatagramFault, Announces, alone, both}
+use Rattle.gtp_v2.specs.Pair.{DatagramValue, IsDatagram, IsDatagramFault, alone, both}
 use Rattle.gtp_v2.specs.Viewed.{place_of}
 use Rattle.gtp_v2.proofs.Pairs.{datagram_decided}
 use Rattle.gtp_v2.proofs.Told.{message_decided}
@@ -24,11 +25,13 @@ use Rattle.gtp_json.specs.declared.datagram.Members.{Members}
 use Rattle.gtp_json.specs.declared.datagram.Members.TheVariants.{Plain, All}
 use Rattle.gtp_json.specs.Tree.{object_of, line_of}
 use Rattle.gtp_json.specs.Control.{CarriedMembers, MessageMembers, PairMembers, header_members, head_members, elements_members, second_member, placed_members, fault_member}
-use Rattle.gtp_json.specs.User.{user_members, user_fault_members}
+use Rattle.gtp_json.specs.Places.{FaultMembers, user_members_at}
+use Rattle.gtp_json.specs.User.{some_member, user_members}
 use Rattle.gtp_json.specs.All.{rest_members, MessageShown, AloneShown, SecondShown, ShownBy}
-use Rattle.gtp_json.specs.Datagram.{plane_member, ControlMembers, BeforeFault, WithFault, MembersBy, octets_shown, WholeMembers}
+use Rattle.gtp_json.specs.Datagram.{plane_member, ControlMembers, BeforeFault, WithFault, MembersBy, has_places, octets_shown, WholeMembers}
 use Rattle.gtp_json.specs.Frames.{frame_members, RestMembers}
 use Rattle.gtp_json.specs.Laws.{OneLine, OneFrameLine}
+use Rattle.gtp_json.proofs.FaultPlaces.{same_parts, place_one}
 
 -- ---- one outcome
 
@@ -45,22 +48,6 @@ one_of {X} {E} r Is Fails d = record {
 }
 
 -- ---- control
-
--- octets announce a second message at one place
-same_parts : (octets front back fore rear : List ℕ) → Announces octets front back → Announces octets fore rear → (front ≡ fore) × (back ≡ rear)
-same_parts octets front back fore rear (flags, kind, high, low, following, (small, is), long, front_is) (flags2, kind2, high2, low2, following2, (small2, is2), long2, fore_is) =
-    let e : (80 + flags) ∷ kind ∷ high ∷ low ∷ (following ++ back) ≡ (80 + flags2) ∷ kind2 ∷ high2 ∷ low2 ∷ (following2 ++ rear) = sym is ∙ is2 in
-    let f : 80 + flags ≡ 80 + flags2 = cc in
-    let g : 64 + flags ≡ 64 + flags2 = omega (arith, f) in
-    let k : kind ≡ kind2 = cc in
-    let h : high ≡ high2 = cc in
-    let l : low ≡ low2 = cc in
-    let all : following ++ back ≡ following2 ++ rear = cc in
-    let n : length following ≡ length following2 = omega (arith, h, l, long, long2) in
-    let fs : following ≡ following2 = sym (take_at following back (length following) refl) ∙ (ap (take (length following)) all ∙ (ap (λ (i : ℕ). take i (following2 ++ rear)) n ∙ take_at following2 rear (length following2) refl)) in
-    let bs : back ≡ rear = sym (drop_at following back (length following) refl) ∙ (ap (drop (length following)) all ∙ (ap (λ (i : ℕ). drop i (following2 ++ rear)) n ∙ drop_at following2 rear (length following2) refl)) in
-    let same : front ≡ fore = cc in
-    (same, bs)
 
 carried_one : (octets : List ℕ) (m : MessageValue) (content : Content) (a b : List (List ℕ × Json)) → CarriedMembers octets m content a → CarriedMembers octets m content b → a ≡ b
 carried_one octets m (Raw carried) a b x y = x ∙ sym y
@@ -148,10 +135,17 @@ fault_one members plane octets fs gs ms ns same (a, before, is) (b, other, ns_is
     ∙ (ap (λ (xs : List (List ℕ × Json)). xs ++ fault_member fs) (before_one members plane octets a b before other)
     ∙ (ap (λ (xs : List (List ℕ × Json)). b ++ fault_member xs) same ∙ sym ns_is))
 
+-- a fault has its members alone
+same_fault : (places : Bool) (octets : List ℕ) (f : V2Fault) (fs gs : List (List ℕ × Json)) → FaultMembers places octets f fs → FaultMembers places octets f gs → fs ≡ gs
+same_fault false octets f fs gs a b = a ∙ sym b
+same_fault true octets f fs gs (p, lies, is) (q, lie, gs_is) = is ∙ (ap (λ (x : Option ℕ). placed_members octets f ++ some_member (codes "at") x) (place_one octets f p q lies lie) ∙ sym gs_is)
+
 members_one : (members : Members) (plane : Plane) (octets : List ℕ) (ms ns : List (List ℕ × Json)) (x y : Bool) → MembersBy members plane octets ms x → MembersBy members plane octets ns y → (ms ≡ ns) × (x ≡ y)
-members_one members planes.Control octets ms ns true true (f, fails, has) (g, fault, had) =
+members_one members planes.Control octets ms ns true true (f, fails, (fs, its, has)) (g, fault, (gs, other, had)) =
     let one = one_of _ (IsDatagram octets) (IsDatagramFault octets) (datagram_decided octets) in
-    (fault_one members planes.Control octets (placed_members octets f) (placed_members octets g) ms ns (ap (placed_members octets) (one.fault f g fails fault)) has had, refl)
+    let places = has_places members in
+    let same = same_fault places octets g fs gs (subst (λ (x : V2Fault). FaultMembers places octets x fs) (one.fault f g fails fault) its) other in
+    (fault_one members planes.Control octets fs gs ms ns same has had, refl)
 members_one members planes.Control octets ms ns true false (f, fails, has) h =
     let one = one_of _ (IsDatagram octets) (IsDatagramFault octets) (datagram_decided octets) in
     let s = spelled members octets ns h in
@@ -163,7 +157,8 @@ members_one members planes.Control octets ms ns false true h (f, fails, has) =
 members_one members planes.Control octets ms ns false false a b = (control_one members octets ms ns a b, refl)
 members_one members planes.User octets ms ns true true (f, fails, has) (g, fault, had) =
     let one = one_of _ (IsUserMessage octets) (IsUserFault octets) (user_decided octets) in
-    (fault_one members planes.User octets (user_fault_members f) (user_fault_members g) ms ns (ap user_fault_members (one.fault f g fails fault)) has had, refl)
+    let told = user_members_at (has_places members) in
+    (fault_one members planes.User octets (told f) (told g) ms ns (ap told (one.fault f g fails fault)) has had, refl)
 members_one members planes.User octets ms ns true false (f, fails, has) (m, said, ns_is) =
     let one = one_of _ (IsUserMessage octets) (IsUserFault octets) (user_decided octets) in
     absurd (one.either m f said fails)

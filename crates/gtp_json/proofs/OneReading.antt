@@ -17,9 +17,9 @@ use Rattle.gtp_lines.specs.All.{user_shown, user_head_at}
 use Rattle.gtp_json.specs.declared.datagram.Members.{Members}
 use Rattle.gtp_json.specs.declared.datagram.Members.TheVariants.{Plain, All}
 use Rattle.gtp_json.specs.Tree.{object_of}
-use Rattle.gtp_json.specs.Control.{placed_members}
-use Rattle.gtp_json.specs.User.{user_members, user_fault_members}
-use Rattle.gtp_json.specs.Datagram.{plane_member, octets_shown}
+use Rattle.gtp_json.specs.Places.{FaultMembers, user_members_at}
+use Rattle.gtp_json.specs.User.{user_members}
+use Rattle.gtp_json.specs.Datagram.{plane_member, has_places, octets_shown}
 use Rattle.gtp_json.specs.Laws.{LinesBy, fault_lines, EndsInLine, EndsInFault, OneReading}
 use Rattle.gtp_json.proofs.OneLine.{one_of, spelled}
 
@@ -54,10 +54,11 @@ whole_is : (members : Members) (plane : Plane) (octets : List ℕ) (ms said : Li
 whole_is members plane octets ms said j whole is = is ∙ ap (λ (xs : List (List ℕ × Json)). object_of (plane_member plane ++ xs)) whole
 
 pub one_reading : OneReading
-one_reading members planes.Control octets text true j true lines (ms, (said, (g, fault, has), whole), is) =
+one_reading members planes.Control octets text true j true lines (ms, (said, (g, fault, (its, are, has)), whole), is) =
     let one = one_of _ (IsDatagram octets) (IsDatagramFault octets) (datagram_decided octets) in
     let found = fault_of members octets text lines in
-    (refl, (found.0, found.1, found.2, subst (λ (z : V2Fault). EndsInFault members planes.Control octets (placed_members octets z) j) (one.fault g found.0 fault found.1) (said, has, whole_is members planes.Control octets ms said j whole is)))
+    let moved = subst (λ (z : V2Fault). FaultMembers (has_places members) octets z its) (one.fault g found.0 fault found.1) are in
+    (refl, (found.0, found.1, found.2, (its, moved, (said, has, whole_is members planes.Control octets ms said j whole is))))
 one_reading members planes.Control octets text true j false lines (ms, (said, has, whole), is) =
     let one = one_of _ (IsDatagram octets) (IsDatagramFault octets) (datagram_decided octets) in
     let found = fault_of members octets text lines in
@@ -74,7 +75,7 @@ one_reading members planes.Control octets text false j false lines (ms, (said, h
 one_reading members planes.User octets text true j true lines (ms, (said, (g, fault, has), whole), is) =
     let one = one_of _ (IsUserMessage octets) (IsUserFault octets) (user_decided octets) in
     let found = user_fault_of members octets text lines in
-    (refl, (found.0, found.1, found.2, subst (λ (z : UserFault). EndsInFault members planes.User octets (user_fault_members z) j) (one.fault g found.0 fault found.1) (said, has, whole_is members planes.User octets ms said j whole is)))
+    (refl, (found.0, found.1, found.2, subst (λ (z : UserFault). EndsInFault members planes.User octets (user_members_at (has_places members) z) j) (one.fault g found.0 fault found.1) (said, has, whole_is members planes.User octets ms said j whole is)))
 one_reading members planes.User octets text true j false lines (ms, (said, (m, spells, said_is), whole), is) =
     let one = one_of _ (IsUserMessage octets) (IsUserFault octets) (user_decided octets) in
     let found = user_fault_of members octets text lines in

@@ -34,9 +34,10 @@ use Rattle.gtp_json.specs.Values.{word_members, beside, offending_members, cause
 use Rattle.gtp_json.specs.Control.{place_members, element_head, inner_json, group_members, element_members, element_json, named_by, title_members, teid_members, priority_members, header_members, head_members, elements_members, CarriedMembers, MessageMembers, second_member, element_fault_members, fault_members, context_members, placed_members, fault_member}
 use Rattle.gtp_lines.specs.User.{user_name, body_name}
 use Rattle.gtp_json.specs.User.{named, user_title, target_members, some_member, user_head, extension_json, extensions_members, user_carried, user_members, user_fault_members}
+use Rattle.gtp_json.specs.Places.{FaultMembers, user_place, user_members_at}
 use Rattle.gtp_json.specs.declared.datagram.Members.{Members}
 use Rattle.gtp_json.specs.declared.datagram.Members.TheVariants.{Plain, All}
-use Rattle.gtp_json.specs.Datagram.{plane_member, ControlMembers, BeforeFault, WithFault, MembersBy, octets_shown, WholeMembers}
+use Rattle.gtp_json.specs.Datagram.{plane_member, ControlMembers, BeforeFault, WithFault, MembersBy, has_places, octets_shown, WholeMembers}
 use Rattle.gtp_v2.specs.Headed.{Headed}
 use Rattle.gtp_lines.specs.All.{UserHead, fault_context, head_at, pair_at, user_head_at}
 use Rattle.gtp_json.specs.All.{rest_members, MessageShown, AloneShown, SecondShown, ShownBy, kind_members, user_shown}
@@ -291,7 +292,7 @@ user_fault_within user_faults.Protocol = (omega arith, tt)
 user_fault_within (user_faults.Length stated held) = (omega arith, (omega arith, (omega arith, tt)))
 user_fault_within (user_faults.ExtensionZero at) = (omega arith, (omega arith, tt))
 user_fault_within (user_faults.ExtensionPast at) = (omega arith, (omega arith, tt))
-user_fault_within (user_faults.ExtensionNeeded kind) = (omega arith, (omega arith, tt))
+user_fault_within (user_faults.ExtensionNeeded kind at) = (omega arith, (omega arith, tt))
 user_fault_within (user_faults.Missing kind) = (omega arith, (omega arith, tt))
 user_fault_within (user_faults.Element at) = (omega arith, (omega arith, tt))
 user_fault_within user_faults.Memory = (omega arith, tt)
@@ -328,6 +329,21 @@ unfolding member
 user_shown_within None = tt
 user_shown_within (Some h) = join 7 (kind_members h.kind) _ (kind_within h.kind (user_name h.kind)) (omega arith, join 7 (some_member (codes "seq") h.seq) (rest_members h.rest) (some_within (codes "seq") h.seq) (more 6 7 (rest_members h.rest) (omega arith) (left_within h.rest)))
 
+-- ---- places of faults
+
+at_within : (place : Option ℕ) → Within 1 (some_member (codes "at") place)
+unfolding member
+at_within None = tt
+at_within (Some at) = (omega arith, tt)
+
+fault_members_within : (places : Bool) (octets : List ℕ) (f : V2Fault) (ms : List (List ℕ × Json)) → FaultMembers places octets f ms → Within 1 ms
+fault_members_within false octets f ms is = subst (Within 1) (sym is) (placed_within octets f)
+fault_members_within true octets f ms (place, lies, is) = subst (Within 1) (sym is) (join 1 (placed_members octets f) (some_member (codes "at") place) (placed_within octets f) (at_within place))
+
+user_members_at_within : (places : Bool) (f : UserFault) → Within 1 (user_members_at places f)
+user_members_at_within false f = user_fault_within f
+user_members_at_within true f = join 1 (user_fault_members f) (some_member (codes "at") (user_place f)) (user_fault_within f) (at_within (user_place f))
+
 -- ---- datagrams
 
 control_within : (members : Members) (octets : List ℕ) (ms : List (List ℕ × Json)) → ControlMembers members octets ms → Within 7 ms
@@ -346,9 +362,9 @@ with_fault_within : (members : Members) (plane : Plane) (octets : List ℕ) (fau
 with_fault_within members plane octets fault ms low (before, how, is) = subst (Within 7) (sym is) (join 7 before _ (before_within members plane octets before how) (fault_member_within fault low))
 
 by_members_within : (members : Members) (plane : Plane) (octets : List ℕ) (ms : List (List ℕ × Json)) (faulty : Bool) → MembersBy members plane octets ms faulty → Within 7 ms
-by_members_within members planes.Control octets ms true (f, first, has) = with_fault_within members planes.Control octets (placed_members octets f) ms (placed_within octets f) has
+by_members_within members planes.Control octets ms true (f, first, (fault, its, has)) = with_fault_within members planes.Control octets fault ms (fault_members_within (has_places members) octets f fault its) has
 by_members_within members planes.Control octets ms false has = control_within members octets ms has
-by_members_within members planes.User octets ms true (f, first, has) = with_fault_within members planes.User octets (user_fault_members f) ms (user_fault_within f) has
+by_members_within members planes.User octets ms true (f, first, has) = with_fault_within members planes.User octets (user_members_at (has_places members) f) ms (user_members_at_within (has_places members) f) has
 by_members_within members planes.User octets ms false (m, spelled, is) = subst (Within 7) (sym is) (user_message_within m)
 
 octets_shown_within : (members : Members) (octets : List ℕ) → Within 7 (octets_shown members octets)

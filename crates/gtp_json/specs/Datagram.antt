@@ -1,5 +1,5 @@
 -- A datagram as one JSON object on one line.
-use Rattle.std.specs.Prelude.{◌≡◌, ℕ, Bool, true, false, List, [], ◌++◌, ◌⊎◌, codes}
+use Rattle.std.specs.Prelude.{◌≡◌, ℕ, Bool, true, false, if◌then◌else◌, List, [], ◌++◌, ◌⊎◌, codes}
 use Rattle.json.specs.Json.{Json, string}
 use Rattle.gtp_values.specs.declared.plane.Plane.{Plane}
 use Rattle.gtp_values.specs.declared.plane.Plane.TheVariants.{Control, User}
@@ -12,8 +12,9 @@ use Rattle.gtp_json.specs.declared.datagram.Members.{Members}
 use Rattle.gtp_json.specs.declared.datagram.Members.TheVariants.{Plain, All}
 use Rattle.gtp_json.specs.Tree.{member, object_of, line_of}
 use Rattle.gtp_json.specs.Values.{hexadecimal}
-use Rattle.gtp_json.specs.Control.{MessageMembers, PairMembers, placed_members, fault_member}
-use Rattle.gtp_json.specs.User.{user_fault_members, UserMembers}
+use Rattle.gtp_json.specs.Control.{MessageMembers, PairMembers, fault_member}
+use Rattle.gtp_json.specs.Places.{FaultMembers, user_members_at}
+use Rattle.gtp_json.specs.User.{UserMembers}
 use Rattle.gtp_json.specs.All.{ControlShown, user_shown}
 
 abbrev pub plane_word : Plane → List ℕ
@@ -38,17 +39,21 @@ BeforeFault (All places) User octets ms = ms ≡ user_shown (user_head_at octets
 abbrev pub WithFault : Members → Plane → List ℕ → List (List ℕ × Json) → List (List ℕ × Json) → Type 0
 WithFault members plane octets fault ms = (before : List (List ℕ × Json)) × BeforeFault members plane octets before × (ms ≡ before ++ fault_member fault)
 
+-- whether places are asked for
+abbrev pub has_places : Members → Bool
+has_places Plain = false
+has_places (All places) = places
+
 -- The members of a datagram after its plane, and whether it has a fault, which is its first. A user datagram without one has those of its message, in each form.
 abbrev pub MembersBy : Members → Plane → List ℕ → List (List ℕ × Json) → Bool → Type 0
-MembersBy members Control octets ms true = (f : V2Fault) × IsDatagramFault octets f × WithFault members Control octets (placed_members octets f) ms
+MembersBy members Control octets ms true = (f : V2Fault) × IsDatagramFault octets f × ((fault : List (List ℕ × Json)) × FaultMembers (has_places members) octets f fault × WithFault members Control octets fault ms)
 MembersBy members Control octets ms false = ControlMembers members octets ms
-MembersBy members User octets ms true = (f : UserFault) × IsUserFault octets f × WithFault members User octets (user_fault_members f) ms
+MembersBy members User octets ms true = (f : UserFault) × IsUserFault octets f × WithFault members User octets (user_members_at (has_places members) f) ms
 MembersBy members User octets ms false = UserMembers octets ms
 
 -- its octets, where places are asked for
 abbrev pub octets_shown : Members → List ℕ → List (List ℕ × Json)
-octets_shown (All true) octets = member (codes "datagram") (hexadecimal octets)
-octets_shown members octets = []
+octets_shown members octets = if has_places members then member (codes "datagram") (hexadecimal octets) else []
 
 -- both
 abbrev pub WholeMembers : Members → Plane → List ℕ → List (List ℕ × Json) → Bool → Type 0

@@ -16,9 +16,9 @@ use Rattle.gtp_lines.specs.User.{user_lines, user_fault_line}
 use Rattle.gtp_json.specs.declared.datagram.Members.{Members}
 use Rattle.gtp_json.specs.declared.datagram.Members.TheVariants.{Plain, All}
 use Rattle.gtp_json.specs.Tree.{object_of}
-use Rattle.gtp_json.specs.Control.{placed_members}
-use Rattle.gtp_json.specs.User.{user_members, user_fault_members}
-use Rattle.gtp_json.specs.Datagram.{plane_member, octets_shown, WithFault, IsDatagramJson, DatagramJson}
+use Rattle.gtp_json.specs.Places.{FaultMembers, user_members_at}
+use Rattle.gtp_json.specs.User.{user_members}
+use Rattle.gtp_json.specs.Datagram.{plane_member, has_places, octets_shown, WithFault, IsDatagramJson, DatagramJson}
 use Rattle.gtp_json.specs.Frames.{FrameJson}
 
 -- a datagram has one line, in each form, and whether it has a fault is determined
@@ -61,10 +61,11 @@ fault_lines (All places) octets f = fault_line f ++ context_line (fault_context 
 -- no other, so both are of that
 abbrev pub OfOne : Members → Plane → List ℕ → Bool → List ℕ → Json → Type 0
 OfOne members planes.Control octets true text j =
-    (f : V2Fault) × IsDatagramFault octets f × EndsInLine members planes.Control octets (fault_lines members octets f) text × EndsInFault members planes.Control octets (placed_members octets f) j
+    (f : V2Fault) × IsDatagramFault octets f × EndsInLine members planes.Control octets (fault_lines members octets f) text
+    × ((fault : List (List ℕ × Json)) × FaultMembers (has_places members) octets f fault × EndsInFault members planes.Control octets fault j)
 OfOne members planes.Control octets false text j = (d : DatagramValue) × IsDatagram octets d × ((other : DatagramValue) → IsDatagram octets other → other ≡ d)
 OfOne members planes.User octets true text j =
-    (f : UserFault) × IsUserFault octets f × EndsInLine members planes.User octets (user_fault_line f) text × EndsInFault members planes.User octets (user_fault_members f) j
+    (f : UserFault) × IsUserFault octets f × EndsInLine members planes.User octets (user_fault_line f) text × EndsInFault members planes.User octets (user_members_at (has_places members) f) j
 OfOne members planes.User octets false text j = (m : UserValue) × IsUserMessage octets m × (text ≡ user_lines m) × (j ≡ object_of (plane_member planes.User ++ (octets_shown members octets ++ user_members m)))
 
 -- the lines of a datagram and its object are of one reading

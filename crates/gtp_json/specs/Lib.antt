@@ -4,6 +4,7 @@ pub mod Values
 pub mod Control
 pub mod User
 pub mod All
+pub mod Places
 pub mod Datagram
 pub mod Frames
 pub mod Reads

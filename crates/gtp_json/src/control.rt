@@ -9,9 +9,12 @@ ghost use Rattle.gtp_v2.specs.Tables.{table_of};
 ghost use Rattle.gtp_json.specs.Tree.{member, number_of, array_of, object_of};
 ghost use Rattle.gtp_json.specs.reading.Tokens.{written};
 ghost use Rattle.gtp_json.specs.Control.{place_members, element_head, inner_json, group_members, element_json, element_members, named_by, title_members, teid_members, priority_members, header_members, head_members, elements_members, carried_members, seen_members, second_members};
-ghost use Rattle.gtp_json.specs.Control.{element_code as spec_element_code, code_of, element_fault_detail, element_fault_members, mark_word, fault_detail, fault_members, context_members, placed_members, fault_member};
+ghost use Rattle.gtp_json.specs.Control.{element_code as spec_element_code, code_of, element_fault_detail, element_fault_members, mark_word, fault_detail, fault_members, context_members, placed_members};
+ghost use Rattle.gtp_json.specs.Adds.{Adds};
+ghost use Rattle.gtp_json.specs.Places.{FaultMembers, FaultShown};
 
 use crate::object::Output;
+use crate::places::{fault_place, put_at};
 use crate::values::{put_body, put_octets};
 use gtp_ie::{ElementView, Elements, IeFault};
 use gtp_lines::fault_context;
@@ -380,15 +383,45 @@ fn put_context(out: &mut Output, number: Option<u64>) -> Result<(), AllocError>
     }
 }
 
-/// Writes the member of a fault of these octets.
-#[tactic(auto, using(crate::proofs::Tokens::nesting))]
-pub fn put_fault(out: &mut Output, octets: &[u8], fault: &V2Fault) -> Result<(), AllocError>
-    ensures ok { OnOk result (out.new
-        ≡ out.old ++ written (fault_member (placed_members octets.now fault.now))) }
+/// Writes the members of a fault of these octets.
+#[tactic(auto, using(crate::proofs::Tokens::appending))]
+fn put_placed(out: &mut Output, octets: &[u8], fault: &V2Fault) -> Result<(), AllocError>
+    ensures ok { OnOk result
+        (out.new ≡ out.old ++ written (placed_members octets.now fault.now)) }
+{
+    put_fault_members(out, fault)?;
+    put_context(out, fault_context(octets, fault))
+}
+
+/// Writes the members of a fault, and where it lies, where that is asked for.
+fn put_members_of_fault(
+    out: &mut Output,
+    places: bool,
+    octets: &[u8],
+    fault: &V2Fault,
+) -> Result<(), AllocError>
+    ensures ok { OnOk result (Adds (FaultMembers places octets.now fault.now) out.old out.new) }
+{
+    put_placed(out, octets, fault)?;
+    if !places {
+        return Ok(());
+    }
+    put_at(out, fault_place(octets, fault))?;
+    Ok(())
+}
+
+/// Writes the member of a fault of these octets, with the place where it lies, where that is asked for.
+pub fn put_fault(
+    out: &mut Output,
+    places: bool,
+    octets: &[u8],
+    fault: &V2Fault,
+) -> Result<(), AllocError>
+    ensures ok { OnOk result (Adds (FaultShown places octets.now fault.now) out.old out.new) }
 {
     out.key("fault")?;
     out.begin_object()?;
-    put_fault_members(out, fault)?;
-    put_context(out, fault_context(octets, fault))?;
-    out.end_object()
+    put_members_of_fault(out, places, octets, fault)?;
+    out.end_object()?;
+    Ok(())
 }

@@ -4,7 +4,7 @@ ghost use Rattle.std.specs.Prelude.{◌≡◌, ◌++◌, OnOk, IfOk};
 ghost use Rattle.gtp_values.specs.declared.plane.Plane.TheVariants as planes;
 ghost use Rattle.gtp_json.specs.reading.Tokens.{written};
 ghost use Rattle.gtp_json.specs.Adds.{Adds};
-ghost use Rattle.gtp_json.specs.Datagram.{plane_word, plane_member, BeforeFault, MembersBy, octets_shown, WholeMembers, IsDatagramJson, DatagramJson};
+ghost use Rattle.gtp_json.specs.Datagram.{plane_word, plane_member, BeforeFault, MembersBy, has_places, octets_shown, WholeMembers, IsDatagramJson, DatagramJson};
 ghost use Rattle.gtp_json.specs.Reads.{ReadsBack};
 
 use crate::all::{put_shown, put_user_shown};
@@ -21,8 +21,18 @@ pub enum Members {
     /// Those of its message or of its two; or, in their place, its first fault.
     Plain,
     /// All that can be shown of it, and then its first fault, if it has one; of a user datagram without a fault, those of its message.
-    /// With places: the octets of the datagram before these, and of each element of the control plane where it stands.
+    /// With places: the octets of the datagram before these, of each element of the control plane where it stands, and of the
+    /// fault where it lies.
     All { places: bool },
+}
+
+impl Members {
+    /// Whether places are asked for.
+    fn has_places(self) -> bool
+        ensures { result ≡ has_places self }
+    {
+        matches!(self, Members::All { places: true })
+    }
 }
 
 /// The word of a plane.
@@ -73,7 +83,7 @@ fn put_control(out: &mut Output, members: Members, octets: &[u8]) -> Result<bool
         }
         Err(fault) => {
             put_before(out, members, Plane::Control, octets)?;
-            control::put_fault(out, octets, &fault)?;
+            control::put_fault(out, members.has_places(), octets, &fault)?;
             Ok(true)
         }
     }
@@ -91,7 +101,7 @@ fn put_user(out: &mut Output, members: Members, octets: &[u8]) -> Result<bool, A
         }
         Err(fault) => {
             put_before(out, members, Plane::User, octets)?;
-            user::put_fault(out, &fault)?;
+            user::put_fault(out, members.has_places(), &fault)?;
             Ok(true)
         }
     }
@@ -102,10 +112,10 @@ fn put_user(out: &mut Output, members: Members, octets: &[u8]) -> Result<bool, A
 fn put_octets_shown(out: &mut Output, members: Members, octets: &[u8]) -> Result<(), AllocError>
     ensures ok { OnOk result (out.new ≡ out.old ++ written (octets_shown members octets.now)) }
 {
-    match members {
-        Members::All { places: true } => out.hex_member("datagram", octets),
-        _ => Ok(()),
+    if !members.has_places() {
+        return Ok(());
     }
+    out.hex_member("datagram", octets)
 }
 
 /// Writes what stands after them, and tells whether the datagram has a fault.
@@ -142,8 +152,9 @@ pub fn put_members(
 /// A datagram as one JSON object on one line, in ASCII, with a line feed: its plane, and then these members; and whether it
 /// has a fault. `Plain`: those of its message or of its two, or its first fault alone. `All`: of each message of the control
 /// plane its header and its elements, as many as are whole, and the octets that are left; and then the datagram's first fault,
-/// if it has one. `All` with places has before these `datagram`, its octets, and each element of the control plane has `at`, the place of its
-/// first octet, and `length`, how many octets it is. `Memory` where an allocation was refused.
+/// if it has one. `All` with places has before these `datagram`, its octets; each element of the control plane has `at`, the place of its
+/// first octet, and `length`, how many octets it is; and the fault has `at`, where it lies, where what follows its code has no place.
+/// `Memory` where an allocation was refused.
 pub fn datagram_json(
     alloc: Global,
     members: Members,

@@ -7,6 +7,7 @@ mod datagram;
 mod frames;
 pub mod laws;
 mod object;
+mod places;
 mod user;
 mod values;
 

@@ -8,8 +8,10 @@ ghost use Rattle.gtp_user.specs.Message.{content_of, message_value};
 ghost use Rattle.gtp_json.specs.reading.Tokens.{written};
 ghost use Rattle.gtp_json.specs.Control.{fault_member};
 ghost use Rattle.gtp_json.specs.User.{named, user_title, target_members, some_member, user_head, extension_json, extensions_members, indication_members, user_carried, user_members, user_code, user_fault_detail, user_fault_members};
+ghost use Rattle.gtp_json.specs.Places.{user_members_at};
 
 use crate::object::Output;
+use crate::places::{put_at, user_fault_place};
 use crate::values::put_octets;
 use gtp_lines::body_name;
 use gtp_user::{ExtensionHeader, Extensions, UserBody, UserFault, UserMessage};
@@ -174,22 +176,43 @@ fn put_fault_detail(out: &mut Output, fault: &UserFault) -> Result<(), AllocErro
         UserFault::ExtensionZero { at }
         | UserFault::ExtensionPast { at }
         | UserFault::Element { at } => out.number_member("at", *at as u64),
-        UserFault::ExtensionNeeded { kind } | UserFault::Missing { kind } => {
+        UserFault::ExtensionNeeded { kind, .. } | UserFault::Missing { kind } => {
             out.number_member("type", u64::from(*kind))
         }
         UserFault::Protocol | UserFault::Memory | UserFault::TooLong => Ok(()),
     }
 }
 
-/// Writes the member of a fault.
-#[tactic(auto, using(crate::proofs::Tokens::nesting))]
-pub fn put_fault(out: &mut Output, fault: &UserFault) -> Result<(), AllocError>
+/// Writes the code of a fault, and what follows it.
+#[tactic(auto, using(crate::proofs::Tokens::appending))]
+fn put_fault_members(out: &mut Output, fault: &UserFault) -> Result<(), AllocError>
+    ensures ok { OnOk result (out.new ≡ out.old ++ written (user_fault_members fault.now)) }
+{
+    out.string_member("code", code(fault))?;
+    put_fault_detail(out, fault)
+}
+
+/// The same, and where it lies, where that is asked for.
+#[tactic(auto, using(crate::proofs::Tokens::appending))]
+fn put_members_of_fault(out: &mut Output, places: bool, fault: &UserFault) -> Result<(), AllocError>
     ensures ok { OnOk result
-        (out.new ≡ out.old ++ written (fault_member (user_fault_members fault.now))) }
+        (out.new ≡ out.old ++ written (user_members_at places fault.now)) }
+{
+    put_fault_members(out, fault)?;
+    if !places {
+        return Ok(());
+    }
+    put_at(out, user_fault_place(fault))
+}
+
+/// Writes the member of a fault, with the place where it lies, where that is asked for.
+#[tactic(auto, using(crate::proofs::Tokens::nesting))]
+pub fn put_fault(out: &mut Output, places: bool, fault: &UserFault) -> Result<(), AllocError>
+    ensures ok { OnOk result
+        (out.new ≡ out.old ++ written (fault_member (user_members_at places fault.now))) }
 {
     out.key("fault")?;
     out.begin_object()?;
-    out.string_member("code", code(fault))?;
-    put_fault_detail(out, fault)?;
+    put_members_of_fault(out, places, fault)?;
     out.end_object()
 }

@@ -185,7 +185,7 @@ fn put_user_fault_detail(out: &mut Vec<u8>, fault: &UserFault) -> Result<(), All
         UserFault::ExtensionZero { at }
         | UserFault::ExtensionPast { at }
         | UserFault::Element { at } => put_field(out, b" at ", *at as u64),
-        UserFault::ExtensionNeeded { kind } => {
+        UserFault::ExtensionNeeded { kind, .. } => {
             put(out, b" type ")?;
             put_hex(out, &[*kind])
         }

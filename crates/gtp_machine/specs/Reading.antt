@@ -172,7 +172,7 @@ user_message m = user_body_message m.seq m.body
 
 -- a user plane datagram at fault: an extension header that is needed and not known (5.2.1), or by the fault's printed number, U1 to U11
 abbrev pub user_fault : UserFault → UserReading
-user_fault (user_faults.ExtensionNeeded kind) = Extension_needed
+user_fault (user_faults.ExtensionNeeded kind at) = Extension_needed
 user_fault fault = User_fault (user_codes.number_of fault)
 
 -- what a user plane message says, by its type (6.1)

@@ -82,7 +82,7 @@ fault_is end kind octets f (inr (inr (inr (units, rest, encoding, some, le, high
     let not_zero : (units == 0) ≡ false = grind (arith, nat_tests) in
     let enough : nat_le (length rest) (4 * units - 2) ≡ false = long_enough (length rest) units (omega (arith, ap length encoding)) some in
     let unknown : nat_lt kind 128 ≡ false = grind (arith, nat_tests) in
-    ap (front_at end kind) encoding ∙ rw (not_zero, enough, unknown) (ap refused (sym e))
+    ap (front_at end kind) encoding ∙ rw (not_zero, enough, unknown) (ap refused (ap (λ (xs : List ℕ). faults.ExtensionNeeded kind (end - length xs)) (sym encoding) ∙ sym e))
   where
     long_enough : (n units : ℕ) → 4 * units ≤ n + 1 → 0 < units → nat_le n (4 * units - 2) ≡ false
     long_enough n units h s = grind (arith, nat_tests)
@@ -95,7 +95,7 @@ by_kind : (end kind units : ℕ) (rest : List ℕ) → 0 < kind → 0 < units �
 by_kind end kind units rest k some le true t =
     let parts = three_parts (4 * units - 2) rest (omega arith) in
     inl (front (take (4 * units - 2) rest) (slice_index rest (4 * units - 2)) (drop (4 * units - 2 + 1) rest), (units, ap (λ (xs : List ℕ). units ∷ xs) parts, omega (arith, length-take (4 * units - 2) rest), k, grind (arith, nat_tests)))
-by_kind end kind units rest k some le false t = inr (faults.ExtensionNeeded kind, inr (inr (inr (units, rest, refl, some, le, grind (arith, nat_tests), refl))))
+by_kind end kind units rest k some le false t = inr (faults.ExtensionNeeded kind (end - length (units ∷ rest)), inr (inr (inr (units, rest, refl, some, le, grind (arith, nat_tests), refl))))
 
 by_length : (end kind units : ℕ) (rest : List ℕ) → 0 < kind → 0 < units → (b : Bool) → nat_lt (length (units ∷ rest)) (4 * units) ≡ b → Sorted end kind (units ∷ rest)
 by_length end kind units rest k some true t = inr (faults.ExtensionPast (end - length (units ∷ rest)), inr (inr (inl (units, rest, refl, some, grind (arith, nat_tests), refl))))

@@ -39,7 +39,7 @@ ExtensionFails end kind octets f =
     ((octets ≡ []) × (f ≡ faults.ExtensionPast end))
     ⊎ (((rest : List ℕ) × (octets ≡ 0 ∷ rest) × (f ≡ faults.ExtensionZero (end - length octets)))
     ⊎ (((units : ℕ) × (rest : List ℕ) × (octets ≡ units ∷ rest) × (0 < units) × (length octets < 4 * units) × (f ≡ faults.ExtensionPast (end - length octets)))
-    ⊎ ((units : ℕ) × (rest : List ℕ) × (octets ≡ units ∷ rest) × (0 < units) × (4 * units ≤ length octets) × (128 ≤ kind) × (f ≡ faults.ExtensionNeeded kind))))
+    ⊎ ((units : ℕ) × (rest : List ℕ) × (octets ≡ units ∷ rest) × (0 < units) × (4 * units ≤ length octets) × (128 ≤ kind) × (f ≡ faults.ExtensionNeeded kind (end - length octets)))))
 
 -- after whole headers a header is at fault
 abbrev pub ChainFails : ℕ → ℕ → List ℕ → UserFault → Type 0

@@ -31,9 +31,9 @@ pub enum UserFault {
     /// U6: an extension header, its length octet at this place, that is missing or passes the end.
     #[error("the extension header at {at} is not whole")]
     ExtensionPast { at: usize },
-    /// U7: an extension header that the receiver has to understand, and does not.
-    #[error("the extension header of type {kind} is not understood")]
-    ExtensionNeeded { kind: u8 },
+    /// U7: an extension header, its length octet at this place, that the receiver has to understand, and does not.
+    #[error("the extension header of type {kind} at {at} is not understood")]
+    ExtensionNeeded { kind: u8, at: usize },
     /// U8: the element that the message must have is missing.
     #[error("the element {kind} is missing")]
     Missing { kind: u8 },

@@ -34,7 +34,7 @@ pub fn read_front(kind: u8, octets: &[u8], end: usize) -> Result<Front<'_>, User
         return Err(UserFault::ExtensionPast { at });
     }
     if kind >= 128 {
-        return Err(UserFault::ExtensionNeeded { kind });
+        return Err(UserFault::ExtensionNeeded { kind, at });
     }
     Ok(Front {
         content: &tail[..size],

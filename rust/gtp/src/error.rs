@@ -347,6 +347,8 @@ pub enum UserFault {
     ExtensionNeeded {
         /// The type of the extension header.
         kind: u8,
+        /// The place of its length.
+        at: u64,
     },
     /// U8: an element that has to be there is missing.
     Missing {
@@ -369,7 +371,7 @@ impl UserFault {
             4 => UserFault::Length { stated: f.stated, held: f.held },
             5 => UserFault::ExtensionZero { at: f.at },
             6 => UserFault::ExtensionPast { at: f.at },
-            7 => UserFault::ExtensionNeeded { kind: f.element },
+            7 => UserFault::ExtensionNeeded { kind: f.element, at: f.at },
             8 => UserFault::Missing { kind: f.element },
             _ => UserFault::Element { at: f.at },
         }
@@ -385,7 +387,7 @@ impl fmt::Display for UserFault {
             UserFault::Length { stated, held } => write!(f, "U4 stated {stated} held {held}"),
             UserFault::ExtensionZero { at } => write!(f, "U5 at {at}"),
             UserFault::ExtensionPast { at } => write!(f, "U6 at {at}"),
-            UserFault::ExtensionNeeded { kind } => write!(f, "U7 type {kind:02x}"),
+            UserFault::ExtensionNeeded { kind, .. } => write!(f, "U7 type {kind:02x}"),
             UserFault::Missing { kind } => write!(f, "U8 type {kind}"),
             UserFault::Element { at } => write!(f, "U9 at {at}"),
         }

@@ -18,7 +18,7 @@ front_at end kind (units ∷ tail) =
     else (if nat_le (length tail) (4 * units - 2) then Err (faults.ExtensionPast (end - length (units ∷ tail)))
     else (if nat_lt kind 128
     then Ok (record { content = take (4 * units - 2) tail; next = slice_index tail (4 * units - 2); rest = drop (4 * units - 2 + 1) tail })
-    else Err (faults.ExtensionNeeded kind)))
+    else Err (faults.ExtensionNeeded kind (end - length (units ∷ tail)))))
 
 -- the headers of a chain, and the octets after it
 pub record Chained : Type 0 where

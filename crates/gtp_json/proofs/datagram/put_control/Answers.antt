@@ -1,7 +1,10 @@
-use Rattle.std.proofs.Common.{◌++◌, refl, sym, subst}
+use Rattle.std.proofs.Common.{ℕ, List, ◌++◌, refl, ap, sym, subst, ◌∙◌}
+use Rattle.json.specs.Json.{Json}
+use Rattle.gtp_json.specs.reading.Tokens.{written}
 use Rattle.gtp_json.specs.declared.datagram.Members.{Members}
 use Rattle.gtp_json.specs.Datagram.{ControlMembers}
-use Rattle.gtp_json.specs.Control.{seen_members, second_members, placed_members, fault_member}
+use Rattle.gtp_json.specs.Places.{FaultMembers}
+use Rattle.gtp_json.specs.Control.{seen_members, second_members, fault_member}
 use Rattle.gtp_json.proofs.Seen.{members_lie}
 use Rattle.gtp_json.proofs.Tokens.{twice}
 use Rattle.gtp_json.proofs.datagram.put_control.Goals as goal
@@ -15,5 +18,7 @@ returns-in_ok-put_datagram-in-Plain c =
 pub returns-in_ok-put_fault-in-Err : goal.returns-in_ok-put_fault-in-Err
 returns-in_ok-put_fault-in-Err c =
     let before = c.in_ok-put_before-in-Err.ensures.ok in
-    let fault = placed_members c.args.octets.now c.in-Err.fault in
-    (before.0 ++ fault_member fault, (c.in-Err.fault, c.in-Err.ensures.fault, (before.0, before.1, refl)), twice c.args.out.now c.put_before.new.out c.put_fault.new.out before.0 (fault_member fault) before.2 c.in_ok-put_fault-in-Err.ensures.ok)
+    let (shown, (fault, its, shown_is), is) = c.in_ok-put_fault-in-Err.ensures.ok in
+    let its_are = subst (λ places. FaultMembers places c.args.octets.now c.in-Err.fault fault) c.has_places.ensures its in
+    let written_is = is ∙ ap (λ (ms : List (List ℕ × Json)). c.put_before.new.out ++ written ms) shown_is in
+    (before.0 ++ fault_member fault, (c.in-Err.fault, c.in-Err.ensures.fault, (fault, its_are, (before.0, before.1, refl))), twice c.args.out.now c.put_before.new.out c.put_fault.new.out before.0 (fault_member fault) before.2 written_is)

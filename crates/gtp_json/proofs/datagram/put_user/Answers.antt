@@ -1,7 +1,10 @@
-use Rattle.std.proofs.Common.{◌++◌, refl}
+use Rattle.std.proofs.Common.{◌≡◌, ◌++◌, Bool, refl, subst}
 use Rattle.gtp_user.specs.Message.{message_value}
 use Rattle.gtp_json.specs.Control.{fault_member}
-use Rattle.gtp_json.specs.User.{user_members, user_fault_members}
+use Rattle.gtp_json.specs.reading.Tokens.{written}
+use Rattle.gtp_json.specs.User.{user_members}
+use Rattle.gtp_json.specs.Places.{user_members_at}
+use Rattle.gtp_json.specs.Datagram.{has_places}
 use Rattle.gtp_json.proofs.Tokens.{twice}
 use Rattle.gtp_json.proofs.datagram.put_user.Goals as goal
 
@@ -13,5 +16,7 @@ returns-in_ok-put_message-in-Ok c =
 pub returns-in_ok-put_fault-in-Err : goal.returns-in_ok-put_fault-in-Err
 returns-in_ok-put_fault-in-Err c =
     let before = c.in_ok-put_before-in-Err.ensures.ok in
-    let fault = user_fault_members c.in-Err.fault in
-    (before.0 ++ fault_member fault, (c.in-Err.fault, c.in-Err.ensures.fault, (before.0, before.1, refl)), twice c.args.out.now c.put_before.new.out c.put_fault.new.out before.0 (fault_member fault) before.2 c.in_ok-put_fault-in-Err.ensures.ok)
+    let told = λ (places : Bool). user_members_at places c.in-Err.fault in
+    let fault = told (has_places c.args.members) in
+    let is = subst (λ places. c.put_fault.new.out ≡ c.put_before.new.out ++ written (fault_member (told places))) c.has_places.ensures c.in_ok-put_fault-in-Err.ensures.ok in
+    (before.0 ++ fault_member fault, (c.in-Err.fault, c.in-Err.ensures.fault, (before.0, before.1, refl)), twice c.args.out.now c.put_before.new.out c.put_fault.new.out before.0 (fault_member fault) before.2 is)
