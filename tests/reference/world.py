@@ -265,3 +265,15 @@ def is_met(happened):
     if expect is not None:
         return told.outcome.split()[0] == expect
     return all(outcome[0] not in "GNX" for outcome in (told.outcome, told.second) if outcome)
+
+
+def unmet_line(story):
+    """What standard error says of the first event that did not come to what is expected, if there is one."""
+    for happened in story:
+        if is_met(happened):
+            continue
+        event, expect = f"gtpshow: standard input: event {happened.number}", happened.event.get("expect")
+        if expect is None:
+            return f"{event} is refused, dropped or impossible, which its entry does not expect\n"
+        return f"{event} is not \"{expect}\", as its entry expects\n"
+    return ""

@@ -44,7 +44,7 @@ failure_text (NoPacket number) = codes "no packet for datagram " ++ decimal numb
 -- the exit status of a replay
 abbrev pub verdict_status : Verdict → ℕ
 verdict_status Expected = 0
-verdict_status Unexpected = 1
+verdict_status (Unexpected event) = 1
 verdict_status Bad = 2
 
 -- why nothing was replayed

@@ -13,6 +13,7 @@ mod replaying;
 mod running;
 mod serving;
 mod showing;
+mod unexpected;
 
 pub use command::Failure;
 pub use hinting::hint;

@@ -1,6 +1,6 @@
 -- One report for the octets of a scenario.
 use Rattle.std.proofs.Common.{◌≡◌, ℕ, Bool, true, false, List, [], ◌∷◌, ◌++◌, Result, Ok, Err, refl, sym, ◌∙◌, ap, subst}
-use Rattle.std.specs.Prelude.{IsTrue, MatchResult, if◌then◌else◌}
+use Rattle.std.specs.Prelude.{IsTrue, MatchResult}
 use Rattle.std.specs.FinMap.{entries}
 use Rattle.gtp_machine.specs.declared.role.Role.TheVariants.{Serving, Packet}
 use Rattle.gtp_machine.specs.World.{Event}
@@ -16,13 +16,12 @@ use Rattle.gtp_replay.specs.Determined.{OfOneRun, FormsAreOfOneRun}
 use Rattle.gtp_replay.specs.Events.{events_text}
 use Rattle.gtp_outcomes.specs.Owed.{WasOwed}
 use Rattle.gtp_replay.specs.Report.{IsReport, late_line}
-use Rattle.gtp_replay.specs.Told.{TellsScenario, TellsReading, events_of}
+use Rattle.gtp_replay.specs.Told.{TellsScenario, TellsReading, events_of, verdict_by}
 use Rattle.gtp_outcomes.specs.Each.{TellsEach}
 use Rattle.gtp_replay.specs.Verdicts.{mutual_line, taken_line}
 use Rattle.gtp_replay.specs.declared.replaying.Form.{Form}
 use Rattle.gtp_replay.specs.declared.verdict.Verdict.{Verdict}
-use Rattle.gtp_replay.specs.declared.verdict.Verdict.TheVariants.{Expected, Unexpected}
-use Rattle.gtp_replay.specs.Expected.{all_met}
+use Rattle.gtp_replay.specs.Expected.{first_unmet}
 
 pub one_verdict : (a b : Bool) → (IsTrue a → IsTrue b) → (IsTrue b → IsTrue a) → a ≡ b
 one_verdict true b there back = sym (there refl)
@@ -57,7 +56,7 @@ report_one events one other text other_text alike r s =
 scenario_forms : (form other : Form) (scenario : Scenario) (text other_text : List ℕ) (verdict other_verdict : Verdict) → TellsScenario form scenario text verdict → TellsScenario other scenario other_text other_verdict → (verdict ≡ other_verdict) × OfOneRun form other scenario text other_text
 scenario_forms form other scenario text other_text verdict other_verdict r s =
     let alike = follow_one scenario.setup (events_of scenario) r.world s.world r.run.comes s.run.comes in (
-      r.verdict_is ∙ (ap (λ (l : Log). if all_met scenario.entries l.notes then Expected else Unexpected) alike.log ∙ sym s.verdict_is),
+      r.verdict_is ∙ (ap (λ (l : Log). verdict_by (first_unmet scenario.entries l.notes)) alike.log ∙ sym s.verdict_is),
       record { world = r.world; other_world = s.world; alike = alike; text_is = r.text_is; other_is = s.text_is },
     )
 

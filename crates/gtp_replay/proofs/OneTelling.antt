@@ -1,18 +1,16 @@
 -- One text in each form for the octets of a scenario.
 use Rattle.std.proofs.Common.{◌≡◌, ℕ, List, Result, Ok, Err, sym, subst, ◌∙◌, ap}
-use Rattle.std.specs.Prelude.{if◌then◌else◌}
 use Rattle.gtp_world.specs.Record.{Log}
 use Rattle.gtp_world.proofs.Determined.Runs.{follow_one}
 use Rattle.gtp_scenario.specs.declared.fault.Refusal.{Refusal}
 use Rattle.gtp_scenario.specs.Scenarios.{Scenario}
 use Rattle.gtp_scenario.proofs.OneReading.{one_reading}
 use Rattle.gtp_replay.specs.Determined.{WorldsHaveOneText, OctetsHaveOneText}
-use Rattle.gtp_replay.specs.Expected.{all_met}
-use Rattle.gtp_replay.specs.Told.{TellsScenario, TellsRefusal, TellsReading, events_of}
+use Rattle.gtp_replay.specs.Expected.{first_unmet}
+use Rattle.gtp_replay.specs.Told.{TellsScenario, TellsRefusal, TellsReading, events_of, verdict_by}
 use Rattle.gtp_replay.specs.declared.replaying.Form.{Form}
 use Rattle.gtp_replay.specs.declared.replaying.Form.TheVariants.{Report, Diagram, Svg, Capture, Json}
 use Rattle.gtp_replay.specs.declared.verdict.Verdict.{Verdict}
-use Rattle.gtp_replay.specs.declared.verdict.Verdict.TheVariants.{Expected, Unexpected}
 use Rattle.gtp_replay.proofs.Determined.{report_one}
 use Rattle.gtp_replay.proofs.OneText.{diagram_one, svg_one, capture_one, json_one}
 
@@ -27,7 +25,7 @@ scenario_one : (form : Form) (scenario : Scenario) (text other_text : List ℕ) 
 scenario_one form scenario text other_text verdict other_verdict r s =
     let alike = follow_one scenario.setup (events_of scenario) r.world s.world r.run.comes s.run.comes in (
       text_one form (events_of scenario) r.world s.world text other_text alike r.text_is s.text_is,
-      r.verdict_is ∙ (ap (λ (l : Log). if all_met scenario.entries l.notes then Expected else Unexpected) alike.log ∙ sym s.verdict_is),
+      r.verdict_is ∙ (ap (λ (l : Log). verdict_by (first_unmet scenario.entries l.notes)) alike.log ∙ sym s.verdict_is),
     )
 
 refusal_one : (refusal : Refusal) (text other_text : List ℕ) (verdict other_verdict : Verdict) → TellsRefusal refusal text verdict → TellsRefusal refusal other_text other_verdict → (text ≡ other_text) × (verdict ≡ other_verdict)

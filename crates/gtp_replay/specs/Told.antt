@@ -1,5 +1,5 @@
 -- What is written for what was read.
-use Rattle.std.specs.Prelude.{◌≡◌, ℕ, List, ◌++◌, Result, Ok, MatchResult, codes, decimal, if◌then◌else◌, Option}
+use Rattle.std.specs.Prelude.{◌≡◌, ℕ, List, ◌++◌, Result, Ok, MatchResult, codes, decimal, Option, Some, None}
 use Rattle.std.specs.Io.KnownBytes.{Appends}
 use Rattle.std.specs.List.{flat_map}
 use Rattle.gtp_machine.specs.Config.{Addresses}
@@ -22,16 +22,21 @@ use Rattle.gtp_replay.specs.declared.replaying.Form.{Form}
 use Rattle.gtp_replay.specs.declared.replaying.Form.TheVariants.{Report, Diagram, Svg, Capture, Json}
 use Rattle.gtp_replay.specs.declared.verdict.Verdict.{Verdict}
 use Rattle.gtp_replay.specs.declared.verdict.Verdict.TheVariants.{Expected, Unexpected, Bad}
-use Rattle.gtp_replay.specs.Expected.{all_met}
+use Rattle.gtp_replay.specs.Expected.{first_unmet}
 use Rattle.gtp_counted.specs.Streams.{WritesFront}
 
 -- the events of a scenario, each as often as its entry says
 abbrev pub events_of : Scenario → List Event
 events_of scenario = flat_map events_in scenario.entries
 
+-- the verdict, by the first event that did not come to what is expected
+abbrev pub verdict_by : Option ℕ → Verdict
+verdict_by None = Expected
+verdict_by (Some event) = Unexpected event
+
 -- whether each event came to what is expected, in this world
 abbrev pub verdict_on : Scenario → WorldRecord → Verdict
-verdict_on scenario world = if all_met scenario.entries world.log.notes then Expected else Unexpected
+verdict_on scenario world = verdict_by (first_unmet scenario.entries world.log.notes)
 
 -- the rows of a diagram of a world in which these events happened
 abbrev pub rows_in : List Event → WorldRecord → List Row

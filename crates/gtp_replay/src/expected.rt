@@ -1,10 +1,9 @@
 //! Whether events had the outcomes that a scenario expects.
 
-ghost use Rattle.std.specs.Prelude.{◌≡◌, map, option_map, string_bytes};
-ghost use Rattle.std.specs.List.{list_all};
+ghost use Rattle.std.specs.Prelude.{◌≡◌, ◌<◌, IfSome, length, map, option_map, string_bytes};
 ghost use Rattle.gtp_world.specs.Record.{told_by};
 ghost use Rattle.gtp_scenario.specs.Views.{entry as entry_view};
-ghost use Rattle.gtp_replay.specs.Expected.{is_second_refused, told_is_met, all_met};
+ghost use Rattle.gtp_replay.specs.Expected.{is_second_refused, told_is_met, unmet_among, first_unmet};
 
 use gtp_gateway::Outcome;
 use gtp_outcomes::{first_word, is_refused};
@@ -22,7 +21,7 @@ fn is_second_refused(second: Option<Outcome>) -> bool
 }
 
 /// Whether an outcome is expected: this first word, or else any that is no refusal.
-pub fn is_met(expect: &Option<String>, note: &Note) -> bool
+fn is_met(expect: &Option<String>, note: &Note) -> bool
     ensures { result ≡ told_is_met (option_map (λ s. string_bytes s) expect.now)
         (told_by note.now) }
 {
@@ -32,26 +31,28 @@ pub fn is_met(expect: &Option<String>, note: &Note) -> bool
     }
 }
 
-/// Whether each of these is expected.
-fn each_met(expect: &Option<String>, notes: &[Note]) -> bool
-    ensures { result ≡ list_all (told_is_met (option_map (λ s. string_bytes s) expect.now))
+/// The place of the first of these that is not expected.
+fn unmet_among(expect: &Option<String>, notes: &[Note]) -> Option<usize>
+    ensures value { result ≡ unmet_among (option_map (λ s. string_bytes s) expect.now)
         (map told_by notes.now) }
+    ensures among { IfSome result (λ place. place < length notes.now) }
 {
-    notes.iter().all(|note| is_met(expect, note))
+    notes.iter().position(|note| !is_met(expect, note))
 }
 
-/// Whether each event had the outcome that its entry expects.
-pub(crate) fn all_met(entries: &[Entry], notes: &[Note]) -> bool
-    ensures { result ≡ all_met (map entry_view entries.now) (map told_by notes.now) }
+/// The number of the first event that had not the outcome that its entry expects.
+pub(crate) fn first_unmet(entries: &[Entry], notes: &[Note]) -> Option<usize>
+    ensures { result ≡ first_unmet (map entry_view entries.now) (map told_by notes.now) }
 {
     let mut rest = notes;
     for entry in entries {
+        let before = notes.len() - rest.len();
         let count = rest.len().min(entry.times as usize);
         let (its, others) = rest.split_at(count);
-        if !each_met(&entry.expect, its) {
-            return false;
+        if let Some(place) = unmet_among(&entry.expect, its) {
+            return Some(before + place);
         }
         rest = others;
     }
-    true
+    None
 }

@@ -16,7 +16,6 @@ mod verdict;
 
 pub use capturing::capture;
 pub use drawing::diagram;
-pub use expected::is_met;
 pub use picture::svg;
 pub use replaying::{Form, replay};
 pub use reporting::report;

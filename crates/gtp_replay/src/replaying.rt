@@ -13,7 +13,7 @@ ghost use Rattle.gtp_replay.specs.Told.{refusal_line, verdict_on, IsText, TellsS
 
 use crate::capturing::capture;
 use crate::drawing::diagram;
-use crate::expected::all_met;
+use crate::expected::first_unmet;
 use crate::picture::svg;
 use crate::reporting::report;
 use crate::streams::{read_octets, write_octets};
@@ -93,10 +93,9 @@ fn run_scenario(alloc: Global, scenario: &Scenario) -> Result<Ran, ReplayFault>
 fn judged(scenario: &Scenario, world: &World) -> Verdict
     ensures { result ≡ verdict_on (scenario_view scenario.now) world.now }
 {
-    if all_met(&scenario.entries, world.outcomes()) {
-        Verdict::Expected
-    } else {
-        Verdict::Unexpected
+    match first_unmet(&scenario.entries, world.outcomes()) {
+        None => Verdict::Expected,
+        Some(event) => Verdict::Unexpected { event },
     }
 }
 

@@ -15,8 +15,8 @@ pub enum Verdict {
     /// Each event had the outcome that its entry expects; without an expected one, no event was refused (G), dropped
     /// (X) or impossible (N).
     Expected,
-    /// Some event did not.
-    Unexpected,
+    /// Some event did not; the number of the first one, from 0.
+    Unexpected { event: usize },
     /// The octets that were read are not a scenario.
     Bad,
 }
