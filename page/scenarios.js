@@ -122,6 +122,7 @@ function showPicture(svg) {
   root.append(make("style", { textContent: PICTURE_STYLE }), document.importNode(picture, true));
   const arrows = [...root.querySelectorAll("g")].filter((it) => it.querySelector(":scope > title"));
   for (const arrow of arrows) arrowOfRun(arrow, arrows);
+  inRow(arrows);
   $("picture").replaceChildren(host);
   if (arrows.length) arrows[0].onclick();
   else $("below").hidden = true;
@@ -129,7 +130,6 @@ function showPicture(svg) {
 
 function arrowOfRun(arrow, arrows) {
   const label = arrow.querySelector(".label");
-  arrow.setAttribute("tabindex", "0");
   arrow.setAttribute("role", "button");
   arrow.setAttribute("aria-label", label ? label.textContent : "datagram");
   pressed(arrow, () => {

@@ -20,7 +20,9 @@ function drawSequence() {
   ends.forEach((it, at) => svg.append(draw("path", { class: "life", d: `M${LEFT + at * STEP} 0V${high}` })));
   const names = draw("svg", { width: wide, height: 26, class: "ladder names" }, ...ends.map((it, at) =>
     draw("text", { x: LEFT + at * STEP, y: 18, "text-anchor": "middle" }, nameOfEnd(it))));
-  svg.append(...heads.map((head, row) => arrowOf(head, TOP + row * ROW, ends, wide)));
+  const arrows = heads.map((head, row) => arrowOf(head, TOP + row * ROW, ends, wide));
+  inRow(arrows);
+  svg.append(...arrows);
   const count = countShown();
   $("sequence").replaceChildren(names, svg);
   if (count > MOST) $("sequence").prepend(make("p", { className: "soft", textContent: `The first ${MOST} of ${count}: a filter shows others.` }));
@@ -32,7 +34,7 @@ function arrowOf(head, y, ends, wide) {
   const tip = to > from ? -1 : 1, isLoop = from === to;
   const said = [head.message, head.teid].filter(Boolean).join(" ");
   const about = { class: `${planeOf(head)}${head.fault ? " faulty" : ""}`, "data-place": head.place, "aria-label": said };
-  const group = draw("g", { ...about, tabindex: 0, role: "button" },
+  const group = draw("g", { ...about, role: "button" },
     draw("rect", { x: 0, y: y - 17, width: wide, height: ROW - 2 }),
     draw("text", { class: "soft", x: 8, y: y + 4 }, since(head.time, state.rows.firstTime())),
     draw("path", { d: isLoop ? `M${from} ${y - 6}h30v9h-26` : `M${from} ${y}H${to}m${7 * tip} -4l${-7 * tip} 4l${7 * tip} 4` }),
@@ -49,6 +51,21 @@ function pressed(it, what) {
     what();
     event.preventDefault();
   };
+}
+
+// Makes buttons one stop of the Tab key; the arrow keys, Home and End go from one to another.
+function inRow(buttons) {
+  buttons.forEach((it, at) => {
+    it.setAttribute("tabindex", at ? -1 : 0);
+    it.addEventListener("keydown", (event) => {
+      const to = buttons[{ ArrowDown: at + 1, ArrowUp: at - 1, Home: 0, End: buttons.length - 1 }[event.key]];
+      if (!to) return;
+      event.preventDefault();
+      it.setAttribute("tabindex", -1);
+      to.setAttribute("tabindex", 0);
+      to.focus();
+    });
+  });
 }
 
 function markSequence() {
