@@ -7,9 +7,9 @@ import sys
 TOP = pathlib.Path(__file__).resolve().parents[2]
 NAMES = dict(address="Address", end="End", fault="Fault", head="Head", element="Element", user_head="UserHead", imsi="Identity",
              cause="CauseSaid", apn="Name", ambr="TotalRates", paa="Allocation", quality="Quality", network="NetworkCodes",
-             fteid="Tunnel", template="Template", setup="Setup", outcome="Coming", told="Told", datagram="Datagram",
+             fteid="Tunnel", template="Template", setup="Setup", outcome="ToldOutcome", told="Told", datagram="Datagram",
              session="Session", session_row="SessionRow", bearer_row="BearerRow", gateway="Handle")
-TYPES = {"uint8_t": "u8", "uint16_t": "u16", "uint32_t": "u32", "uint64_t": "u64", "bool": "bool", "void *": "Place"}
+TYPES = {"uint8_t": "u8", "uint16_t": "u16", "uint32_t": "u32", "uint64_t": "u64", "bool": "bool", "void *": "OwnedPointer"}
 def of_header(text):
     text = re.sub(r"/\*.*?\*/", "", text, flags=re.S)
     for name, body in re.findall(r"struct gtp_(\w+) \{(.*?)\}", text, re.S):
@@ -28,7 +28,7 @@ def of_library():
             fields = re.findall(r"^    pub(?:\(crate\))? (\w+): ([^,\n]+),", body, re.M)
             yield name, [(field, re.sub(r"; (\w+)\]", lambda m: f"; {numbers.get(m[1], m[1])}]", kind)) for field, kind in fields]
 library = dict(of_library())
-assert library.pop("Place") == [("at", "*mut u8")]
+assert library.pop("OwnedPointer") == [("at", "*mut u8")]
 header = dict(of_header((TOP / "include/gtp.h").read_text()))
 others = [name for name in sorted(library.keys() | header.keys()) if library.get(name) != header.get(name)]
 for name in others:

@@ -20,7 +20,7 @@ use Rattle.gtp_c.specs.Statuses.{HasStatus, command_statuses, IsFull, LacksRoom,
 use Rattle.gtp_c.specs.Steps.{Keeps, HasBegun, IsRefused, IsUntold, begun_number}
 use Rattle.gtp_c.specs.Told.{begun_told}
 use Rattle.gtp_c.specs.declared.values.Identity.{Identity}
-use Rattle.gtp_c.specs.declared.desk.Desk.{Desk}
+use Rattle.gtp_c.specs.declared.gateway_with_queue.GatewayWithQueue.{GatewayWithQueue}
 use Rattle.gtp_c.specs.declared.session.Session.{Session}
 use Rattle.gtp_c.specs.declared.told.Told.{Told}
 
@@ -36,7 +36,7 @@ of_three P pa pb pc n (inr (inr (inr none))) = absurd none
 abbrev IsCommandStatus : ℕ → Type 0
 IsCommandStatus n = IsOneOf command_statuses n
 
-module _ (Bad : Type 0) (good : ¬ Bad) (desk : Desk) where
+module _ (Bad : Type 0) (good : ¬ Bad) (desk : GatewayWithQueue) where
   -- a gateway is there, and the values are good
   has_status : (status : ℕ) → status ≢ 7 → status ≢ 1 → ((status ≡ 3) ↔ IsFull desk) → IsCommandStatus status → HasStatus command_statuses Bad (Some desk) status
   has_status status not_empty not_bad full known =
@@ -49,7 +49,7 @@ module _ (Bad : Type 0) (good : ¬ Bad) (desk : Desk) where
 
 -- ---- from before the room was made on
 
-module _ (command : Command) (Bad : Type 0) (good : ¬ Bad) (desk mid : Desk) (before : Told) (kept : Keeps desk mid) where
+module _ (command : Command) (Bad : Type 0) (good : ¬ Bad) (desk mid : GatewayWithQueue) (before : Told) (kept : Keeps desk mid) where
   -- there was no room
   pub held_up : (status : ℕ) → ((status ≡ 3) ↔ IsFull desk) → (status ≡ 2 → LacksRoom 1 desk) → IsOneOf (0 ∷ 2 ∷ 3 ∷ []) status → status ≢ 0
       → IsCommanded command Bad before before (Some desk) (Some mid) status
@@ -67,7 +67,7 @@ module _ (command : Command) (Bad : Type 0) (good : ¬ Bad) (desk mid : Desk) (b
         memory = λ two. inl (memory two);
       }
 
-  module _ (new : Desk) (told : Told) (after : GatewayState) (r : Result Begun CommandFault) (status : ℕ) (settled : IsSettled r (begun_number command) before told (record { gateway = after; waiting = mid.waiting }) new status) where
+  module _ (new : GatewayWithQueue) (told : Told) (after : GatewayState) (r : Result Begun CommandFault) (status : ℕ) (settled : IsSettled r (begun_number command) before told (record { gateway = after; waiting = mid.waiting }) new status) where
     has_begun : (r : Result Begun CommandFault) → IfOk r (λ b. IsCarriedOut command mid.gateway b after) → IfOk r (λ b. IsTimed command mid.gateway b after) → IfOk r (λ b. IsUntold command b)
         → IsOkAnd r (λ b. new.waiting.items ≡ mid.waiting.items ++ b.out ∷ []) → IsOkAnd r (λ b. told ≡ begun_told (begun_number command) b (deque_len new.waiting)) → HasBegun command told desk new
     has_begun (Ok b) done timed untold waits tells =
@@ -130,21 +130,21 @@ pub has_room : {Full : Type 0} (status : ℕ) → status ≡ 0 → ((status ≡ 
 has_room status zero full is = let three = full.1 is in omega (arith, zero, three)
 
 -- of the gateway behind a handle
-pub behind : {command : Command} {Bad : Type 0} {before told : Told} {desk : Desk} {old new : Option Desk} {status : ℕ} → Some desk ≡ old
+pub behind : {command : Command} {Bad : Type 0} {before told : Told} {desk : GatewayWithQueue} {old new : Option GatewayWithQueue} {status : ℕ} → Some desk ≡ old
     → IsCommanded command Bad before told (Some desk) new status → IsCommanded command Bad before told old new status
-behind {command} {Bad} {before} {told} {desk} {old} {new} {status} is said = subst (λ (v : Option Desk). IsCommanded command Bad before told v new status) is said
+behind {command} {Bad} {before} {told} {desk} {old} {new} {status} is said = subst (λ (v : Option GatewayWithQueue). IsCommanded command Bad before told v new status) is said
 
 -- the same command
-pub as_command : {command other : Command} {Bad : Type 0} {before told : Told} {old new : Option Desk} {status : ℕ} → command ≡ other
+pub as_command : {command other : Command} {Bad : Type 0} {before told : Told} {old new : Option GatewayWithQueue} {status : ℕ} → command ≡ other
     → IsCommanded command Bad before told old new status → IsCommanded other Bad before told old new status
 as_command {command} {other} {Bad} {before} {told} {old} {new} {status} is said = subst (λ (c : Command). IsCommanded c Bad before told old new status) is said
 
 -- a session with C's values
-pub asked : {c : Session} {imsi : Identity} {access_point : List ℕ} {before told : Told} {desk new : Desk} {old : Option Desk} {status : ℕ} (spec : SessionSpec) → IsSpecified c imsi access_point spec → Some desk ≡ old
+pub asked : {c : Session} {imsi : Identity} {access_point : List ℕ} {before told : Told} {desk new : GatewayWithQueue} {old : Option GatewayWithQueue} {status : ℕ} (spec : SessionSpec) → IsSpecified c imsi access_point spec → Some desk ≡ old
     → IsCommanded (Create_session (specification spec)) (¬ IsGoodSession c imsi access_point) before told (Some desk) (Some new) status
     → IsSessionAsked c imsi access_point before told old (Some new) status
 asked {c} {imsi} {access_point} {before} {told} {desk} {new} {old} {status} spec is there said =
-    subst (λ (v : Option Desk). IsSessionAsked c imsi access_point before told v (Some new) status) there
+    subst (λ (v : Option GatewayWithQueue). IsSessionAsked c imsi access_point before told v (Some new) status) there
     (record {
       done = λ zero. record { spec = spec; is = is; begun = said.done zero };
       refused = λ six. record { spec = spec; is = is; refused = said.refused six };

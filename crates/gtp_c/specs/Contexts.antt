@@ -10,7 +10,7 @@ use Rattle.gtp_tables.specs.declared.context.State.TheVariants.{Pending, Active,
 use Rattle.gtp_values.specs.PdnAddress.{PdnAddress}
 use Rattle.gtp_c.specs.Common.{flag, IsOneOf}
 use Rattle.gtp_c.specs.Values.{AddressIs, IdentityIs, NameIs}
-use Rattle.gtp_c.specs.declared.desk.Desk.{Desk}
+use Rattle.gtp_c.specs.declared.gateway_with_queue.GatewayWithQueue.{GatewayWithQueue}
 use Rattle.gtp_c.specs.declared.rows.BearerRow.{BearerRow}
 use Rattle.gtp_c.specs.declared.rows.SessionRow.{SessionRow}
 
@@ -57,57 +57,57 @@ pub record IsBearer (teid : ℕ) (b : Bearer) (row : BearerRow) : Type 0 where
 -- ---- of the gateway behind a handle
 
 -- the session under this TEID is what the row says
-pub record IsSessionOf (teid : ℕ) (row : SessionRow) (d : Desk) : Type 0 where
+pub record IsSessionOf (teid : ℕ) (row : SessionRow) (d : GatewayWithQueue) : Type 0 where
   pub session : Session
   pub found : map.get d.gateway.node.sessions teid ≡ Some session
   pub is : IsSession teid session row
 
-pub record IsBearerOf (teid : ℕ) (row : BearerRow) (d : Desk) : Type 0 where
+pub record IsBearerOf (teid : ℕ) (row : BearerRow) (d : GatewayWithQueue) : Type 0 where
   pub bearer : Bearer
   pub found : map.get d.gateway.node.bearers teid ≡ Some bearer
   pub is : IsBearer teid bearer row
 
-abbrev pub HasSession : ℕ → SessionRow → Option Desk → Type 0
+abbrev pub HasSession : ℕ → SessionRow → Option GatewayWithQueue → Type 0
 HasSession teid row v = IsSomeAnd v (IsSessionOf teid row)
 
-abbrev pub HasBearer : ℕ → BearerRow → Option Desk → Type 0
+abbrev pub HasBearer : ℕ → BearerRow → Option GatewayWithQueue → Type 0
 HasBearer teid row v = IsSomeAnd v (IsBearerOf teid row)
 
-abbrev pub NoSession : ℕ → Option Desk → Type 0
+abbrev pub NoSession : ℕ → Option GatewayWithQueue → Type 0
 NoSession teid v = IsSomeAnd v (λ d. map.get d.gateway.node.sessions teid ≡ None)
 
-abbrev pub NoBearer : ℕ → Option Desk → Type 0
+abbrev pub NoBearer : ℕ → Option GatewayWithQueue → Type 0
 NoBearer teid v = IsSomeAnd v (λ d. map.get d.gateway.node.bearers teid ≡ None)
 
 -- the session at a place, in the order of TEIDs, is what the row says
-pub record IsSessionAt (place : ℕ) (row : SessionRow) (d : Desk) : Type 0 where
+pub record IsSessionAt (place : ℕ) (row : SessionRow) (d : GatewayWithQueue) : Type 0 where
   pub teid : ℕ
   pub session : Session
   pub found : slice_get (map.entries d.gateway.node.sessions) place ≡ Some (teid, session)
   pub is : IsSession teid session row
 
-pub record IsBearerAt (place : ℕ) (row : BearerRow) (d : Desk) : Type 0 where
+pub record IsBearerAt (place : ℕ) (row : BearerRow) (d : GatewayWithQueue) : Type 0 where
   pub teid : ℕ
   pub bearer : Bearer
   pub found : slice_get (map.entries d.gateway.node.bearers) place ≡ Some (teid, bearer)
   pub is : IsBearer teid bearer row
 
-abbrev pub SessionAt : ℕ → SessionRow → Option Desk → Type 0
+abbrev pub SessionAt : ℕ → SessionRow → Option GatewayWithQueue → Type 0
 SessionAt place row v = IsSomeAnd v (IsSessionAt place row)
 
-abbrev pub BearerAt : ℕ → BearerRow → Option Desk → Type 0
+abbrev pub BearerAt : ℕ → BearerRow → Option GatewayWithQueue → Type 0
 BearerAt place row v = IsSomeAnd v (IsBearerAt place row)
 
 -- no session has this place
-abbrev pub SessionsEnd : ℕ → Option Desk → Type 0
+abbrev pub SessionsEnd : ℕ → Option GatewayWithQueue → Type 0
 SessionsEnd place v = IsSomeAnd v (λ d. slice_get (map.entries d.gateway.node.sessions) place ≡ None)
 
-abbrev pub BearersEnd : ℕ → Option Desk → Type 0
+abbrev pub BearersEnd : ℕ → Option GatewayWithQueue → Type 0
 BearersEnd place v = IsSomeAnd v (λ d. slice_get (map.entries d.gateway.node.bearers) place ≡ None)
 
 -- A look-up by the gateway behind a handle, which changes nothing: 0 where what there is is told, 4 where there is none, and 7 exactly where there is no gateway;
 -- and no other status. After any but 0 C's row is as it was.
-pub record IsLookedUp {Row : Type 0} (Has : Row → Option Desk → Type 0) (Lacks : Option Desk → Type 0) (before row : Row) (old new : Option Desk) (status : ℕ) : Type 0 where
+pub record IsLookedUp {Row : Type 0} (Has : Row → Option GatewayWithQueue → Type 0) (Lacks : Option GatewayWithQueue → Type 0) (before row : Row) (old new : Option GatewayWithQueue) (status : ℕ) : Type 0 where
   pub found : status ≡ 0 → Has row old
   pub none : status ≡ 4 → Lacks old
   pub untold : status ≢ 0 → row ≡ before

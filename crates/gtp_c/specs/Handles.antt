@@ -1,16 +1,16 @@
 -- What happens to what stands behind a handle.
 use Rattle.std.specs.Prelude.{Option, Some, None}
 use Rattle.gtp_c.specs.Steps.{Keeps}
-use Rattle.gtp_c.specs.declared.desk.Desk.{Desk}
+use Rattle.gtp_c.specs.declared.gateway_with_queue.GatewayWithQueue.{GatewayWithQueue}
 
 -- a gateway stands behind the handle, before and after, and goes on so
-abbrev pub Goes : (Desk → Desk → Type 0) → Option Desk → Option Desk → Type 0
+abbrev pub Goes : (GatewayWithQueue → GatewayWithQueue → Type 0) → Option GatewayWithQueue → Option GatewayWithQueue → Type 0
 Goes Is (Some old) (Some new) = Is old new
 Goes Is (Some old) None = ⊥
 Goes Is None new = ⊥
 
 -- nothing happened: to the gateway, nor to what waits, where there is a gateway
-abbrev pub Stays : Option Desk → Option Desk → Type 0
+abbrev pub Stays : Option GatewayWithQueue → Option GatewayWithQueue → Type 0
 Stays (Some old) (Some new) = Keeps old new
 Stays None None = Unit {0}
 Stays old new = ⊥

@@ -5,8 +5,8 @@ use denote.RawPtr.{Ptr}
 use Rattle.std.specs.Global.{Global}
 use Rattle.std.specs.Box.Ownership.{box_owns}
 use Rattle.std.specs.contracts.impls.GlobalAllocator.TheImpl.{ghosts}
-use Rattle.gtp_c.specs.contracts.desk.Desk.{the_row as value_row}
-use Rattle.gtp_c.specs.declared.desk.Desk.{Desk as Value}
+use Rattle.gtp_c.specs.contracts.gateway_with_queue.GatewayWithQueue.{the_row as value_row}
+use Rattle.gtp_c.specs.declared.gateway_with_queue.GatewayWithQueue.{GatewayWithQueue as Value}
 
 -- the memory of the box at p with this value, which this allocator may free
 abbrev pub boxed : Ptr → Value → Global → Fml

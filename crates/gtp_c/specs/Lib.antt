@@ -1,5 +1,5 @@
 pub mod BadValues
-pub mod Behind
+pub mod Pointers
 pub mod Bodies
 pub mod Commands
 pub mod Common

@@ -14,7 +14,7 @@ use Rattle.gtp_c.specs.declared.values.Identity.{Identity}
 use Rattle.gtp_c.specs.Handles.{Goes, Stays}
 use Rattle.gtp_c.specs.Statuses.{HasStatus, command_statuses, CommandMayRunOut}
 use Rattle.gtp_c.specs.Steps.{HasBegun, IsRefused}
-use Rattle.gtp_c.specs.declared.desk.Desk.{Desk}
+use Rattle.gtp_c.specs.declared.gateway_with_queue.GatewayWithQueue.{GatewayWithQueue}
 use Rattle.gtp_c.specs.declared.told.Told.{Told}
 use Rattle.gtp_c.specs.declared.session.Quality.{Quality}
 use Rattle.gtp_c.specs.declared.session.Session.{Session}
@@ -69,25 +69,25 @@ pub record IsSpecified (c : Session) (imsi : Identity) (access_point : List ℕ)
   pub quality : s.qos ≡ quality_at c.quality
 
 -- a session was begun, as C's values ask
-pub record Creates (c : Session) (imsi : Identity) (access_point : List ℕ) (told : Told) (old new : Desk) : Type 0 where
+pub record Creates (c : Session) (imsi : Identity) (access_point : List ℕ) (told : Told) (old new : GatewayWithQueue) : Type 0 where
   pub spec : SessionSpec
   pub is : IsSpecified c imsi access_point spec
   pub begun : HasBegun (Create_session (specification spec)) told old new
 
 -- a session that C's values ask for was refused
-pub record IsCreationRefused (c : Session) (imsi : Identity) (access_point : List ℕ) (told : Told) (old new : Desk) : Type 0 where
+pub record IsCreationRefused (c : Session) (imsi : Identity) (access_point : List ℕ) (told : Told) (old new : GatewayWithQueue) : Type 0 where
   pub spec : SessionSpec
   pub is : IsSpecified c imsi access_point spec
   pub refused : IsRefused (Create_session (specification spec)) told old new
 
 -- memory may run out over a session that C's values ask for
-pub record CreationMayRunOut (c : Session) (imsi : Identity) (access_point : List ℕ) (d : Desk) : Type 0 where
+pub record CreationMayRunOut (c : Session) (imsi : Identity) (access_point : List ℕ) (d : GatewayWithQueue) : Type 0 where
   pub spec : SessionSpec
   pub is : IsSpecified c imsi access_point spec
   pub may : CommandMayRunOut (Create_session (specification spec)) d
 
 -- A session is asked for with C's values, which may be bad: as of any command (`IsCommanded`).
-pub record IsSessionAsked (c : Session) (imsi : Identity) (access_point : List ℕ) (before told : Told) (old new : Option Desk) (status : ℕ) : Type 0 where
+pub record IsSessionAsked (c : Session) (imsi : Identity) (access_point : List ℕ) (before told : Told) (old new : Option GatewayWithQueue) (status : ℕ) : Type 0 where
   pub done : status ≡ 0 → Goes (Creates c imsi access_point told) old new
   pub refused : status ≡ 6 → Goes (IsCreationRefused c imsi access_point told) old new
   pub kept : status ≢ 0 → Stays old new

@@ -12,7 +12,7 @@ use Rattle.gtp_tables.specs.declared.pool.Pools.{Pools}
 use Rattle.gtp_c.specs.Ends.{ip_at}
 use Rattle.gtp_c.specs.Names.{AreNames, AreGoodNames, names_in}
 use Rattle.gtp_c.specs.Templates.{AreGoodTemplates, with_each}
-use Rattle.gtp_c.specs.declared.desk.Desk.{Desk}
+use Rattle.gtp_c.specs.declared.gateway_with_queue.GatewayWithQueue.{GatewayWithQueue}
 use Rattle.gtp_c.specs.declared.ends.Address.{Address}
 use Rattle.gtp_c.specs.declared.setup.Setup.{Setup}
 use Rattle.gtp_c.specs.declared.template.Template.{Template}
@@ -58,7 +58,7 @@ pub record IsStarted (s : Setup) (text : List ℕ) (g : GatewayState) : Type 0 w
 
 -- Such a gateway. No datagram waits, and there is room for all that ever do: a step is refused while more than 4,096 wait, and a
 -- tick adds at most 256. So no later call asks for memory for what waits.
-pub record Starts (s : Setup) (text : List ℕ) (d : Desk) : Type 0 where
+pub record Starts (s : Setup) (text : List ℕ) (d : GatewayWithQueue) : Type 0 where
   pub gateway : IsStarted s text d.gateway
   pub waiting : d.waiting.items ≡ []
   pub room : 4352 ≤ deque_capacity d.waiting

@@ -9,7 +9,6 @@ use Rattle.gtp_machine.specs.declared.outcome.Refusal.{Refusal}
 use Rattle.gtp_gateway.specs.command.Command.{IsCarriedOut, IsTimed}
 use Rattle.gtp_gateway.specs.receive.Choosing.{ChoosesLowest}
 use Rattle.gtp_gateway.specs.receive.Received.{IsReceived, QueuesAfterReceive}
-use Rattle.gtp_gateway.specs.GatewayState.{GatewayState}
 use Rattle.gtp_gateway.specs.Tick.{IsTicked, QueuesAfterTick}
 use Rattle.gtp_gateway.specs.declared.sent.Begun.{Begun}
 use Rattle.gtp_gateway.specs.declared.sent.Sent.{Sent}
@@ -20,17 +19,17 @@ use Rattle.gtp_c.specs.Common.{AreLast}
 use Rattle.gtp_c.specs.Ends.{endpoint_at, plane_at}
 use Rattle.gtp_c.specs.Told.{step_told, begun_told, refused_told, tick_told}
 use Rattle.gtp_c.specs.Writing.{StandsAt}
-use Rattle.gtp_c.specs.declared.desk.Desk.{Desk}
+use Rattle.gtp_c.specs.declared.gateway_with_queue.GatewayWithQueue.{GatewayWithQueue}
 use Rattle.gtp_c.specs.declared.ends.End.{End}
-use Rattle.gtp_c.specs.declared.taken.Datagram.{Datagram}
+use Rattle.gtp_c.specs.declared.datagram.Datagram.{Datagram}
 use Rattle.gtp_c.specs.declared.told.Told.{Told}
 
 -- there is room for as many datagrams as before
-abbrev pub KeepsRoom : Desk → Desk → Type 0
+abbrev pub KeepsRoom : GatewayWithQueue → GatewayWithQueue → Type 0
 KeepsRoom old new = deque_capacity old.waiting ≤ deque_capacity new.waiting
 
 -- nothing happened to the gateway, nor to what waits
-abbrev pub Keeps : Desk → Desk → Type 0
+abbrev pub Keeps : GatewayWithQueue → GatewayWithQueue → Type 0
 Keeps old new = (new.gateway ≡ old.gateway) × (new.waiting.items ≡ old.waiting.items) × KeepsRoom old new
 
 -- the packet that was accepted is the last octets of the datagram
@@ -45,7 +44,7 @@ IsPayloadOf User accepted octets = IsPayload accepted octets
 
 -- a datagram was received: that is a step of the machine, what it sends waits behind all that waited, and what it came to is told; an accepted packet
 -- changes nothing
-pub record HasReceived (plane : Plane) (source : Endpoint) (octets : List ℕ) (told : Told) (old new : Desk) : Type 0 where
+pub record HasReceived (plane : Plane) (source : Endpoint) (octets : List ℕ) (told : Told) (old new : GatewayWithQueue) : Type 0 where
   pub step : Step
   pub received : IsReceived plane source octets old.gateway step new.gateway
   pub queues : QueuesAfterReceive plane source octets step old.gateway new.gateway
@@ -57,7 +56,7 @@ pub record HasReceived (plane : Plane) (source : Endpoint) (octets : List ℕ) (
   pub tells : told ≡ step_told step (deque_len new.waiting)
 
 -- the same, from C's number of the plane and C's end
-pub record Comes (number : ℕ) (source : End) (octets : List ℕ) (told : Told) (old new : Desk) : Type 0 where
+pub record Comes (number : ℕ) (source : End) (octets : List ℕ) (told : Told) (old new : GatewayWithQueue) : Type 0 where
   pub plane : Plane
   pub is_plane : plane_at plane ≡ number
   pub from : Endpoint
@@ -77,7 +76,7 @@ IsUntold (Send_user bearer payload) begun = begun.teid ≡ None
 IsUntold command begun = Unit {0}
 
 -- a command was carried out: that is a step of the machine, what it sends waits behind all that waited, and what it came to is told
-pub record HasBegun (command : Command) (told : Told) (old new : Desk) : Type 0 where
+pub record HasBegun (command : Command) (told : Told) (old new : GatewayWithQueue) : Type 0 where
   pub begun : Begun
   pub done : IsCarriedOut command old.gateway begun new.gateway
   pub timed : IsTimed command old.gateway begun new.gateway
@@ -87,13 +86,13 @@ pub record HasBegun (command : Command) (told : Told) (old new : Desk) : Type 0 
   pub tells : told ≡ begun_told (begun_number command) begun (deque_len new.waiting)
 
 -- a command was refused, as the machine refuses it, and why is told
-pub record IsRefused (command : Command) (told : Told) (old new : Desk) : Type 0 where
+pub record IsRefused (command : Command) (told : Told) (old new : GatewayWithQueue) : Type 0 where
   pub why : Refusal
   pub refuses : MachineStep old.gateway.role old.gateway.node (Commanded command) (refused old.gateway.node why)
   pub tells : told ≡ refused_told why (deque_len new.waiting)
 
 -- a tick passed: that is a step of the machine, what is sent again, at most 256 datagrams, waits behind all that waited, and what it came to is told
-pub record HasTicked (told : Told) (old new : Desk) : Type 0 where
+pub record HasTicked (told : Told) (old new : GatewayWithQueue) : Type 0 where
   pub ticked : Ticked
   pub is_ticked : IsTicked old.gateway ticked new.gateway
   pub counts : QueuesAfterTick old.gateway new.gateway
@@ -104,11 +103,11 @@ pub record HasTicked (told : Told) (old new : Desk) : Type 0 where
   pub tells : told ≡ tick_told (length ticked.gave_up.items) (length ticked.forgotten.items) (deque_len new.waiting)
 
 -- no datagram waits
-abbrev pub NothingWaits : Desk → Type 0
+abbrev pub NothingWaits : GatewayWithQueue → Type 0
 NothingWaits d = d.waiting.items ≡ []
 
 -- the datagram that waited longest waits no more
-abbrev pub HasTaken : Desk → Desk → Type 0
+abbrev pub HasTaken : GatewayWithQueue → GatewayWithQueue → Type 0
 HasTaken old new = (new.gateway ≡ old.gateway) × (new.waiting.items ≡ drop 1 old.waiting.items) × KeepsRoom old new
 
 -- C's datagram says what this one is: its plane, its ends and its length
@@ -119,20 +118,20 @@ pub record Says (datagram : Datagram) (sent : Sent) : Type 0 where
   pub len : datagram.len ≡ length sent.octets.items
 
 -- the datagram that waited longest is told
-pub record Shows (old : Desk) (datagram : Datagram) (sent : Sent) : Type 0 where
+pub record Shows (old : GatewayWithQueue) (datagram : Datagram) (sent : Sent) : Type 0 where
   pub waited : 0 < deque_len old.waiting
   pub first : sent ≡ slice_index_or old.waiting.items 0 sent
   pub says : Says datagram sent
 
 -- the datagram that waited longest stands at the front of a buffer, with all behind it as it was
-pub record Hands (before after : List ℕ) (datagram : Datagram) (old new : Desk) : Type 0 where
+pub record Hands (before after : List ℕ) (datagram : Datagram) (old new : GatewayWithQueue) : Type 0 where
   pub sent : Sent
   pub shows : Shows old datagram sent
   pub written : StandsAt 0 sent.octets.items before after
   pub taken : HasTaken old new
 
 -- the datagram that waited longest has more octets than there is room for
-pub record IsTooSmall (room : ℕ) (datagram : Datagram) (old new : Desk) : Type 0 where
+pub record IsTooSmall (room : ℕ) (datagram : Datagram) (old new : GatewayWithQueue) : Type 0 where
   pub sent : Sent
   pub shows : Shows old datagram sent
   pub small : room < length sent.octets.items

@@ -12,7 +12,7 @@ use Rattle.gtp_gateway.specs.declared.sent.Begun as commands
 use Rattle.gtp_gateway.specs.user.Accepted as packets
 use Rattle.gtp_gateway.specs.declared.step.Step.{Step}
 use Rattle.gtp_c.specs.Common.{flag}
-use Rattle.gtp_c.specs.declared.coming.Coming.{Coming}
+use Rattle.gtp_c.specs.declared.outcome.ToldOutcome.{ToldOutcome}
 use Rattle.gtp_c.specs.declared.told.Told.{Told}
 
 -- the number of a refusal: G1, G2, G3, G4 S1, G4 S4, G4 B1, G5, G7
@@ -71,11 +71,11 @@ abbrev pub fault_number : Outcome → ℕ
 fault_number (Dropped (Undecodable name)) = name.number
 fault_number outcome = 0
 
-abbrev pub outcome_told : Outcome → Coming
+abbrev pub outcome_told : Outcome → ToldOutcome
 outcome_told o = record { kind = outcome_number o; cause = cause_number o; fault = fault_number o }
 
 -- of a message that may be missing
-abbrev pub second_told : Option Outcome → Coming
+abbrev pub second_told : Option Outcome → ToldOutcome
 second_told None = record { kind = 0; cause = 0; fault = 0 }
 second_told (Some o) = outcome_told o
 
@@ -96,7 +96,7 @@ teid_in None = 0
 teid_in (Some teid) = teid
 
 -- nothing but what it came to and a TEID, with so many datagrams that wait
-abbrev pub plain_told : Coming → ℕ → ℕ → Told
+abbrev pub plain_told : ToldOutcome → ℕ → ℕ → Told
 plain_told outcome teid waiting =
     record {
       waiting = waiting;

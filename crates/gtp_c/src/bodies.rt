@@ -10,7 +10,7 @@ ghost use Rattle.gtp_c.specs.Bodies.{IsBodyWritten, IsGoodIdentity, IsGoodName, 
 ghost use Rattle.gtp_c.specs.Bodies.{digits_at, labels_at, cause_at, total_at, allocation_at, tunnel_at};
 ghost use Rattle.gtp_c.specs.Sessions.{IsGoodQuality, quality_at, network_in};
 
-use crate::asked::{below, octet_of};
+use crate::from_c::{below, octet_of};
 use crate::session::{Quality, network_of};
 use crate::status::{BAD_VALUE, NO_MEMORY};
 use crate::values::{Allocation, CauseSaid, Identity, Name, NetworkCodes, TotalRates, Tunnel};

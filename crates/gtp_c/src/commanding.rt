@@ -26,7 +26,7 @@ const GONE_OUT: u8 = 2;
 /// datagram more.
 macro_rules! command {
     ($handle:ident, $told:ident, $number:ident, $gateway:ident => $called:expr) => {{
-        let desk = $handle.hidden.behind();
+        let desk = $handle.hidden.get_mut();
         let status = desk.room_for(1);
         if status != DONE {
             return status;

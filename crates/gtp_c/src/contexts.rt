@@ -14,7 +14,7 @@ macro_rules! look_up {
         if $handle.count == 0 {
             return EMPTY;
         }
-        let $gateway = &$handle.hidden.behind().gateway;
+        let $gateway = &$handle.hidden.get_mut().gateway;
         match $looked {
             Some($found) => {
                 *$row = $told;

@@ -9,14 +9,14 @@ ghost use Rattle.gtp_c.specs.Statuses.{HasStatus, step_statuses, IsBadArrival};
 ghost use Rattle.gtp_c.specs.Statuses.{ComingMayRunOut, TickMayRunOut};
 ghost use Rattle.gtp_c.specs.Steps.{HasTicked, Hands, IsTooSmall, Comes, NothingWaits};
 
-use crate::desk::Desk;
+use crate::datagram::Datagram;
+use crate::detached_box::DetachedBox;
 use crate::ends::{End, plane_of};
+use crate::gateway_with_queue::GatewayWithQueue;
 use crate::handle::Handle;
-use crate::loose::Loose;
-use crate::place::Place;
+use crate::owned_pointer::OwnedPointer;
 use crate::setup::Setup;
 use crate::status::{BAD_VALUE, DONE, EMPTY, NO_MEMORY, NOT_EMPTY};
-use crate::taken::Datagram;
 use crate::told::Told;
 use gtp_gateway::Gateway;
 use std::alloc::Global;
@@ -30,12 +30,12 @@ fn fill(alloc: Global, gateway: Gateway, handle: &mut Handle) -> u8
     ensures kept { result ≢ 0 → handle.new.hidden.value ≡ None }
     ensures known { result ≢ 0 → result ≡ 2 }
 {
-    let Ok(desk) = Desk::new(alloc, gateway) else {
+    let Ok(desk) = GatewayWithQueue::new(alloc, gateway) else {
         return NO_MEMORY;
     };
     match Box::new(alloc, desk) {
         Ok(desk) => {
-            replace(&mut handle.hidden, Place::of(Loose::of(desk))).end();
+            replace(&mut handle.hidden, OwnedPointer::of(DetachedBox::of(desk))).end();
             handle.count = 1;
             DONE
         }
@@ -98,7 +98,7 @@ pub extern "C" fn gtp_gateway_receive(
     };
     handle
         .hidden
-        .behind()
+        .get_mut()
         .receive(alloc, source, plane, octets, told)
 }
 
@@ -115,7 +115,7 @@ pub extern "C" fn gtp_gateway_tick(alloc: Global, handle: &mut Handle, told: &mu
     if handle.count == 0 {
         return EMPTY;
     }
-    handle.hidden.behind().tick(alloc, told)
+    handle.hidden.get_mut().tick(alloc, told)
 }
 
 /// The next datagram to send: 0 with `buffer` and `datagram` filled, 4 where none waits, 5 where it does not fit, with
@@ -140,7 +140,7 @@ pub extern "C" fn gtp_gateway_take(
     if handle.count == 0 {
         return EMPTY;
     }
-    handle.hidden.behind().take(buffer, datagram)
+    handle.hidden.get_mut().take(buffer, datagram)
 }
 
 /// Lets a gateway go, and what waits. The handle is empty then.
@@ -153,8 +153,8 @@ pub extern "C" fn gtp_gateway_free(alloc: Global, handle: &mut Handle) -> u8
     if handle.count == 0 {
         return EMPTY;
     }
-    let full = replace(&mut handle.hidden, Place::empty());
+    let full = replace(&mut handle.hidden, OwnedPointer::empty());
     handle.count = 0;
-    drop(full.loosen(alloc).into_box());
+    drop(full.detach(alloc).into_box());
     DONE
 }

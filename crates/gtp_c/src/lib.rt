@@ -2,29 +2,29 @@
 //! it has to keep.
 #![tactic(auto)]
 
-mod asked;
 mod bad_values;
-mod behind;
 mod bodies;
-mod coming;
 mod commanding;
 mod contexts;
 mod control;
-mod desk;
+mod datagram;
+mod detached_box;
+mod element_reads;
 mod elements;
 mod ends;
 mod fault;
+mod from_c;
 mod gateway;
+mod gateway_with_queue;
 mod handle;
-mod loose;
 mod names;
-mod place;
+mod outcome;
+mod owned_pointer;
+mod pointer_deref;
 mod rows;
-mod saying;
 mod session;
 mod setup;
 mod status;
-mod taken;
 mod template;
 mod told;
 mod user;

@@ -3,7 +3,7 @@
 ghost use Rattle.std.specs.Prelude.{◌≡◌, None, Some};
 ghost use Rattle.gtp_c.specs.Contexts.{IsSession, IsBearer, state_number};
 
-use crate::asked::number_of_teid;
+use crate::from_c::number_of_teid;
 use crate::values::{Identity, Name};
 use gtp_gateway::{Bearer, Kind, Session, State, Teid};
 

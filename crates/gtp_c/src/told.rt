@@ -4,7 +4,7 @@ ghost use Rattle.std.specs.Prelude.{◌≡◌};
 ghost use Rattle.gtp_c.specs.Common.{flag};
 ghost use Rattle.gtp_c.specs.Told.{plain_told, step_told, begun_told, refused_told, tick_told};
 
-use crate::coming::Coming;
+use crate::outcome::ToldOutcome;
 use gtp_gateway::{Begun, Outcome, Refusal, Step};
 
 /// What a step came to.
@@ -20,9 +20,9 @@ pub struct Told {
     pub forgot: u64,
     /// The context that a command began, or the bearer of an accepted packet; 0 for none.
     pub teid: u32,
-    pub outcome: Coming,
+    pub outcome: ToldOutcome,
     /// Of the second message of a datagram.
-    pub second: Coming,
+    pub second: ToldOutcome,
     /// 1 where a context was made for a request.
     pub made: u8,
     /// 1 where the peer told a restart counter, and it.
@@ -58,8 +58,8 @@ impl Told {
             gave_up: 0,
             forgot: 0,
             teid,
-            outcome: Coming::of(step.report.outcome),
-            second: Coming::of_some(step.report.second),
+            outcome: ToldOutcome::of(step.report.outcome),
+            second: ToldOutcome::of_some(step.report.second),
             made: bit(step.report.made),
             counted,
             counter,
@@ -68,7 +68,7 @@ impl Told {
     }
 
     /// Nothing but an outcome and a TEID.
-    fn plain(outcome: Coming, teid: u32, waiting: usize) -> Told
+    fn plain(outcome: ToldOutcome, teid: u32, waiting: usize) -> Told
         ensures { result ≡ plain_told outcome teid waiting }
     {
         Told {
@@ -78,7 +78,7 @@ impl Told {
             forgot: 0,
             teid,
             outcome,
-            second: Coming::of_some(None),
+            second: ToldOutcome::of_some(None),
             made: 0,
             counted: 0,
             counter: 0,
@@ -94,7 +94,7 @@ impl Told {
             Some(teid) => teid.0,
             None => 0,
         };
-        let outcome = Coming {
+        let outcome = ToldOutcome {
             kind: number,
             cause: 0,
             fault: 0,
@@ -106,14 +106,14 @@ impl Told {
     pub(crate) fn of_refusal(why: Refusal, waiting: usize) -> Told
         ensures { result ≡ refused_told why waiting }
     {
-        Told::plain(Coming::of(Outcome::Refused(why)), 0, waiting)
+        Told::plain(ToldOutcome::of(Outcome::Refused(why)), 0, waiting)
     }
 
     /// Of a tick: how many requests it gave up, and how many answers it forgot.
     pub(crate) fn of_tick(gave_up: usize, forgot: usize, waiting: usize) -> Told
         ensures { result ≡ tick_told gave_up forgot waiting }
     {
-        let outcome = Coming {
+        let outcome = ToldOutcome {
             kind: 16,
             cause: 0,
             fault: 0,

@@ -4,7 +4,7 @@ ghost use Rattle.std.specs.Prelude.{◌≡◌, option_map};
 ghost use Rattle.gtp_user.specs.Message.{content_of, message_value};
 ghost use Rattle.gtp_c.specs.UserWriting.{IsUserWritten, content_asked, where_told};
 
-use crate::asked::teid_of;
+use crate::from_c::teid_of;
 use crate::status::{BAD_VALUE, NO_MEMORY};
 use crate::user::UserHead;
 use crate::writing::write_parts;
