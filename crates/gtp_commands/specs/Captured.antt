@@ -9,8 +9,8 @@ use Rattle.gtp_capture.specs.Capture.{State, Holds, IsPiece, IsBroken, IsCapture
 use Rattle.gtp_capture.specs.Packet.{Packet}
 use Rattle.gtp_capture.specs.Seen.{Seen, seen_in, datagrams}
 use Rattle.gtp_capture.specs.declared.ports.Ports.{Ports}
-use Rattle.gtp_frames.specs.Filter.{IsChosen}
-use Rattle.gtp_frames.specs.Frames.{FrameLines}
+use Rattle.gtp_lines.specs.Filter.{IsChosen}
+use Rattle.gtp_lines.specs.Frames.{FrameLines}
 use Rattle.gtp_json.specs.Frames.{FrameJson}
 use Rattle.gtp_commands.specs.declared.command.Failure.{Failure}
 use Rattle.gtp_commands.specs.declared.command.Failure.TheVariants.{Memory, TooLong, Write, Closed}

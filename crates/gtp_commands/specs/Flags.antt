@@ -9,8 +9,8 @@ use Rattle.gtp_values.specs.declared.plane.Plane.TheVariants.{Control, User}
 use Rattle.gtp_json.specs.declared.datagram.Members.TheVariants as members
 use Rattle.gtp_v2.specs.Tables.{table_of}
 use Rattle.gtp_lines.specs.User.{user_name}
-use Rattle.gtp_frames.specs.declared.filter.Kinds.{Kinds}
-use Rattle.gtp_frames.specs.declared.frames.Form.TheVariants as frames
+use Rattle.gtp_lines.specs.declared.filter.Kinds.{Kinds}
+use Rattle.gtp_lines.specs.declared.frames.Form.TheVariants as frames
 use Rattle.gtp_dump.specs.declared.decoding.Asked.{Asked}
 use Rattle.gtp_dump.specs.declared.decoding.Form.{Form as DumpForm}
 use Rattle.gtp_dump.specs.declared.decoding.Form.TheVariants as dump

@@ -15,9 +15,8 @@ use crate::command::Failure;
 use clap::ArgMatches;
 use gtp_capture::Ports;
 use gtp_dump::Asked;
-use gtp_frames::{Filter, Form, Imsi, Ip, Kinds, Teid};
 use gtp_json::Members;
-use gtp_lines::{Plane, user_name};
+use gtp_lines::{Filter, Form, Imsi, Ip, Kinds, Plane, Teid, user_name};
 use gtp_v2::type_name;
 use std::io::{self, ErrorKind};
 

@@ -5,7 +5,7 @@ use Rattle.gtp_values.specs.Address.{ip_text}
 use Rattle.gtp_values.specs.declared.address.Endpoint.{Endpoint}
 use Rattle.gtp_capture.specs.Packet.{Packet}
 use Rattle.gtp_capture.specs.Seen.{Seen}
-use Rattle.gtp_frames.specs.Frames.{time_text, is_whole}
+use Rattle.gtp_lines.specs.Frames.{time_text, is_whole}
 use Rattle.gtp_json.specs.Tree.{member, object_of, number_of, line_of}
 use Rattle.gtp_json.specs.declared.datagram.Members.{Members}
 use Rattle.gtp_json.specs.Datagram.{plane_member, WholeMembers}

@@ -1,10 +1,10 @@
 //! The JSON of a datagram of a capture.
 
-ghost use Rattle.std.specs.Prelude.{◌≡◌, ◌<◌, ◌≤◌, ◌++◌, replicate, OnOk, IfOk, codes, string_bytes};
+ghost use Rattle.std.specs.Prelude.{◌≡◌, ◌≤◌, ◌++◌, replicate, OnOk, IfOk, codes, string_bytes};
 ghost use Rattle.json.specs.Json.{string};
 ghost use Rattle.gtp_capture.specs.Seen.{seen_of};
 ghost use Rattle.gtp_capture.specs.reading.Packet.{packet_of};
-ghost use Rattle.gtp_frames.specs.Frames.{width_of, second_in, time_text, is_whole as spec_is_whole};
+ghost use Rattle.gtp_lines.specs.Frames.{time_text};
 ghost use Rattle.gtp_json.specs.Tree.{member, object_of};
 ghost use Rattle.gtp_json.specs.reading.Tokens.{written};
 ghost use Rattle.gtp_json.specs.Adds.{Adds};
@@ -13,33 +13,11 @@ ghost use Rattle.gtp_json.specs.Reads.{ReadsBack};
 
 use crate::datagram::{Members, put_members, put_plane};
 use crate::object::Output;
-use gtp_capture::{Captured, Packet, Time, Unit};
-use gtp_lines::Shown;
+use gtp_capture::{Captured, Packet, Time};
+use gtp_lines::{Shown, is_whole, second_in, width_of};
 use gtp_values::{Endpoint, Memory};
 use itoa::Buffer;
 use std::alloc::{AllocError, Global};
-
-/// How many digits the fractions of a second have.
-fn width_of(unit: Unit) -> usize
-    ensures value { result ≡ width_of unit }
-    ensures few { result ≤ 9 }
-{
-    match unit {
-        Unit::Microseconds => 6,
-        Unit::Nanoseconds => 9,
-    }
-}
-
-/// How many of its fractions make a second.
-fn second_in(unit: Unit) -> u32
-    ensures value { result ≡ second_in unit }
-    ensures some { 0 < result }
-{
-    match unit {
-        Unit::Microseconds => 1_000_000,
-        Unit::Nanoseconds => 1_000_000_000,
-    }
-}
 
 /// So many zeros.
 fn zeros(count: usize) -> &'static str
@@ -124,16 +102,6 @@ fn put_frame(out: &mut Output, captured: &Captured) -> Result<(), AllocError>
     out.number_member("frame", captured.frame)?;
     put_time(out, captured.time)?;
     put_path(out, &captured.packet)
-}
-
-/// Whether the capture has all of a datagram.
-fn is_whole(packet: &Packet) -> bool
-    ensures { result ≡ spec_is_whole (packet_of packet.now) }
-{
-    if packet.fragment {
-        return false;
-    }
-    usize::from(packet.had) <= packet.octets.len()
 }
 
 /// Writes how many octets the capture has of a datagram that is cut.

@@ -5,5 +5,8 @@ pub mod Control
 pub mod User
 pub mod Lines
 pub mod All
+pub mod Brief
+pub mod Filter
+pub mod Frames
 pub mod Laws
 pub mod reading

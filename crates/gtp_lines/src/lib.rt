@@ -1,10 +1,13 @@
 //! The lines that show a GTP datagram: its message with each element in order, or its first fault; or all that can be shown
-//! of it, and then its fault.
+//! of it, and then its fault. Of a datagram of a capture also frame, time and ends; or all in one line.
 #![tactic(auto)]
 
 mod all;
+mod brief;
 mod contexts;
 mod control;
+mod filter;
+mod frames;
 mod fronts;
 mod header;
 pub mod laws;
@@ -17,6 +20,8 @@ mod words;
 
 pub use all::all_lines;
 pub use control::message_name;
+pub use filter::{Filter, Kinds};
+pub use frames::{Form, frame_lines, is_whole, second_in, width_of};
 pub use lines::{Shown, decode_lines};
 
 /// What is there of a datagram at fault: headers, whatever length they state, and the whole elements behind them.
@@ -31,5 +36,7 @@ pub use user::{body_name, put_some, put_target, put_user_fault_line, user_name};
 pub use values::put_field;
 pub use words::form_word;
 
-/// What the signatures here name of the crate below.
-pub use gtp_values::{Memory, Plane};
+/// What the signatures here name of the crates below.
+pub use gtp_capture::{Captured, Packet};
+pub use gtp_ie::{Imsi, Teid};
+pub use gtp_values::{Ip, Memory, Plane};

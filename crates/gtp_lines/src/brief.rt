@@ -4,13 +4,13 @@ ghost use Rattle.std.specs.Prelude.{◌≡◌, ◌++◌, OnOk, IfOk, option_map}
 ghost use Rattle.gtp_user.specs.Message.{message_value};
 ghost use Rattle.gtp_v2.specs.Pair.{datagram_seen};
 ghost use Rattle.gtp_lines.specs.Text.{Adds};
-ghost use Rattle.gtp_frames.specs.Brief.{brief_named, brief_message, brief_second, brief_datagram, brief_user, BriefLine};
+ghost use Rattle.gtp_lines.specs.Brief.{brief_named, brief_message, brief_second, brief_datagram, brief_user, BriefLine};
 ghost use Rattle.gtp_values.specs.declared.plane.Plane.TheVariants as planes;
 
-use gtp_lines::text::put;
-use gtp_lines::{
-    body_name, put_fault_line, put_field, put_some, put_some_teid, put_target, put_user_fault_line,
-};
+use crate::control::{put_fault_line, put_some_teid};
+use crate::text::put;
+use crate::user::{body_name, put_some, put_target, put_user_fault_line};
+use crate::values::put_field;
 use gtp_user::UserMessage;
 use gtp_v2::{DatagramView, MessageView, type_name, view};
 use gtp_values::Plane;

@@ -4,14 +4,15 @@ ghost use Rattle.std.specs.Prelude.{◌≡◌, ◌↔◌, ◌<◌, ◌^◌, ◌�
 ghost use Rattle.gtp_ie.specs.View.{element_of};
 ghost use Rattle.gtp_capture.specs.reading.Packet.{packet_of};
 ghost use Rattle.gtp_lines.specs.reading.Header.{headed_of, user_head_of};
-ghost use Rattle.gtp_frames.specs.Filter.{SomeOf, TellsImsi, TellsTeid, HoldsTeid, HasAsked, UserHasAsked, MessageHasAsked, AsksNothing, IsChosen, elements_behind as spec_elements_behind};
+ghost use Rattle.gtp_lines.specs.Filter.{SomeOf, TellsImsi, TellsTeid, HoldsTeid, HasAsked, UserHasAsked, MessageHasAsked, AsksNothing, IsChosen, elements_behind as spec_elements_behind};
 ghost use Rattle.gtp_lines.specs.All.{head_at as spec_head_at};
 ghost use Rattle.gtp_values.specs.declared.plane.Plane.TheVariants as planes;
 
+use crate::header::{Header, head_at, pair_at};
+use crate::user_header::{UserHeader, user_head_at};
 use gtp_capture::Packet;
 use gtp_ie::kinds::{FTEID, IMSI};
 use gtp_ie::{ElementView, Elements, FTeid, IeValue, Imsi, Teid, elements_at};
-use gtp_lines::{Header, UserHeader, head_at, pair_at, user_head_at};
 use gtp_v2::BEARER_CONTEXT;
 use gtp_values::{Ip, Plane};
 

@@ -1,5 +1,5 @@
 -- Which datagrams of a capture are chosen.
-use Rattle.std.specs.Prelude.{◌≡◌, ℕ, ◌+◌, ◌⊎◌, Bool, true, List, [], ◌∷◌, Option, Some, None, IfSome, IsSomeAnd, option_to_list}
+use Rattle.std.specs.Prelude.{◌≡◌, ℕ, ◌⊎◌, List, [], ◌∷◌, Option, Some, None, IfSome, IsSomeAnd, option_to_list}
 use Rattle.gtp_values.specs.declared.fteid.FTeid.{FTeid}
 use Rattle.gtp_values.specs.declared.plane.Plane.{Plane}
 use Rattle.gtp_values.specs.declared.plane.Plane.TheVariants as planes
@@ -12,7 +12,7 @@ use Rattle.gtp_v2.specs.Headed.{Headed}
 use Rattle.gtp_v2.specs.Viewed.{inner_of}
 use Rattle.gtp_capture.specs.Packet.{Packet}
 use Rattle.gtp_lines.specs.All.{UserHead, head_at, pair_at, user_head_at}
-use Rattle.gtp_frames.specs.declared.filter.Filter.{Filter}
+use Rattle.gtp_lines.specs.declared.filter.Filter.{Filter}
 
 -- one of them has a property
 abbrev pub SomeOf : {X : Type 0} → (X → Type 0) → List X → Type 0

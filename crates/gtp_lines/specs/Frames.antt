@@ -11,9 +11,9 @@ use Rattle.gtp_capture.specs.Packet.{Packet}
 use Rattle.gtp_capture.specs.Seen.{Seen}
 use Rattle.gtp_lines.specs.Lines.{LinesOf}
 use Rattle.gtp_lines.specs.All.{AllLines}
-use Rattle.gtp_frames.specs.Brief.{BriefLine}
-use Rattle.gtp_frames.specs.declared.frames.Form.{Form}
-use Rattle.gtp_frames.specs.declared.frames.Form.TheVariants as forms
+use Rattle.gtp_lines.specs.Brief.{BriefLine}
+use Rattle.gtp_lines.specs.declared.frames.Form.{Form}
+use Rattle.gtp_lines.specs.declared.frames.Form.TheVariants as forms
 
 -- how many digits a fraction of a second has, and how many of them make a second
 abbrev pub width_of : Fraction → ℕ

@@ -4,12 +4,13 @@ ghost use Rattle.std.specs.Prelude.{◌≡◌, ◌<◌, ◌≤◌, ◌++◌, ◌
 ghost use Rattle.gtp_capture.specs.Seen.{seen_of};
 ghost use Rattle.gtp_capture.specs.reading.Packet.{packet_of};
 ghost use Rattle.gtp_lines.specs.Text.{Adds};
-ghost use Rattle.gtp_frames.specs.Frames.{width_of, second_in, fraction_text, time_text, end_text, plane_text, cut_text, is_whole as spec_is_whole, part_text, path_text, frame_line, brief_mark, brief_start, start_of, LinesIn, FrameLines};
+ghost use Rattle.gtp_lines.specs.Frames.{width_of, second_in, fraction_text, time_text, end_text, plane_text, cut_text, is_whole as spec_is_whole, part_text, path_text, frame_line, brief_mark, brief_start, start_of, LinesIn, FrameLines};
 
+use crate::all::all_lines;
 use crate::brief::put_brief;
+use crate::lines::{Shown, decode_lines};
+use crate::text::{put, put_ip, put_number};
 use gtp_capture::{Captured, Packet, Time, Unit};
-use gtp_lines::text::{put, put_ip, put_number};
-use gtp_lines::{Shown, all_lines, decode_lines};
 use gtp_values::{Endpoint, Memory, Plane};
 use itoa::Buffer;
 use std::alloc::{AllocError, Global};
@@ -29,7 +30,7 @@ pub enum Form {
 const LINE: usize = 128;
 
 /// How many digits the fractions of a second have.
-fn width_of(unit: Unit) -> usize
+pub fn width_of(unit: Unit) -> usize
     ensures value { result ≡ width_of unit }
     ensures few { result ≤ 9 }
 {
@@ -40,7 +41,7 @@ fn width_of(unit: Unit) -> usize
 }
 
 /// How many of its fractions make a second.
-fn second_in(unit: Unit) -> u32
+pub fn second_in(unit: Unit) -> u32
     ensures value { result ≡ second_in unit }
     ensures some { 0 < result }
 {
@@ -120,7 +121,7 @@ fn put_cut(out: &mut Vec<u8>, held: usize, had: u16) -> Result<(), AllocError>
 }
 
 /// Whether the capture has all of a datagram.
-fn is_whole(packet: &Packet) -> bool
+pub fn is_whole(packet: &Packet) -> bool
     ensures { result ≡ spec_is_whole (packet_of packet.now) }
 {
     if packet.fragment {

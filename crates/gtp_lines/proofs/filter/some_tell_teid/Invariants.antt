@@ -1,6 +1,6 @@
 use Rattle.std.proofs.Common.{◌↔◌}
-use Rattle.gtp_frames.specs.Filter.{SomeOf, TellsTeid}
-use Rattle.gtp_frames.proofs.filter.some_tell_teid.Given as goal
+use Rattle.gtp_lines.specs.Filter.{SomeOf, TellsTeid}
+use Rattle.gtp_lines.proofs.filter.some_tell_teid.Given as goal
 
 -- what is left decides
 abbrev pub invariant-loop-view : goal.invariant-loop-view

@@ -1,3 +1,0 @@
-pub mod Brief
-pub mod Filter
-pub mod Frames
