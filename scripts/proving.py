@@ -1,4 +1,7 @@
 """The crates of the repository, and the words by which rt has the prover check one over the libraries that are built."""
+
+from __future__ import annotations
+
 import os
 import shutil
 from dataclasses import dataclass
@@ -9,28 +12,28 @@ TOP = os.path.dirname(os.path.dirname(os.path.realpath(__file__)))
 @dataclass
 class Crate:
     name: str
-    deps: list
+    deps: list[str]
 
     @property
-    def folder(self):
+    def folder(self) -> str:
         return f"{TOP}/crates/{self.name}"
 
     @property
-    def rlib(self):
+    def rlib(self) -> str:
         return f"{self.folder}/out/rlib/{self.name}.rlib"
 
 
-def read(path):
+def read(path: str) -> str:
     with open(path, encoding="utf-8") as it:
         return it.read()
 
 
-def kit():
+def kit() -> str:
     """The toolchain's folder: that of the command rt."""
     return os.path.dirname(os.path.dirname(os.path.realpath(shutil.which("rt"))))
 
 
-def crates():
+def crates() -> dict[str, Crate]:
     """The crates of crates.txt, by their names."""
     found = {}
     for line in read(f"{TOP}/crates.txt").splitlines():
@@ -41,7 +44,7 @@ def crates():
     return found
 
 
-def below(crate, known):
+def below(crate: Crate, known: dict[str, Crate]) -> list[Crate]:
     """The libraries of the repository that the crate stands on, lowest first."""
     found = []
     for name in crate.deps:
@@ -50,7 +53,7 @@ def below(crate, known):
     return found
 
 
-def words_of(crate, known, jobs=1):
+def words_of(crate: Crate, known: dict[str, Crate], jobs: int = 1) -> list[str]:
     """The words by which rt has the prover check the crate."""
     root = "src/main.rt" if os.path.exists(f"{crate.folder}/src/main.rt") else "src/lib.rt"
     words = ["--crate-name", crate.name, root]

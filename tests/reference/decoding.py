@@ -1,11 +1,15 @@
 """What the octets of a datagram are: a message, or the first fault. Of any octets, from anywhere: written after the standard
 and the protocol profile and not after the program. Clauses are those of TS 29.274 and, of the user plane, TS 29.281."""
 
+from __future__ import annotations
+
+from collections.abc import Callable
 from dataclasses import dataclass
+from typing import NoReturn, Optional, Union
 
 from gateways import (AMBR, APN, CAUSE, CHARGING_ID, CONDITIONAL_IE_MISSING, CONTEXT, EBI, ERROR_INDICATION, FTEID, IMSI,
                       INVALID_LENGTH, MANDATORY_IE_INCORRECT, MANDATORY_IE_MISSING, PAA, PDN_TYPE, QOS, RAT, RECOVERY, SELECTION,
-                      SERVING_NETWORK, TFT, Message, accepts)
+                      SERVING_NETWORK, TFT, Element, Message, accepts, elements_and_rest)
 
 PTI = 100
 
@@ -15,16 +19,17 @@ class Fault(Exception):
     element's type and instance and the cause that a refusal of it has (clause 7.7). Of an element in a bearer context, the number
     of that context in the message, from 1."""
 
-    def __init__(self, code, message=None, kind=None, instance=0, cause=None):
+    def __init__(self, code: str, message: Message | None = None, kind: int | None = None, instance: int = 0,
+                 cause: int | None = None) -> None:
         super().__init__(code)
         self.code, self.message, self.kind, self.instance, self.cause = code, message, kind, instance, cause
-        self.context = None
+        self.context: int | None = None
 
 
 # Forms of elements (clause 8): whether a body is too short, and whether one that is long enough is bad.
 
 
-def digits_are_bad(body):
+def digits_are_bad(body: bytes) -> bool:
     """Clause 8.3: 6 to 15 digits, two an octet; the last half is 15 where their number is odd."""
     halves = [half for octet in body for half in (octet & 15, octet >> 4)]
     if halves[-1] == 15:
@@ -32,7 +37,7 @@ def digits_are_bad(body):
     return not 6 <= len(halves) <= 15 or any(half > 9 for half in halves)
 
 
-def name_is_bad(body):
+def name_is_bad(body: bytes) -> bool:
     """Clause 8.6: labels, each its length and its octets."""
     if not 1 <= len(body) <= 100:
         return True
@@ -44,23 +49,25 @@ def name_is_bad(body):
     return False
 
 
-def network_is_bad(body):
+def network_is_bad(body: bytes) -> bool:
     """Clause 8.18: three digits of a country, and two or three of a network."""
     low, high = [octet & 15 for octet in body[:3]], [octet >> 4 for octet in body[:3]]
     return any(half > 9 for half in (*low, high[0], high[2])) or (high[1] > 9 and high[1] != 15)
 
 
-def least_end(body):
+def least_end(body: bytes) -> int:
     """Clause 8.22."""
     return 5 + (4 if body[:1] and body[0] & 128 else 0) + (16 if body[:1] and body[0] & 64 else 0)
 
 
-def least_allocation(body):
+def least_allocation(body: bytes) -> int:
     """Clause 8.14."""
     return {1: 5, 2: 18, 3: 22}.get(body[0] & 7, 1) if body else 1
 
 
-FORMS = {
+# The least size of a body, or what says it; and what says that a body is bad, if one can be.
+Form = tuple[Union[int, Callable[[bytes], int]], Optional[Callable[[bytes], bool]]]
+FORMS: dict[int, Form] = {
     IMSI: (3, digits_are_bad), CAUSE: (2, None), RECOVERY: (1, None), APN: (1, name_is_bad), AMBR: (8, None), EBI: (1, None),
     PAA: (least_allocation, None), QOS: (22, None), RAT: (1, None), SERVING_NETWORK: (3, network_is_bad),
     TFT: (0, lambda body: len(body) > 255), FTEID: (least_end, lambda body: body[0] & 192 == 0), CONTEXT: (0, None),
@@ -68,7 +75,7 @@ FORMS = {
 }
 
 
-def defect_of(kind, body):
+def defect_of(kind: int, body: bytes) -> int | None:
     """The cause of an element that cannot be read: too short, or bad."""
     least, is_bad = FORMS[kind]
     if len(body) < (least(body) if callable(least) else least):
@@ -78,13 +85,14 @@ def defect_of(kind, body):
 
 # Rows of messages (clause 7): type and instance, mark, and of bearer contexts their rows. M: mandatory; C: conditional and
 # required here; A: required where the message accepts; B: where the message and the context do; O: optional.
+Row = tuple
 
 SESSION_CONTEXT = [(EBI, 0, "M"), (QOS, 0, "M"), (FTEID, 2, "C")]
 OPENED_CONTEXT = [(EBI, 0, "M"), (CAUSE, 0, "M"), (FTEID, 2, "B"), (QOS, 0, "O"), (CHARGING_ID, 0, "O")]
 ASKED_CONTEXT = [(EBI, 0, "M"), (TFT, 0, "M"), (FTEID, 1, "C"), (QOS, 0, "M"), (CHARGING_ID, 0, "O")]
 MADE_CONTEXT = [(EBI, 0, "M"), (CAUSE, 0, "M"), (FTEID, 2, "B"), (FTEID, 3, "B")]
 ENDED_CONTEXT = [(EBI, 0, "M"), (CAUSE, 0, "M")]
-ROWS = {
+ROWS: dict[int, list[Row]] = {
     1: [(RECOVERY, 0, "M")],
     2: [(RECOVERY, 0, "M")],
     3: [],
@@ -101,16 +109,10 @@ ROWS = {
 WITHOUT_TEID = (1, 2, 3)
 
 
-def element_list(octets):
-    """The elements of a list: types, instances, bodies. None where the list is not complete."""
-    found = []
-    while octets:
-        size = int.from_bytes(octets[1:3], "big")
-        if len(octets) < 4 + size:
-            return None
-        found.append((octets[0], octets[3] & 15, octets[4 : 4 + size]))
-        octets = octets[4 + size :]
-    return found
+def element_list(octets: bytes) -> list[Element] | None:
+    """The elements of a list. None where the list is not complete."""
+    found, rest = elements_and_rest(octets)
+    return None if rest else found
 
 
 @dataclass
@@ -118,22 +120,22 @@ class Reading:
     """A list of elements that is read by rows: those that count, in the order of the list."""
 
     message: Message
-    found: list
+    found: list[Element]
     is_accepting: bool = True
 
-    def every(self, kind, instance):
+    def every(self, kind: int, instance: int) -> list[bytes]:
         return [body for k, i, body in self.found if (k, i) == (kind, instance)]
 
-    def drop(self, kind, instance):
+    def drop(self, kind: int, instance: int) -> None:
         self.found = [it for it in self.found if it[:2] != (kind, instance)]
 
-    def missing(self, kind, instance, mark):
+    def missing(self, kind: int, instance: int, mark: str) -> NoReturn:
         raise Fault("H6", self.message, kind, instance, MANDATORY_IE_MISSING if mark == "M" else CONDITIONAL_IE_MISSING)
 
-    def defect(self, kind, instance, cause):
+    def defect(self, kind: int, instance: int, cause: int) -> NoReturn:
         raise Fault("H7", self.message, kind, instance, cause)
 
-    def read(self, rows):
+    def read(self, rows: list[Row]) -> None:
         for kind, instance, mark, *inner in rows:
             bodies = self.every(kind, instance)
             is_required = mark in "MC" or mark in "AB" and self.is_accepting
@@ -153,13 +155,13 @@ class Reading:
             if (kind, instance) == (CAUSE, 0):
                 self.is_accepting = self.is_accepting and accepts(bodies[0][0])
 
-    def read_context(self, body, rows):
+    def read_context(self, body: bytes, rows: list[Row]) -> None:
         found = element_list(body)
         if found is None:
             raise Fault("H7", self.message)
         Reading(self.message, found, self.is_accepting).read(rows)
 
-    def read_contexts(self, instance, rows):
+    def read_contexts(self, instance: int, rows: list[Row]) -> None:
         contexts = [it for it in self.found if it[0] == CONTEXT]
         for number, (_, its_instance, body) in enumerate(contexts, 1):
             try:
@@ -170,7 +172,7 @@ class Reading:
                 raise
 
 
-def read_message(octets):
+def read_message(octets: bytes) -> Message:
     """A message that no other follows: clause 7.7, in the order of the profile."""
     if len(octets) < 4:
         raise Fault("H1")
@@ -203,7 +205,7 @@ def read_message(octets):
     return message
 
 
-def read_datagram(octets):
+def read_datagram(octets: bytes) -> list[Message]:
     """The messages of a datagram: one, or two (clause 5.5.1)."""
     if len(octets) < 4 or octets[0] >> 5 != 2 or octets[0] & 16 == 0:
         return [read_message(octets)]
@@ -225,10 +227,10 @@ class UserMessage:
     teid: int
     number: int
     body: bytes
-    found: dict
+    found: dict[int, bytes]
 
 
-def behind_chain(octets, kind):
+def behind_chain(octets: bytes, kind: int) -> int:
     """The place behind the extension headers (clause 5.2.1), and the type of the first one that must be understood."""
     at = 12
     while kind != 0:
@@ -245,7 +247,7 @@ def behind_chain(octets, kind):
     return at
 
 
-def user_elements(octets):
+def user_elements(octets: bytes) -> dict[int, bytes]:
     """Clause 8: the first body of each type. Types below 128 have a size of their own, the others a length."""
     found = {}
     while octets:
@@ -262,7 +264,7 @@ def user_elements(octets):
 NEEDED = {2: [14], ERROR_INDICATION: [16, 133], 31: [141]}
 
 
-def read_user_datagram(octets):
+def read_user_datagram(octets: bytes) -> UserMessage:
     if len(octets) < 8:
         raise Fault("U1")
     flags, kind = octets[0], octets[1]

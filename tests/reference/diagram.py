@@ -1,84 +1,75 @@
 """The run of a scenario as a sequence diagram, in plain text and as a picture (SVG)."""
 
-from gateways import PACKET, SERVING, has_two, last_message
-from world import outcome_text
+from __future__ import annotations
+
+from collections.abc import Iterator
+from typing import Union
+
+from gateways import PACKET, SERVING, Told, has_two, last_message
+from setups import text_of
+from words import MESSAGES
+from world import Happened, World, outcome_text
 
 HEAD = "event  serving                                                     packet  outcome"
 WIDTH = 64  # of what stands between the lines of both gateways
 
-NAMES = {
-    "control": {
-        1: "echo-request",
-        2: "echo-response",
-        32: "create-session-request",
-        33: "create-session-response",
-        36: "delete-session-request",
-        37: "delete-session-response",
-        95: "create-bearer-request",
-        96: "create-bearer-response",
-        99: "delete-bearer-request",
-        100: "delete-bearer-response",
-    },
-    "user": {1: "echo-request", 2: "echo-response", 26: "error-indication", 254: "end-marker", 255: "g-pdu"},
-}
 
-
-def datagram_name(number, plane, octets):
+def datagram_name(number: int, plane: str, octets: bytes) -> str:
     """The number of a datagram, the names of its messages, and the TEID of the first header, where it has one."""
     kind = octets[1]
-    name = NAMES[plane][kind]
+    name = MESSAGES[plane][kind]
     if plane == "control" and has_two(octets):
-        name += f" + {NAMES[plane][last_message(octets)[1]]}"
+        name += f" + {MESSAGES[plane][last_message(octets)[1]]}"
     has_teid = octets[0] & 8 if plane == "control" else kind in (254, 255)
     return f"{number} {name}" + (f" {octets[4:8].hex()}" if has_teid else "")
 
 
-def line(place, middle, outcome=""):
+def line(place: int | str, middle: str, outcome: str = "") -> str:
     return f"{place:>5}  {middle}" + (f"  {outcome}" if outcome else "")
 
 
-def mark(node, sign, label):
+def mark(node: str, sign: str, label: str) -> str:
     """What happens at one gateway."""
     if node == SERVING:
         return f"{sign} {label:{WIDTH - 1}}|"
     return f"|{label:>{WIDTH - 1}} {sign}"
 
 
-def arrow(sender, label):
+def arrow(sender: str, label: str) -> str:
     if sender == SERVING:
         return f"|--- {label} ".ljust(WIDTH, "-") + ">|"
     return f"|<-- {label} ".ljust(WIDTH + 1, "-") + "|"
 
 
-def lost(sender, label):
+def lost(sender: str, label: str) -> str:
     if sender == SERVING:
         return f"|--- {label} ---x".ljust(WIDTH + 1) + "|"
     return "|" + f"x--- {label} ---|".rjust(WIDTH + 1)
 
 
-def brought(happened):
+def brought(happened: Happened) -> int | None:
     """The number of the datagram that comes by an event, if one does."""
     comes = happened.event["do"] in ("deliver", "cut") and happened.told.outcome not in ("N1", "N3")
     return happened.event["datagram"] if comes else None
 
 
-def is_quiet(happened):
+def is_quiet(happened: Happened) -> bool:
     told = happened.told
     return happened.event["do"] == "tick" and not (told.sent or told.gave_up or told.forgot)
 
 
-def label_of(world, number, ending=""):
+def label_of(world: World, number: int, ending: str = "") -> str:
     return datagram_name(number, *world.datagrams[number][1:]) + ending
 
 
-def coming_of(happened, came):
+def coming_of(happened: Happened, came: set[int | None]) -> tuple[str, str]:
     """How a datagram comes by an event, where these came before: a word for it, and how its label ends."""
     if happened.event["do"] == "cut":
         return "cut", f" (cut to {happened.event['length']})"
     return ("again", " (again)") if brought(happened) in came else ("", "")
 
 
-def event_label(happened):
+def event_label(happened: Happened) -> str:
     """What an event is, by which no datagram comes."""
     if happened.event["do"] == "tick":
         told = happened.told
@@ -88,7 +79,13 @@ def event_label(happened):
     return happened.event["do"] + ("" if number is None else f" {number}")
 
 
-def in_groups(story):
+# How many ticks a row stands for; or how a datagram comes and how its label ends; or nothing more.
+More = Union[int, tuple[str, str], None]
+# What a row is, the event or the number of the datagram that it is made from, and what more.
+Row = tuple[str, Union[Happened, int], More]
+
+
+def in_groups(story: list[Happened]) -> Iterator[list[Happened]]:
     """The events one by one, but ticks at one gateway in which nothing was due together."""
     group = []
     for happened in story:
@@ -100,7 +97,7 @@ def in_groups(story):
         yield group
 
 
-def rows(world, story):
+def rows(world: World, story: list[Happened]) -> Iterator[Row]:
     """The rows of a diagram: what each is, and what it is made from."""
     comes, came = {brought(happened) for happened in story}, set()
     for first, *others in in_groups(story):
@@ -116,7 +113,7 @@ def rows(world, story):
                 yield "lost", number, None
 
 
-def text_line(world, kind, what, more):
+def text_line(world: World, kind: str, what: Happened | int, more: More) -> str:
     """A row as a line of text."""
     if kind == "lost":
         return line("", lost(world.datagrams[what][0], label_of(world, what)), "lost")
@@ -131,7 +128,7 @@ def text_line(world, kind, what, more):
     return line(what.number, middle, "" if do == "tick" else outcome_text(what.told))
 
 
-def diagram_lines(world, story):
+def diagram_lines(world: World, story: list[Happened]) -> Iterator[str]:
     yield HEAD
     yield from (text_line(world, *row) for row in rows(world, story))
 
@@ -146,7 +143,7 @@ ARROWS = ('<defs><marker id="arrow" viewBox="0 0 8 8" refX="8" refY="4" markerWi
           'markerHeight="8"><path d="M0 0L8 8M8 0L0 8"/></marker></defs>')
 
 
-def arrow_svg(world, number, kind, label):
+def arrow_svg(world: World, number: int, kind: str, label: str) -> str:
     """The arrow of a datagram, whose octets are its tooltip."""
     sender, plane, octets = world.datagrams[number]
     start, end, short = (150, 650, 600) if sender == SERVING else (650, 150, 200)
@@ -155,18 +152,18 @@ def arrow_svg(world, number, kind, label):
             f'<text class="label" x="400" y="-8">{label}</text></g>')
 
 
-def mark_svg(node, kind, label):
+def mark_svg(node: str, kind: str, label: str) -> str:
     """What happens at one gateway."""
     x, text = (145, '<text x="162" y="4">') if node == SERVING else (645, '<text class="end" x="638" y="4">')
     return f'<g class="{kind}"><rect x="{x}" y="-5" width="10" height="10"/>{text}{label}</text></g>'
 
 
-def outcome_svg(told):
+def outcome_svg(told: Told) -> str:
     kind = "refused" if told.outcome[0] in "GXN" else "outcome"
     return f'<text class="{kind}" x="680" y="4">{outcome_text(told)}</text>'
 
 
-def row_svg(world, kind, what, more):
+def row_svg(world: World, kind: str, what: Happened | int, more: More) -> str:
     """A row as a group of a picture, without its place in it."""
     if kind == "lost":
         return arrow_svg(world, what, "lost", label_of(world, what))
@@ -181,11 +178,11 @@ def row_svg(world, kind, what, more):
     return place + seen + ("" if do == "tick" else outcome_svg(what.told))
 
 
-def sample(kind, x, y, mark, label, at):
+def sample(kind: str, x: int, y: int, mark: str, label: str, at: int) -> str:
     return f'<g class="{kind}" transform="translate({x},{y})">{mark}<text x="{at}" y="4">{label}</text></g>'
 
 
-def legend():
+def legend() -> Iterator[str]:
     """What lines and squares mean, and the heads of the columns."""
     arrow, square = '<path d="M0 0H40" marker-end="url(#arrow)"/>', '<rect x="0" y="-5" width="10" height="10"/>'
     cross = '<path d="M0 0H36" marker-end="url(#cross)"/>'
@@ -197,12 +194,11 @@ def legend():
            '<text class="label" x="650" y="66">packet</text><text x="680" y="66">outcome</text>')
 
 
-def address_of(world, node, plane):
-    octets = getattr(world.setups[node], plane)
-    return ".".join(map(str, octets)) if len(octets) == 4 else octets.hex()
+def address_of(world: World, node: str, plane: str) -> str:
+    return text_of(getattr(world.setups[node], plane))
 
 
-def svg_lines(world, story):
+def svg_lines(world: World, story: list[Happened]) -> Iterator[str]:
     groups = [row_svg(world, *row) for row in rows(world, story)]
     height = 130 + 30 * len(groups)
     yield f'<svg xmlns="http://www.w3.org/2000/svg" width="1000" height="{height}" font-family="monospace" font-size="12">'

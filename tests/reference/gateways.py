@@ -5,8 +5,21 @@ Here it takes what a world can show: scenarios that are well formed, and datagra
 takes any octets from anywhere.
 The clauses named are those of TS 29.274 and, of the user plane, TS 29.281."""
 
+from __future__ import annotations
+
+from collections.abc import Iterable, Iterator
 from dataclasses import dataclass, field, replace
-from typing import Optional
+from typing import Optional, Union
+
+# An object of JSON.
+Json = dict
+# The type, instance and body of an element.
+Element = tuple[int, int, bytes]
+# An address and a port, and what an answer is held under: the octets of a request, and where it came from if that is known.
+Source = tuple[bytes, int]
+Request = Union[bytes, tuple[Source, bytes]]
+# The TEID, cause and rows of an answer, and the request that goes along in its datagram, if one does.
+Answer = Union[tuple[Optional[int], int, bytes], tuple[Optional[int], int, bytes, bytes]]
 
 SERVING, PACKET = "serving", "packet"
 PENDING, ACTIVE, CLOSING = "pending", "active", "closing"
@@ -35,11 +48,11 @@ class Refused(Exception):
     """A command that is refused, or a datagram that is dropped: the outcome as it is printed."""
 
 
-def accepts(cause):
+def accepts(cause: int) -> bool:
     return 16 <= cause <= 63
 
 
-def age(known, new):
+def age(known: int, new: int) -> str:
     """Whether a restart counter is the same, later or earlier (TS 23.007, clause 18, leaves the window to us)."""
     ahead = (new - known) % 256
     return "same" if ahead == 0 else "later" if ahead < 128 else "earlier"
@@ -48,62 +61,66 @@ def age(known, new):
 # Elements (clause 8) and messages of the control plane (clause 5).
 
 
-def element(kind, instance, body):
+def element(kind: int, instance: int, body: bytes) -> bytes:
     return bytes([kind]) + len(body).to_bytes(2, "big") + bytes([instance]) + body
 
 
-def elements(octets):
-    """The elements of a list that is whole: their types, instances and bodies."""
+def elements_and_rest(octets: bytes) -> tuple[list[Element], bytes]:
+    """The elements at the front of octets: their types, instances and bodies; and the octets that are left."""
     found = []
-    while octets:
-        size = int.from_bytes(octets[1:3], "big")
-        found.append((octets[0], octets[3] & 15, octets[4 : 4 + size]))
-        octets = octets[4 + size :]
-    return found
+    while len(octets) >= (end := 4 + int.from_bytes(octets[1:3], "big")):
+        found.append((octets[0], octets[3] & 15, octets[4:end]))
+        octets = octets[end:]
+    return found, octets
 
 
-def first(found, kind, instance):
+def elements(octets: bytes) -> list[Element]:
+    """The elements of a list that is whole."""
+    return elements_and_rest(octets)[0]
+
+
+def first(found: list[Element], kind: int, instance: int) -> bytes | None:
     return next((body for k, i, body in found if (k, i) == (kind, instance)), None)
 
 
-def every(found, kind, instance):
+def every(found: list[Element], kind: int, instance: int) -> list[bytes]:
     return [body for k, i, body in found if (k, i) == (kind, instance)]
 
 
-def cause_of(value, offending=None):
+def cause_of(value: int, offending: int | None = None) -> bytes:
     """A Cause, and where an element is at fault its type (clause 8.4)."""
     return element(CAUSE, 0, bytes([value, 0]) + (b"" if offending is None else bytes([offending, 0, 0, 0])))
 
 
-def number_of(kind, number, size=1, instance=0):
+def number_of(kind: int, number: int, size: int = 1, instance: int = 0) -> bytes:
     return element(kind, instance, number.to_bytes(size, "big"))
 
 
-def end_of(instance, interface, teid, address):
+def end_of(instance: int, interface: int, teid: int, address: bytes) -> bytes:
     """An F-TEID of one address, of version 4 or 6 (clause 8.22)."""
     version = {4: 128, 16: 64}[len(address)]
     return element(FTEID, instance, bytes([version | interface]) + teid.to_bytes(4, "big") + address)
 
 
-def end_again(instance, body):
+def end_again(instance: int, body: bytes) -> bytes:
     """An F-TEID that is sent back: its flags, its TEID and the addresses that they announce (clause 8.22)."""
     return element(FTEID, instance, body[: 5 + (4 if body[0] & 128 else 0) + (16 if body[0] & 64 else 0)])
 
 
-def quality_again(body):
+def quality_again(body: bytes) -> bytes:
     """A Bearer QoS that is sent back, without spare bits (clause 8.15)."""
     return element(QOS, 0, bytes([body[0] & 0x7D]) + body[1:22])
 
 
-def teid_in(body):
+def teid_in(body: bytes) -> int:
     return int.from_bytes(body[1:5], "big")
 
 
-def name_of(apn):
+def name_of(apn: str) -> bytes:
     return b"".join(bytes([len(label)]) + label for label in apn.encode().split(b"."))
 
 
-def text_of(name):
+def text_of(name: bytes) -> str:
     labels = []
     while name:
         labels.append(name[1 : 1 + name[0]].decode())
@@ -111,13 +128,13 @@ def text_of(name):
     return ".".join(labels)
 
 
-def packed(digits):
+def packed(digits: str) -> bytes:
     """Digits two an octet, the first in the low half (clause 8.3)."""
     filled = digits + "f" * (len(digits) % 2)
     return bytes(int(filled[k + 1] + filled[k], 16) for k in range(0, len(filled), 2))
 
 
-def unpacked(octets):
+def unpacked(octets: bytes) -> str:
     return "".join(f"{octet & 15:x}{octet >> 4:x}" for octet in octets).rstrip("f")
 
 
@@ -131,27 +148,27 @@ PREFIX = 64  # the length that is stated with an address of version 6, in bits
 class Address:
     """A part of version 4, one of version 6, or both."""
 
-    v4: Optional[bytes] = None
-    v6: Optional[bytes] = None
+    v4: bytes | None = None
+    v6: bytes | None = None
 
     @property
-    def kind(self):
+    def kind(self) -> int:
         return IPV6 if self.v4 is None else IPV4 if self.v6 is None else BOTH
 
 
-def allocation(address, prefix):
+def allocation(address: Address, prefix: int) -> bytes:
     network = b"" if address.v6 is None else bytes([prefix]) + address.v6
     return element(PAA, 0, bytes([address.kind]) + network + (address.v4 or b""))
 
 
-def allocation_asked(pdn):
+def allocation_asked(pdn: int) -> bytes:
     """What a request says: no address yet, in the form of the PDN type, or else in that of version 4."""
     v4 = None if pdn == IPV6 else bytes(4)
     v6 = bytes(16) if pdn in (IPV6, BOTH) else None
     return allocation(Address(v4, v6), 0)
 
 
-def address_in(body):
+def address_in(body: bytes) -> Address | None:
     """The address of an allocation, whatever its prefix; none where it is of another kind."""
     kind = body[0] & 7
     if kind == IPV4:
@@ -163,7 +180,7 @@ def address_in(body):
     return None
 
 
-def lowest_free(pool, used):
+def lowest_free(pool: Iterable[bytes], used: set[bytes | None]) -> bytes | None:
     return next((address for address in pool if address not in used), None)
 
 
@@ -174,21 +191,21 @@ QUALITY = element(QOS, 0, bytes([0x20, 9]) + bytes(20))
 @dataclass
 class Message:
     kind: int
-    teid: Optional[int]
+    teid: int | None
     number: int
-    found: list
+    found: list[Element]
 
     @property
-    def cause(self):
+    def cause(self) -> int | None:
         body = first(self.found, CAUSE, 0)
         return body[0] if body else None
 
     @property
-    def contexts(self):
+    def contexts(self) -> list[list[Element]]:
         return [elements(body) for body in every(self.found, CONTEXT, 0)]
 
 
-def control(kind, teid, number, body):
+def control(kind: int, teid: int | None, number: int, body: bytes) -> bytes:
     """The octets of a message: the header has a TEID unless it is of an Echo (clause 5.1)."""
     rest = number.to_bytes(3, "big") + b"\0" + body
     if teid is not None:
@@ -196,7 +213,7 @@ def control(kind, teid, number, body):
     return bytes([64 if teid is None else 72, kind]) + len(rest).to_bytes(2, "big") + rest
 
 
-def read_control(octets):
+def read_control(octets: bytes) -> Message:
     """The message, or its fault where it was cut."""
     if len(octets) < 4:
         raise Refused("X1 H1")
@@ -214,17 +231,17 @@ def read_control(octets):
 ANNOUNCES = 16
 
 
-def announced(octets):
+def announced(octets: bytes) -> bytes:
     """A message, as it is in front of another."""
     return bytes([octets[0] | ANNOUNCES]) + octets[1:]
 
 
-def has_two(octets):
+def has_two(octets: bytes) -> bool:
     """Whether a datagram announces a second message. One that has no length yet is cut (H1) and announces none."""
     return len(octets) >= 4 and octets[0] & ANNOUNCES != 0
 
 
-def both_messages(octets):
+def both_messages(octets: bytes) -> tuple[bytes, bytes]:
     """The octets of each, or the fault where the datagram was cut before the second begins."""
     size = 4 + int.from_bytes(octets[2:4], "big")
     if len(octets) < size:
@@ -234,22 +251,22 @@ def both_messages(octets):
     return bytes([octets[0] - ANNOUNCES]) + octets[1:size], octets[size:]
 
 
-def last_message(octets):
+def last_message(octets: bytes) -> bytes:
     """The octets of the only message of a datagram that was sent, or of the second of two."""
     return both_messages(octets)[1] if has_two(octets) else octets
 
 
-def user(kind, teid, rest=b""):
+def user(kind: int, teid: int, rest: bytes = b"") -> bytes:
     return bytes([0x30, kind]) + len(rest).to_bytes(2, "big") + teid.to_bytes(4, "big") + rest
 
 
-def error_indication(teid, address):
+def error_indication(teid: int, address: bytes) -> bytes:
     """Clause 7.3.1 of TS 29.281: the TEID that is not known, and the address that it came to."""
     rest = bytes(4) + bytes([16]) + teid.to_bytes(4, "big") + bytes([133]) + len(address).to_bytes(2, "big") + address
     return bytes([0x32, ERROR_INDICATION]) + len(rest).to_bytes(2, "big") + bytes(4) + rest
 
 
-def read_user(octets):
+def read_user(octets: bytes) -> tuple[int, int, bytes]:
     """The type, the TEID and what follows, or the fault where it was cut. An Error Indication is about the TEID
     in its first element."""
     if len(octets) < 8:
@@ -270,8 +287,8 @@ class Session:
     apn: str
     identity: int
     state: str
-    remote: Optional[int] = None
-    address: Optional[Address] = None
+    remote: int | None = None
+    address: Address | None = None
 
 
 @dataclass
@@ -279,8 +296,8 @@ class Bearer:
     session: int
     default: bool
     state: str
-    identity: Optional[int] = None
-    remote: Optional[int] = None
+    identity: int | None = None
+    remote: int | None = None
     ended: bool = False
 
 
@@ -291,16 +308,16 @@ class Pending:
     number: int
     kind: int
     octets: bytes
-    header: Optional[int]
-    session: Optional[int] = None
-    bearer: Optional[int] = None
+    header: int | None
+    session: int | None = None
+    bearer: int | None = None
     ticks: int = 0
     again: int = 0
 
 
 @dataclass
 class Held:
-    request: bytes
+    request: Request
     answer: bytes
     ticks: int = 0
 
@@ -314,8 +331,8 @@ class Setup:
     control: bytes
     user: bytes
     counter: int
-    access_points: list = field(default_factory=list)
-    templates: dict = field(default_factory=dict)
+    access_points: list[str] = field(default_factory=list)
+    templates: dict[str, bytes] = field(default_factory=dict)
     pool: int = 0
     count: int = 0
     pool6: bytes = bytes(16)
@@ -324,16 +341,16 @@ class Setup:
     n3: int = 3
     hold: int = 60
 
-    def addresses(self):
+    def addresses(self) -> Iterator[bytes]:
         """The pool of version 4."""
         return ((self.pool + k).to_bytes(4, "big") for k in range(self.count))
 
-    def addresses6(self):
+    def addresses6(self) -> Iterator[bytes]:
         """The pool of version 6: the same last eight octets in networks in a row."""
         network, rest = int.from_bytes(self.pool6[:8], "big"), self.pool6[8:]
         return ((network + k).to_bytes(8, "big") + rest for k in range(self.count6))
 
-    def serves(self, pdn):
+    def serves(self, pdn: int) -> bool:
         return pdn in (IPV4, BOTH) or pdn == IPV6 and self.count6 > 0
 
 
@@ -342,43 +359,45 @@ class Told:
     """What an event comes to; where two messages came in one datagram, each of them."""
 
     outcome: str = ""
-    second: Optional[str] = None
-    restart: Optional[int] = None
-    sent: list = field(default_factory=list)
-    gave_up: list = field(default_factory=list)
-    forgot: list = field(default_factory=list)
-    accepted: Optional[tuple] = None
-    by: Optional[str] = None
+    second: str | None = None
+    restart: int | None = None
+    sent: list[tuple[str, bytes]] = field(default_factory=list)
+    gave_up: list[int] = field(default_factory=list)
+    forgot: list[Request] = field(default_factory=list)
+    accepted: tuple[int, bytes] | None = None
+    by: str | None = None
 
 
 class Gateway:
-    def __init__(self, setup, counter):
+    def __init__(self, setup: Setup, counter: int) -> None:
         self.setup, self.counter = setup, counter
         self.drawn = self.next_number = 0
-        self.known = None
-        self.sessions, self.bearers = {}, {}
-        self.pending, self.held = [], []
+        self.known: int | None = None
+        self.sessions: dict[int, Session] = {}
+        self.bearers: dict[int, Bearer] = {}
+        self.pending: list[Pending] = []
+        self.held: list[Held] = []
 
     # Tables.
 
-    def draw(self):
+    def draw(self) -> int:
         self.drawn += 1
         return self.counter << 24 | self.drawn
 
-    def has_draws(self, count):
+    def has_draws(self, count: int) -> bool:
         return self.drawn + count <= 0xFFFFFF
 
-    def bearers_of(self, session):
+    def bearers_of(self, session: int) -> dict[int, Bearer]:
         return {teid: b for teid, b in self.bearers.items() if b.session == session}
 
-    def with_identity(self, session, identity):
+    def with_identity(self, session: int, identity: int) -> int | None:
         return next((t for t, b in self.bearers_of(session).items() if b.identity == identity), None)
 
-    def free_identity(self, session):
+    def free_identity(self, session: int) -> int | None:
         used = {b.identity for b in self.bearers_of(session).values()}
         return next((k for k in range(5, 16) if k not in used), None)
 
-    def free_address(self, pdn):
+    def free_address(self, pdn: int) -> Address | None:
         """Each part that the PDN type asks for, if one is free; none where that leaves no part."""
         given = [s.address for s in self.sessions.values()]
         v4 = v6 = None
@@ -388,24 +407,24 @@ class Gateway:
             v6 = lowest_free(self.setup.addresses6(), {address.v6 for address in given})
         return None if v4 is None and v6 is None else Address(v4, v6)
 
-    def remove_session(self, session):
+    def remove_session(self, session: int) -> None:
         for bearer in self.bearers_of(session):
             self.remove_bearer(bearer)
         self.sessions.pop(session, None)
         self.pending = [p for p in self.pending if p.session != session]
 
-    def remove_bearer(self, bearer):
+    def remove_bearer(self, bearer: int) -> None:
         self.bearers.pop(bearer, None)
         self.pending = [p for p in self.pending if p.bearer != bearer]
 
-    def close(self, session):
+    def close(self, session: int) -> None:
         self.sessions[session].state = CLOSING
         for bearer in self.bearers_of(session).values():
             bearer.state = CLOSING
 
     # Commands. Each sends one datagram or is refused.
 
-    def ask(self, kind, header, body, session=None, bearer=None):
+    def ask(self, kind: int, header: int | None, body: bytes, session: int | None = None, bearer: int | None = None) -> Told:
         """Begins a request under the next free number."""
         while any(p.number == self.next_number for p in self.pending):
             self.next_number = (self.next_number + 1) % 8388608
@@ -415,20 +434,20 @@ class Gateway:
         self.pending.append(Pending(number, kind, octets, header, session, bearer))
         return Told(sent=[("control", octets)])
 
-    def room(self, draws=0):
+    def room(self, draws: int = 0) -> None:
         if draws and not self.has_draws(draws):
             raise Refused("G4 S4")
         if len(self.pending) >= MOST_PENDING:
             raise Refused("G4 B1")
 
-    def active_session(self, teid):
+    def active_session(self, teid: int) -> Session:
         if teid not in self.sessions:
             raise Refused("G1")
         if self.sessions[teid].state != ACTIVE:
             raise Refused("G2")
         return self.sessions[teid]
 
-    def create_session(self, imsi, apn, identity, pdn):
+    def create_session(self, imsi: str, apn: str, identity: int, pdn: int) -> Told:
         if len(self.sessions) >= MOST_SESSIONS:
             raise Refused("G4 S1")
         self.room(draws=2)
@@ -443,7 +462,7 @@ class Gateway:
         told = self.ask(CREATE_SESSION, 0, body, session, bearer)
         return replace(told, outcome=f"begun {session:08x}")
 
-    def end_session(self, teid, kind):
+    def end_session(self, teid: int, kind: int) -> Told:
         """Deletes a session at the serving gateway, or releases it at the packet gateway."""
         session = self.active_session(teid)
         self.room()
@@ -451,12 +470,12 @@ class Gateway:
         told = self.ask(kind, session.remote, number_of(EBI, session.identity), teid)
         return replace(told, outcome=f"begun {teid:08x}")
 
-    def create_bearer(self, teid, tft):
+    def create_bearer(self, teid: int, tft: bytes) -> Told:
         self.active_session(teid)
         self.room(draws=1)
         return self.begin_bearer(teid, tft)
 
-    def begin_bearer(self, teid, tft):
+    def begin_bearer(self, teid: int, tft: bytes) -> Told:
         session, bearer = self.sessions[teid], self.draw()
         self.bearers[bearer] = Bearer(teid, False, PENDING)
         context = number_of(EBI, 0) + element(TFT, 0, tft) + end_of(1, S5S8_PGW_GTP_U, bearer, self.setup.user)
@@ -465,7 +484,7 @@ class Gateway:
         told = self.ask(CREATE_BEARER, session.remote, body, teid, bearer)
         return replace(told, outcome=f"begun {bearer:08x}")
 
-    def delete_bearer(self, teid, identity):
+    def delete_bearer(self, teid: int, identity: int) -> Told:
         bearer = self.with_identity(teid, identity)
         if teid not in self.sessions or bearer is None or self.bearers[bearer].default:
             raise Refused("G1")
@@ -476,7 +495,7 @@ class Gateway:
         told = self.ask(DELETE_BEARER, self.sessions[teid].remote, number_of(EBI, identity, instance=1), teid, bearer)
         return replace(told, outcome=f"begun {bearer:08x}")
 
-    def sending(self, teid):
+    def sending(self, teid: int) -> Bearer:
         if teid not in self.bearers:
             raise Refused("G1")
         if self.bearers[teid].state != ACTIVE:
@@ -485,25 +504,25 @@ class Gateway:
             raise Refused("G5")
         return self.bearers[teid]
 
-    def end_marker(self, teid):
+    def end_marker(self, teid: int) -> Told:
         bearer = self.sending(teid)
         bearer.ended = True
         return Told("sent", sent=[("user", user(END_MARKER, bearer.remote))])
 
-    def send(self, teid, payload):
+    def send(self, teid: int, payload: bytes) -> Told:
         bearer = self.sending(teid)
         if len(payload) > MOST_PAYLOAD:
             raise Refused("G7")
         return Told("sent", sent=[("user", user(G_PDU, bearer.remote, payload))])
 
-    def echo(self):
+    def echo(self) -> Told:
         self.room()
         told = self.ask(ECHO_REQUEST, None, number_of(RECOVERY, self.counter))
         return replace(told, outcome="begun")
 
     # Datagrams of the control plane.
 
-    def receive_control(self, octets):
+    def receive_control(self, octets: bytes) -> Told:
         """What a datagram comes to. Two messages are taken one after the other, each as if it came alone: the second
         also where the first is dropped."""
         if not has_two(octets):
@@ -515,14 +534,21 @@ class Gateway:
                 raise Refused("X9")
         except Refused as dropped:
             return Told(str(dropped))
+        return self.receive_both(front, back)
+
+    def receive_both(self, front: Request, back: Request) -> Told:
         told, after = self.receive_message(front), self.receive_message(back)
         return replace(told, second=after.outcome, sent=told.sent + after.sent)
 
-    def receive_message(self, octets):
+    def repeated(self, request: Request) -> Told | None:
+        """The answer again, if one is held for the request."""
+        answer = next((held.answer for held in self.held if held.request == request), None)
+        return None if answer is None else Told("repeated", sent=[("control", answer)])
+
+    def receive_message(self, octets: bytes) -> Told:
         """What a message comes to. A later counter is told even where the message is then dropped."""
-        for held in self.held:
-            if held.request == octets:
-                return Told("repeated", sent=[("control", held.answer)])
+        if again := self.repeated(octets):
+            return again
         told = Told()
         try:
             message = read_control(octets)
@@ -532,7 +558,7 @@ class Gateway:
             told.outcome = str(dropped)
         return told
 
-    def hear(self, message, told):
+    def hear(self, message: Message, told: Told) -> None:
         """The restart counter of the peer (clause 7.1)."""
         body = first(message.found, RECOVERY, 0)
         if body is None:
@@ -548,7 +574,7 @@ class Gateway:
         if heard != "same":
             self.known = counter
 
-    def take(self, message, octets, told):
+    def take(self, message: Message, octets: Request, told: Told) -> None:
         if message.kind == ECHO_REQUEST:
             answer = control(ECHO_RESPONSE, None, message.number, number_of(RECOVERY, self.counter))
             told.sent, told.outcome = [("control", answer)], "echoed"
@@ -560,7 +586,7 @@ class Gateway:
     # Requests (clauses 7.2.1 to 7.2.10). An answer is held under the request's octets, with the request that goes along
     # in its datagram, if one does.
 
-    def answer(self, message, octets, told):
+    def answer(self, message: Message, octets: Request, told: Told) -> None:
         if len(self.held) >= MOST_HELD:
             raise Refused("X8")
         rules = {
@@ -578,7 +604,7 @@ class Gateway:
         self.held.append(Held(octets, answer))
         told.sent, told.outcome = [("control", answer)], f"answered {cause}"
 
-    def session_asked(self, message):
+    def session_asked(self, message: Message) -> Answer:
         found = message.found
         header = teid_in(first(found, FTEID, 0))
         apn = text_of(first(found, APN, 0))
@@ -610,7 +636,7 @@ class Gateway:
         cause = REQUEST_ACCEPTED if address.kind == pdn else NEW_PDN_TYPE_DUE_TO_NETWORK_PREFERENCE
         return header, cause, rows, *self.request_of_template(session)
 
-    def request_of_template(self, session):
+    def request_of_template(self, session: int) -> list[bytes]:
         """The Create Bearer Request that goes along with the answer about a new session, if there is a template and
         room. Sent again it is alone, like every request."""
         tft = self.setup.templates.get(self.sessions[session].apn)
@@ -618,7 +644,7 @@ class Gateway:
             return []
         return [octets for _, octets in self.begin_bearer(session, tft).sent]
 
-    def session_deleted(self, message):
+    def session_deleted(self, message: Message) -> Answer:
         session = self.sessions.get(message.teid)
         if session is None:
             return 0, CONTEXT_NOT_FOUND, b""
@@ -628,7 +654,7 @@ class Gateway:
         self.remove_session(message.teid)
         return session.remote, REQUEST_ACCEPTED, b""
 
-    def bearer_asked(self, message):
+    def bearer_asked(self, message: Message) -> Answer:
         session = self.sessions.get(message.teid)
         if session is None:
             return 0, CONTEXT_NOT_FOUND, b""
@@ -649,7 +675,7 @@ class Gateway:
         made += end_again(3, asked)
         return session.remote, REQUEST_ACCEPTED, element(CONTEXT, 0, made)
 
-    def bearers_deleted(self, message):
+    def bearers_deleted(self, message: Message) -> Answer:
         session = self.sessions.get(message.teid)
         if session is None:
             return 0, CONTEXT_NOT_FOUND, b""
@@ -680,7 +706,7 @@ class Gateway:
 
     # Responses.
 
-    def take_response(self, message):
+    def take_response(self, message: Message) -> str:
         pending = next((p for p in self.pending if p.number == message.number), None)
         if pending is None:
             raise Refused("X3")
@@ -699,7 +725,7 @@ class Gateway:
         self.pending = [p for p in self.pending if p.number != pending.number]
         return outcome
 
-    def session_answered(self, message, pending):
+    def session_answered(self, message: Message, pending: Pending) -> str:
         session = self.sessions[pending.session]
         if not accepts(message.cause):
             self.remove_session(pending.session)
@@ -717,7 +743,7 @@ class Gateway:
         bearer.remote, bearer.state = teid_in(first(contexts[0], FTEID, 2)), ACTIVE
         return "opened"
 
-    def bearer_answered(self, message, pending):
+    def bearer_answered(self, message: Message, pending: Pending) -> str:
         if not accepts(message.cause):
             self.remove_bearer(pending.bearer)
             return f"rejected {message.cause}"
@@ -739,11 +765,11 @@ class Gateway:
         bearer.identity, bearer.remote, bearer.state = identity, teid_in(first(context, FTEID, 2)), ACTIVE
         return "opened"
 
-    def ended(self, message, pending):
+    def ended(self, message: Message, pending: Pending) -> str:
         self.end(pending)
         return "closed"
 
-    def end(self, pending):
+    def end(self, pending: Pending) -> None:
         """Removes what a request was about: it was refused, given up, or answered by a deletion."""
         if pending.kind in (CREATE_BEARER, DELETE_BEARER) and pending.bearer is not None:
             self.remove_bearer(pending.bearer)
@@ -752,26 +778,29 @@ class Gateway:
 
     # The user plane.
 
-    def receive_user(self, octets):
+    def receive_user(self, octets: bytes) -> Told:
         told = Told()
         try:
-            kind, teid, payload = read_user(octets)
-            bearer = self.bearers.get(teid)
-            if kind == G_PDU:
-                self.take_packet(teid, bearer, payload, told)
-            elif kind == END_MARKER and self.setup.role == SERVING and bearer is not None:
-                if bearer.state != ACTIVE:
-                    raise Refused("X5")
-                bearer.ended, told.outcome = True, "ended"
-            elif kind == ERROR_INDICATION:
-                self.take_error(teid, told)
-            else:
-                raise Refused("X9")
+            self.take_user(*read_user(octets), told)
         except Refused as dropped:
             told.outcome = str(dropped)
         return told
 
-    def take_packet(self, teid, bearer, payload, told):
+    def take_user(self, kind: int, teid: int, payload: bytes, told: Told) -> None:
+        """Takes a datagram of the user plane; the TEID of an Error Indication is the one that it is about."""
+        bearer = self.bearers.get(teid)
+        if kind == G_PDU:
+            self.take_packet(teid, bearer, payload, told)
+        elif kind == END_MARKER and self.setup.role == SERVING and bearer is not None:
+            if bearer.state != ACTIVE:
+                raise Refused("X5")
+            bearer.ended, told.outcome = True, "ended"
+        elif kind == ERROR_INDICATION:
+            self.take_error(teid, told)
+        else:
+            raise Refused("X9")
+
+    def take_packet(self, teid: int, bearer: Bearer | None, payload: bytes, told: Told) -> None:
         if bearer is None:
             told.sent = [("user", error_indication(teid, self.setup.user))]
             raise Refused("X6")
@@ -781,7 +810,7 @@ class Gateway:
             raise Refused("X7")
         told.outcome, told.accepted = "accepted", (teid, payload)
 
-    def take_error(self, teid, told):
+    def take_error(self, teid: int, told: Told) -> None:
         named = {t: b for t, b in self.bearers.items() if b.remote == teid}
         if not named:
             raise Refused("X9")
@@ -794,7 +823,7 @@ class Gateway:
 
     # Ticks (clause 7.6).
 
-    def tick(self):
+    def tick(self) -> Told:
         told = Told("ticked")
         due = []
         for pending in self.pending:

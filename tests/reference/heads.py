@@ -3,18 +3,24 @@ and instances of their elements, the words of what these say, octets that are le
 context in which that lies. Of any octets, from anywhere: written after the standard and docs/FORMATS.md and not after the
 program."""
 
+from __future__ import annotations
+
 import re
+from collections.abc import Iterator
+from typing import Optional
 
-from diagram import NAMES
-from decoding import ROWS, Fault, read_datagram, read_message, read_user_datagram
-from words import words_of
+from decoding import ROWS, Fault, element_list, read_datagram, read_message, read_user_datagram
+from gateways import CONTEXT, FTEID, IMSI, Json, elements_and_rest, packed
+from words import MESSAGES, words_of
 
-BEARER_CONTEXT = 93
-CONTROL = {**NAMES["control"], 3: "version-not-supported"}
-USER = {**NAMES["user"], 31: "supported-extensions"}
+CONTROL, USER = MESSAGES["control"], MESSAGES["user"]
 
 
-def first_fault(plane, octets):
+# The type, TEID, sequence number, priority and size of a header.
+Head = tuple[int, Optional[str], int, Optional[int], int]
+
+
+def first_fault(plane: str, octets: bytes) -> Fault | None:
     """The first fault, or None."""
     try:
         (read_user_datagram if plane == "user" else read_datagram)(octets)
@@ -23,19 +29,19 @@ def first_fault(plane, octets):
     return None
 
 
-def fault_of(plane, octets):
+def fault_of(plane: str, octets: bytes) -> str | None:
     """Its code, or None."""
     fault = first_fault(plane, octets)
     return fault.code if fault else None
 
 
-def context_of(plane, octets):
+def context_of(plane: str, octets: bytes) -> int | None:
     """The number of the bearer context in which an element at fault lies or is missing, or None."""
     fault = first_fault(plane, octets)
     return fault.context if fault and plane == "control" else None
 
 
-def message_at_fault(octets):
+def message_at_fault(octets: bytes) -> int:
     """Where the message at fault begins: the second one, if the first announces it and is right."""
     if len(octets) < 4 or octets[0] >> 5 != 2 or octets[0] & 16 == 0:
         return 0
@@ -47,16 +53,16 @@ def message_at_fault(octets):
     return size
 
 
-def context_at(octets, begin, number):
+def context_at(octets: bytes, begin: int, number: int) -> int:
     """Where the bearer context of this number begins, counted from 1, in the message that begins there."""
     at = begin + (12 if octets[begin] & 8 else 8)
-    while octets[at] != BEARER_CONTEXT or number > 1:
-        number -= octets[at] == BEARER_CONTEXT
+    while octets[at] != CONTEXT or number > 1:
+        number -= octets[at] == CONTEXT
         at += 4 + int.from_bytes(octets[at + 1 : at + 3], "big")
     return at
 
 
-def needed_extension_at(octets):
+def needed_extension_at(octets: bytes) -> int:
     """Where the first extension header begins that has to be understood: the highest bit of its type is set (TS 29.281 5.2.1)."""
     kind, at = octets[11], 12
     while kind < 128:
@@ -65,7 +71,7 @@ def needed_extension_at(octets):
     return at
 
 
-def fault_place(plane, octets):
+def fault_place(plane: str, octets: bytes) -> int | None:
     """Where the fault of a datagram lies, or None: it has none, or what follows its code has a place."""
     fault = first_fault(plane, octets)
     if fault is None or fault.code in ("H5", "H7", "U5", "U6", "U9"):
@@ -76,7 +82,7 @@ def fault_place(plane, octets):
     return context_at(octets, begin, fault.context) if fault.context else begin
 
 
-def control_head(octets):
+def control_head(octets: bytes) -> Head | None:
     """The type, TEID, sequence number, priority and size of the header at the front of octets, if there is one (TS 29.274 5.1)."""
     if len(octets) < 8 or octets[0] >> 5 != 2:
         return None
@@ -87,7 +93,7 @@ def control_head(octets):
     return octets[1], octets[4:8].hex(), int.from_bytes(octets[8:11], "big"), octets[11] >> 4 if octets[0] & 4 else None, 12
 
 
-def messages_of(octets):
+def messages_of(octets: bytes) -> tuple[bytes, bytes]:
     """The octets of the first message of a datagram, and those of a second one that it announces, if it is held whole."""
     size = 4 + int.from_bytes(octets[2:4], "big")
     if len(octets) >= 4 and octets[0] & 16 and len(octets) >= size and control_head(octets[:size]):
@@ -95,30 +101,27 @@ def messages_of(octets):
     return octets, b""
 
 
-def whole_elements(octets):
+def whole_elements(octets: bytes) -> tuple[list[tuple[int, int]], bytes]:
     """Type and instance of each element at the front of octets, and the octets that are left."""
-    found = []
-    while len(octets) >= 4 and len(octets) >= 4 + int.from_bytes(octets[1:3], "big"):
-        found.append((octets[0], octets[3] & 15))
-        octets = octets[4 + int.from_bytes(octets[1:3], "big"):]
-    return found, octets
+    found, rest = elements_and_rest(octets)
+    return [(kind, instance) for kind, instance, _ in found], rest
 
 
-def named(names, kind):
+def named(names: dict[int, str], kind: int) -> str:
     return names.get(kind, f"type {kind}")
 
 
-def brief_message(octets):
+def brief_message(octets: bytes) -> str:
     kind, teid, seq, _, _ = control_head(octets)
     return named(CONTROL, kind) + (f" teid {teid}" if teid else "") + f" seq {seq}"
 
 
-def user_number(octets):
+def user_number(octets: bytes) -> int | None:
     """The sequence number, if the flag S is set and it is there (TS 29.281 5.1)."""
     return int.from_bytes(octets[8:10], "big") if octets[0] & 2 and len(octets) >= 12 else None
 
 
-def brief_end(plane, octets):
+def brief_end(plane: str, octets: bytes) -> str:
     """The end of the line of --brief of a datagram without a fault."""
     if plane == "control":
         return " then ".join(brief_message(it) for it in messages_of(octets) if it)
@@ -127,7 +130,7 @@ def brief_end(plane, octets):
     return named(USER, kind) + teid + (f" seq {number}" if number is not None else "")
 
 
-def outline_of_message(octets):
+def outline_of_message(octets: bytes) -> list[str]:
     head = control_head(octets)
     if head is None:
         return [f"rest {octets.hex()}"] if octets else []
@@ -138,7 +141,7 @@ def outline_of_message(octets):
     return [line] + [f"ie {kind} {instance}" for kind, instance in found] + ([f"rest {rest.hex()}"] if rest else [])
 
 
-def outline(plane, octets):
+def outline(plane: str, octets: bytes) -> list[str] | None:
     """The lines of --all without the values of elements, and of a fault its code. None for a user datagram without a fault."""
     code, context = fault_of(plane, octets), context_of(plane, octets)
     end = ([f"fault {code}"] if code else []) + ([f"in bearer-context {context}"] if context else [])
@@ -156,13 +159,13 @@ def outline(plane, octets):
     return [line + (f" seq {number}" if number is not None else "")] + ([f"rest {rest.hex()}"] if rest else []) + end
 
 
-def outline_of_lines(lines):
+def outline_of_lines(lines: list[str]) -> list[str]:
     """Lines of --all, without what an outline leaves out."""
     kept = {"ie": 3, "fault": 2}
     return [" ".join(line.split()[:kept.get(line.split()[0])]) for line in lines if not line.startswith("  ")]
 
 
-def members_of_message(octets):
+def members_of_message(octets: bytes) -> Json:
     kind, teid, seq, priority, size = control_head(octets)
     members = {"type": kind, "name": CONTROL.get(kind), "teid": teid, "seq": seq, "priority": priority}
     if kind in ROWS:
@@ -172,7 +175,7 @@ def members_of_message(octets):
     return members
 
 
-def members(plane, octets):
+def members(plane: str, octets: bytes) -> Json:
     """The members of the JSON of a datagram, of elements their type and instance, of a fault its code and its bearer context."""
     code = fault_of(plane, octets)
     if code:
@@ -189,7 +192,7 @@ def members(plane, octets):
     return {"plane": plane, **{key: it for key, it in found.items() if it is not None}}
 
 
-def shown_of_message(octets):
+def shown_of_message(octets: bytes) -> Json:
     """The members of a message of --all: those of its header, its whole elements, and the octets that are left."""
     head = control_head(octets)
     if head is None:
@@ -201,13 +204,13 @@ def shown_of_message(octets):
     return {key: it for key, it in shown.items() if it is not None}
 
 
-def is_pair(octets):
+def is_pair(octets: bytes) -> bool:
     """Whether a second message is announced, and the first one is held whole and has a header."""
     size = 4 + int.from_bytes(octets[2:4], "big")
     return len(octets) >= max(4, size) and octets[0] & 16 != 0 and control_head(octets[:size]) is not None
 
 
-def shown_of_user(octets):
+def shown_of_user(octets: bytes) -> Json:
     if len(octets) < 8 or octets[0] >> 4 != 3:
         return {}
     number = user_number(octets)
@@ -216,7 +219,7 @@ def shown_of_user(octets):
     return {key: it for key, it in shown.items() if it is not None}
 
 
-def all_members(plane, octets):
+def all_members(plane: str, octets: bytes) -> Json:
     """The members of the JSON of --all, of elements their type and instance, of a fault its code and its bearer context."""
     code = fault_of(plane, octets)
     if plane == "user" and not code:
@@ -231,7 +234,7 @@ def all_members(plane, octets):
     return {"plane": plane, **shown} | ({"fault": (code, context_of(plane, octets))} if code else {})
 
 
-def members_of_json(it):
+def members_of_json(it: Json) -> Json:
     """The members of an object of JSON that `members` has too."""
     kept = {key: it[key] for key in ("plane", "type", "name", "teid", "seq", "priority") if key in it}
     if "fault" in it:
@@ -247,48 +250,36 @@ def members_of_json(it):
     return kept
 
 
-def elements_behind(octets):
+def elements_behind(octets: bytes) -> list[tuple[int, bytes]]:
     """Type and body of each element in octets; none where one is not whole."""
-    found = []
-    while octets:
-        if len(octets) < 4 or len(octets) < 4 + int.from_bytes(octets[1:3], "big"):
-            return []
-        end = 4 + int.from_bytes(octets[1:3], "big")
-        found.append((octets[0], octets[4:end]))
-        octets = octets[end:]
-    return found
+    return [(kind, body) for kind, _, body in element_list(octets) or []]
 
 
-def is_tunnel_end(body):
+def is_tunnel_end(body: bytes) -> bool:
     """Whether a body is an F-TEID with an address and all of its octets (clause 8.22)."""
-    return len(body) >= 5 and body[0] & 0xC0 and len(body) >= 5 + 4 * (body[0] >> 7) + 16 * (body[0] >> 6 & 1)
+    return len(body) >= 5 and body[0] & 0xC0 != 0 and len(body) >= 5 + 4 * (body[0] >> 7) + 16 * (body[0] >> 6 & 1)
 
 
-def teids_among(elements):
+def teids_among(elements: list[tuple[int, bytes]]) -> Iterator[str]:
     """The TEIDs of elements, with those inside bearer contexts."""
     for kind, body in elements:
-        if kind == 87 and is_tunnel_end(body):
+        if kind == FTEID and is_tunnel_end(body):
             yield body[1:5].hex()
-        if kind == 93:
-            yield from (inner[1:5].hex() for inner_kind, inner in elements_behind(body) if inner_kind == 87 and is_tunnel_end(inner))
+        if kind == CONTEXT:
+            yield from (inner[1:5].hex() for inner_kind, inner in elements_behind(body) if inner_kind == FTEID and is_tunnel_end(inner))
 
 
-def imsi_body(digits):
-    filled = digits + "f" * (len(digits) % 2)
-    return bytes(int(high + low, 16) for low, high in zip(filled[::2], filled[1::2]))
-
-
-def message_has(octets, kind, imsi, teid):
+def message_has(octets: bytes, kind: int | None, imsi: str | None, teid: str | None) -> bool:
     """Whether a message of the control plane has this type, tells this subscriber and has this TEID, of those that are asked for."""
     head = control_head(octets)
     if head is None:
         return False
     elements = elements_behind(octets[head[4]:])
-    return (kind in (None, head[0]) and (imsi is None or (1, imsi_body(imsi)) in elements)
+    return (kind in (None, head[0]) and (imsi is None or (IMSI, packed(imsi)) in elements)
             and (teid is None or teid == head[1] or teid in teids_among(elements)))
 
 
-def is_chosen(plane, octets, kind=None, imsi=None, teid=None):
+def is_chosen(plane: str, octets: bytes, kind: int | None = None, imsi: str | None = None, teid: str | None = None) -> bool:
     """Whether one message of a datagram has all that is asked for."""
     if kind is None and imsi is None and teid is None:
         return True
@@ -299,7 +290,7 @@ def is_chosen(plane, octets, kind=None, imsi=None, teid=None):
     return bool(has_head and kind in (None, octets[1]) and imsi is None and teid in (None, octets[4:8].hex()))
 
 
-def words_in_all(plane, octets):
+def words_in_all(plane: str, octets: bytes) -> list[str]:
     """The words of --all: those of the elements of each message, in order."""
     if plane == "user" or control_head(octets) is None:
         return []
@@ -307,20 +298,20 @@ def words_in_all(plane, octets):
     return [word for it in messages if control_head(it) for word in words_of(it[control_head(it)[4]:])]
 
 
-def words_in_plain(plane, octets):
+def words_in_plain(plane: str, octets: bytes) -> list[str]:
     """The words of JSON without --all, which has no elements of a datagram with a fault, nor of a type without a table."""
     if plane == "user" or fault_of(plane, octets):
         return []
     return [word for it in messages_of(octets) if it and it[1] in ROWS for word in words_of(it[control_head(it)[4]:])]
 
 
-def words_of_lines(lines):
+def words_of_lines(lines: list[str]) -> list[str]:
     """The words that end lines of --all."""
     ends = [re.search(r" \((.*)\)$", line) for line in lines if line.lstrip().startswith("ie ")]
     return [end.group(1) for end in ends if end]
 
 
-def words_of_json(it):
+def words_of_json(it: object) -> list[str]:
     """The words in an object of JSON, in order."""
     if isinstance(it, list):
         return [word for each in it for word in words_of_json(each)]

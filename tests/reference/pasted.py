@@ -1,7 +1,11 @@
 """What `decode -` reads on standard input: a datagram a line, the rows of a dump, and with --join lines up to one without digits.
 Written after docs/FORMATS.md (Dumps) and not after the program."""
 
+from __future__ import annotations
+
 import re
+from collections.abc import Iterator
+from typing import Union
 
 MOST = 1048576
 BLANKS = b" \t\n\f\r"
@@ -10,7 +14,12 @@ COLUMN_END = re.compile(rb"[ \t\n\f\r]{3}|\|")
 HEX = b"0123456789abcdefABCDEF"
 
 
-def digits_of(text):
+# A character with its place; and what lines give: ('datagram', plane, octets), or ('bad', number of the line, reason).
+Digit = tuple[int, int]
+Reading = Union[tuple[str, str, bytes], tuple[str, int, str]]
+
+
+def digits_of(text: bytes) -> list[Digit]:
     """The characters of a text that are not passed over, each with its place."""
     found = []
     place = 0
@@ -26,7 +35,7 @@ def digits_of(text):
     return found
 
 
-def row_of(line):
+def row_of(line: bytes) -> tuple[int, int, list[Digit]] | None:
     """The offset of a row, the place from which on it has its octets, and its digits; or None."""
     begin = OFFSET.match(line)
     if not begin:
@@ -36,7 +45,7 @@ def row_of(line):
     return int(begin[1], 16), begin.end(), digits_of(column)[:32]
 
 
-def reason_of(text, before):
+def reason_of(text: bytes, before: int) -> str:
     """Why a text with bad digits is bad, with so many octets of the line before it."""
     for place, octet in digits_of(text):
         if octet not in HEX:
@@ -45,19 +54,19 @@ def reason_of(text, before):
     return "an odd number of digits"
 
 
-def plane_of(octets, asked):
+def plane_of(octets: bytes, asked: str | None) -> str:
     return asked or ("user" if octets and octets[0] >> 5 == 1 else "control")
 
 
-def word_of(line):
+def word_of(line: bytes) -> tuple[str | None, int]:
     for word in (b"control", b"user"):
         if line.startswith(word):
             return word.decode(), len(word)
     return None, 0
 
 
-def one_line(number, line, asked):
-    """What one line gives: ('datagram', plane, octets), ('bad', number, reason) or None."""
+def one_line(number: int, line: bytes, asked: str | None) -> Reading | None:
+    """What one line gives, if anything."""
     if len(line) > MOST:
         return "bad", number, f"more than {MOST} octets"
     word, size = word_of(line)
@@ -70,7 +79,7 @@ def one_line(number, line, asked):
     return "datagram", word or plane_of(octets, asked), octets
 
 
-def several(number, parts, asked, rows):
+def several(number: int, parts: list[tuple[bytes, int, list[Digit]]], asked: str | None, rows: bool) -> Reading:
     """What lines give that are read together, of each line its text, its digits and where these begin."""
     size = 0
     for at, (line, begin, digits) in enumerate(parts):
@@ -86,7 +95,7 @@ def several(number, parts, asked, rows):
     return "datagram", plane_of(octets, asked), octets
 
 
-def readings(text, join=False, asked=None):
+def readings(text: bytes, join: bool = False, asked: str | None = None) -> Iterator[Reading]:
     """What the lines of a text give, in order."""
     lines = [line for line in re.split(rb"(?<=\n)", text) if line]
     at = 0

@@ -1,47 +1,38 @@
 """One gateway behind lines: a JSON object a line goes in, and one comes out. Datagrams may be any octets from anywhere."""
 
+from __future__ import annotations
+
 import json
 from dataclasses import replace
-from ipaddress import ip_address
 
 from decoding import ROWS, Fault, defect_of, read_datagram, read_message, read_user_datagram
-from gateways import (CREATE_BEARER, CREATE_SESSION, DELETE_BEARER, DELETE_SESSION, ECHO_REQUEST, ECHO_RESPONSE, END_MARKER,
-                      ERROR_INDICATION, FTEID, G_PDU, PACKET, PENDING, RECOVERY, SERVING, Gateway, Refused, Setup, Told, control,
-                      element, first, has_two, number_of, teid_in)
+from gateways import (CREATE_BEARER, CREATE_SESSION, DELETE_BEARER, DELETE_SESSION, ECHO_REQUEST, ECHO_RESPONSE, ERROR_INDICATION, FTEID,
+                      PACKET, PENDING, RECOVERY, SERVING, Gateway, Json, Message, Refused, Setup, Source, Told, control, element, first,
+                      has_two, number_of, teid_in)
 from run_json import bearer_object, if_known, outcome_members, session_object
+from setups import COMMANDS, octets_of, other, setup_of, text_of
 
 PORTS = {"control": 2123, "user": 2152}
 TAKEN = {SERVING: (ECHO_REQUEST, ECHO_RESPONSE, CREATE_SESSION + 1, DELETE_SESSION + 1, CREATE_BEARER, DELETE_BEARER),
          PACKET: (ECHO_REQUEST, ECHO_RESPONSE, CREATE_SESSION, DELETE_SESSION, CREATE_BEARER + 1, DELETE_BEARER + 1)}
-COMMANDS = {SERVING: ("create_session", "delete_session"),
-            PACKET: ("create_bearer", "delete_bearer", "release_session", "end_marker")}
 NOTIFICATION = bytes.fromhex("321f000700000000000000008d0140")
-
-
-def octets_of(text):
-    """An address: dotted decimal, or 32 hexadecimal digits."""
-    return bytes.fromhex(text) if len(text) == 32 else ip_address(text).packed
-
-
-def text_of(octets):
-    return str(ip_address(octets)) if len(octets) == 4 else octets.hex()
 
 
 class Station(Gateway):
     """A gateway that knows its peer, and takes whatever comes."""
 
-    def __init__(self, setup, counter, peer):
+    def __init__(self, setup: Setup, counter: int, peer: dict[str, bytes]) -> None:
         super().__init__(setup, counter)
         self.peer = peer
 
     # Datagrams of the control plane, each with where it comes from.
 
-    def receive(self, plane, source, octets):
+    def receive(self, plane: str, source: Source, octets: bytes) -> Told:
         if source[0] != self.peer[plane]:
             return Told("X11")
         return self.receive_control((source, octets)) if plane == "control" else self.receive_user(octets)
 
-    def receive_control(self, request):
+    def receive_control(self, request: tuple[Source, bytes]) -> Told:
         source, octets = request
         if not has_two(octets) or octets[0] >> 5 != 2:
             return self.receive_message(request)
@@ -52,14 +43,11 @@ class Station(Gateway):
         if self.setup.role == PACKET or (front.kind, back.kind) != (CREATE_SESSION + 1, CREATE_BEARER):
             return Told("X9")
         size = 4 + int.from_bytes(octets[2:4], "big")
-        told = self.receive_message((source, bytes([octets[0] & ~16]) + octets[1:size]))
-        after = self.receive_message((source, octets[size:]))
-        return replace(told, second=after.outcome, sent=told.sent + after.sent)
+        return self.receive_both((source, bytes([octets[0] & ~16]) + octets[1:size]), (source, octets[size:]))
 
-    def receive_message(self, request):
-        for held in self.held:
-            if held.request == request:
-                return Told("repeated", sent=[("control", held.answer)])
+    def receive_message(self, request: tuple[Source, bytes]) -> Told:
+        if again := self.repeated(request):
+            return again
         told = Told()
         try:
             message = read_message(request[1])
@@ -73,12 +61,12 @@ class Station(Gateway):
             told.outcome = str(dropped)
         return told
 
-    def hear(self, message, told):
+    def hear(self, message: Message, told: Told) -> None:
         """A restart counter counts only where the message has one."""
         if any(row[:2] == (RECOVERY, 0) for row in ROWS[message.kind]):
             super().hear(message, told)
 
-    def at_fault(self, fault):
+    def at_fault(self, fault: Fault) -> Told:
         """A request with an element at fault is refused (clause 7.7); every other fault is dropped."""
         message = fault.message
         if fault.cause is None or message.kind not in TAKEN[self.setup.role] or message.kind not in (
@@ -95,24 +83,16 @@ class Station(Gateway):
 
     # The user plane.
 
-    def receive_user(self, octets):
+    def receive_user(self, octets: bytes) -> Told:
         told = Told()
         try:
             message = read_user_datagram(octets)
-            bearer = self.bearers.get(message.teid)
-            if message.kind == G_PDU:
-                self.take_packet(message.teid, bearer, message.body, told)
-            elif message.kind == END_MARKER and self.setup.role == SERVING and bearer is not None:
-                if bearer.state != "active":
-                    raise Refused("X5")
-                bearer.ended, told.outcome = True, "ended"
-            elif message.kind == ERROR_INDICATION:
-                self.take_error(int.from_bytes(message.found[16], "big"), told)
-            elif message.kind == ECHO_REQUEST:
+            if message.kind == ECHO_REQUEST:
                 answer = bytes.fromhex("3202000600000000") + message.number.to_bytes(2, "big") + bytes.fromhex("00000e00")
-                told.sent, told.outcome = [("user", answer)], "echoed"
-            else:
-                raise Refused("X9")
+                return Told("echoed", sent=[("user", answer)])
+            is_error = message.kind == ERROR_INDICATION
+            teid = int.from_bytes(message.found[16], "big") if is_error else message.teid
+            self.take_user(message.kind, teid, message.body, told)
         except Fault as fault:
             if fault.code != "U7":
                 return Told(f"X1 {fault.code}")
@@ -123,9 +103,9 @@ class Station(Gateway):
 
     # Commands.
 
-    def do(self, request):
+    def do(self, request: Json) -> Told:
         word = request["do"]
-        if word in COMMANDS[PACKET if self.setup.role == SERVING else SERVING]:
+        if word in COMMANDS[other(self.setup.role)]:
             raise Refused("G3")
         if word == "tick":
             told = self.tick()
@@ -145,7 +125,7 @@ class Station(Gateway):
             return self.end_marker(teid)
         return self.end_session(teid, DELETE_SESSION if word == "delete_session" else DELETE_BEARER)
 
-    def handle(self, request):
+    def handle(self, request: Json) -> Json:
         """What a request comes to, and where what is sent goes: an answer to where the request came from."""
         own = {"control": self.setup.control, "user": self.setup.user}
         source = None
@@ -169,33 +149,26 @@ class Station(Gateway):
                 | if_known("accepted", accepted)
                 | {"gave_up": list(told.gave_up), "forgot": [request.hex() for request in told.forgot]})
 
-    def contexts(self):
+    def contexts(self) -> Json:
         role = self.setup.role
         return {"outcome": "listed", "sessions": [session_object(role, *it) for it in sorted(self.sessions.items())],
                 "bearers": [bearer_object(role, *it) for it in sorted(self.bearers.items())]}
 
 
-def end(octets, port):
+def end(octets: bytes, port: int) -> Json:
     return {"address": text_of(octets), "port": port}
 
 
-def station(head):
+def station(head: Json) -> Station:
     """The gateway that a head says."""
-    timers = {key: head[key] for key in ("t3", "n3", "hold") if key in head}
-    setup = Setup(head["role"], octets_of(head["control"]), octets_of(head["user"]), head["counter"], **timers)
-    if setup.role == PACKET:
-        setup.access_points, setup.count = head["apns"], head["count"]
-        setup.pool = int.from_bytes(octets_of(head["pool"]), "big")
-        setup.templates = {it["apn"]: bytes.fromhex(it["tft"]) for it in head.get("templates", [])}
-        if "pool6" in head:
-            setup.pool6, setup.count6 = bytes.fromhex(head["pool6"]), head["count6"]
+    setup = setup_of(head["role"], head, head)
     peer = {plane: octets_of(head["peer"][plane]) for plane in PORTS}
     return Station(setup, setup.counter, peer)
 
 
-def answer(gateway, request):
+def answer(gateway: Station, request: Json) -> Json:
     return gateway.contexts() if request["do"] == "contexts" else gateway.handle(request)
 
 
-def line_of(value):
+def line_of(value: Json) -> str:
     return json.dumps(value, separators=(",", ":"))

@@ -1,8 +1,35 @@
 """The words of the standard for numbers that elements carry, by element, and the words of a datagram's elements in order. Written
 after the tables of TS 29.274 and not after the program."""
 
-from decoding import CONTEXT, defect_of
-from gateways import CAUSE, FTEID, PAA, PDN_TYPE, RAT
+from __future__ import annotations
+
+from decoding import defect_of, element_list
+from gateways import CAUSE, CONTEXT, FTEID, PAA, PDN_TYPE, RAT, elements
+
+# Messages: their types by plane.
+MESSAGES = {
+    "control": {
+        1: "echo-request",
+        2: "echo-response",
+        3: "version-not-supported",
+        32: "create-session-request",
+        33: "create-session-response",
+        36: "delete-session-request",
+        37: "delete-session-response",
+        95: "create-bearer-request",
+        96: "create-bearer-response",
+        99: "delete-bearer-request",
+        100: "delete-bearer-response",
+    },
+    "user": {
+        1: "echo-request",
+        2: "echo-response",
+        26: "error-indication",
+        31: "supported-extensions",
+        254: "end-marker",
+        255: "g-pdu",
+    },
+}
 
 # Causes: table 8.4-1.
 CAUSES = {
@@ -69,7 +96,7 @@ PDN_TYPES = {
 }
 
 
-def word_of(kind, body):
+def word_of(kind: int, body: bytes) -> str | None:
     """The word of what an element says, if it reads and its number has one."""
     if kind not in (CAUSE, FTEID, PAA, PDN_TYPE, RAT) or defect_of(kind, body) is not None:
         return None
@@ -84,23 +111,12 @@ def word_of(kind, body):
     return PDN_TYPES.get(body[0] & 7)
 
 
-def bodies_at(octets):
-    """The type and the body of each element at the front of octets, and the octets that are left."""
-    found = []
-    while len(octets) >= 4 and len(octets) >= 4 + int.from_bytes(octets[1:3], "big"):
-        size = 4 + int.from_bytes(octets[1:3], "big")
-        found.append((octets[0], octets[4:size]))
-        octets = octets[size:]
-    return found, octets
-
-
-def words_of(octets):
+def words_of(octets: bytes) -> list[str]:
     """The words of a list of elements, as far as they are whole, with those inside bearer contexts that are whole."""
     words = []
-    for kind, body in bodies_at(octets)[0]:
+    for kind, _, body in elements(octets):
         if kind == CONTEXT:
-            inner, rest = bodies_at(body)
-            words += [] if rest else [word_of(*it) for it in inner]
+            words += [word_of(inner_kind, inner) for inner_kind, _, inner in element_list(body) or []]
         else:
             words.append(word_of(kind, body))
     return [word for word in words if word]

@@ -1,7 +1,13 @@
 """Scenarios that are not kept, since they are long or only other scenarios with a bearer at once. Each says of its events
 what they have to come to."""
 
+from __future__ import annotations
+
+from collections.abc import Iterable, Iterator
 from dataclasses import dataclass
+
+# An object of JSON.
+Json = dict
 
 
 @dataclass
@@ -9,31 +15,31 @@ class Made:
     """A scenario, and the exit status of its replay."""
 
     name: str
-    scenario: dict
+    scenario: Json
     status: int = 0
 
 
-def head():
+def head() -> Json:
     own = {"control": "10.0.0.1", "user": "10.0.0.1", "counter": 1}
     peer = {"control": "10.0.0.2", "user": "10.0.0.2", "counter": 1}
     return {"serving": own, "packet": {**peer, "apns": ["internet"], "pool": "10.1.0.1", "count": 10}}
 
 
-def made(name, *parts, status=0, **others):
+def made(name: str, *parts: Iterable[Json], status: int = 0, **others: object) -> Made:
     """A scenario of these events. Its head has these other values."""
     return Made(name, {**head(), **others, "events": [event for part in parts for event in part]}, status)
 
 
-def with_template():
+def with_template() -> Json:
     """The packet gateway's head, where each session gets a bearer at once."""
     return {**head()["packet"], "templates": [{"apn": "internet", "tft": "21"}]}
 
 
-def deliver(number, expect):
+def deliver(number: int, expect: str) -> Json:
     return {"do": "deliver", "datagram": number, "expect": expect}
 
 
-def ticks(node, times):
+def ticks(node: str, times: int) -> Json:
     return {"do": "tick", "node": node, "times": times, "expect": "ticked"}
 
 
@@ -43,7 +49,7 @@ ECHO_OF_SERVING = {"do": "echo", "node": "serving", "expect": "begun"}
 ECHO_OF_PACKET = {"do": "echo", "node": "packet", "expect": "begun"}
 
 
-def refused(event, code):
+def refused(event: Json, code: str) -> Json:
     return {**event, "expect": code}
 
 
@@ -58,7 +64,7 @@ NONE_MORE = [
 ]
 
 
-def most_pending():
+def most_pending() -> Made:
     """256 requests are pending at each gateway, and one more is refused (G4 B1). One answer, to the serving gateway's
     first Echo Request, makes room for one request, with the next number. In the 3rd, 6th and 9th tick of the packet
     gateway all of its requests are sent again; in the 12th all are given up, and the next one has the next number."""
@@ -77,7 +83,7 @@ def most_pending():
     )
 
 
-def mixed(first):
+def mixed(first: int) -> Iterator[Json]:
     """Ten events, of which the first sends the datagram of this number: a packet each way, an Echo path, a tick, and
     what cannot happen."""
     send = {"do": "send", "teid": "01000002", "expect": "sent"}
@@ -93,24 +99,24 @@ def mixed(first):
     yield {"do": "end_marker", "teid": "01000009", "expect": "G1"}
 
 
-def ten_thousand_events():
+def ten_thousand_events() -> Made:
     return made("10,000 mixed events", OPENED, *(mixed(2 + 4 * time) for time in range(1000)))
 
 
-def asked(first, pdn, *expect):
+def asked(first: int, pdn: int, *expect: str) -> Iterator[Json]:
     """A session of this PDN type is asked for, by the datagram with this number; what that and the answer come to."""
     yield {**CREATE, "pdn": pdn, "expect": "begun"}
     yield from (deliver(number, word) for number, word in enumerate(expect, first))
 
 
-def given_up(times):
+def given_up(times: Iterable[int]) -> Iterator[Json]:
     """Sessions at the packet gateway alone. The serving gateway gets no answer, and gives its requests up in one tick."""
     for time in times:
         yield from asked(2 * time, 3 if time == 0 else 1, "answered")
     yield ticks("serving", 1)
 
 
-def most_sessions():
+def most_sessions() -> Made:
     """The packet gateway has 1,000 sessions, which have all of its addresses, the first one the only one of version 6. One
     more is refused with cause 83 if it is of type 7. If not, it is refused with cause 73, which comes before cause 84.
     When a session has been released, its address is given again."""
@@ -129,7 +135,7 @@ def most_sessions():
     )
 
 
-def most_pending_with_template():
+def most_pending_with_template() -> Made:
     """While 256 requests are pending at the packet gateway, a session gets no bearer of the template. When one has been
     answered the next session gets one, and its request is the 256th again, so that the third session gets none. The
     restart of the serving gateway ends that request, so that the next session gets a bearer."""
@@ -153,25 +159,25 @@ LAST6 = "ffffffffffffffffffffffffffffffff"
 CARRY6 = "20010db8ffffffff00000000000000ff"
 
 
-def given(first, pdn):
+def given(first: int, pdn: int) -> Iterator[Json]:
     """A session that is granted, with a bearer at once: three datagrams."""
     return asked(first, pdn, "answered", "opened", "opened")
 
 
-def deleted(first):
+def deleted(first: int) -> Iterator[Json]:
     """The first session is deleted, by the datagram with this number."""
     yield {"do": "delete_session", "teid": "01000001", "expect": "begun"}
     yield deliver(first, "answered")
     yield deliver(first + 1, "closed")
 
 
-def versions_with_template():
+def versions_with_template() -> list[Made]:
     """Sessions of each IP version that get a bearer at once, and those that get no address and so no bearer."""
 
-    def case(name, count, networks, *parts):
+    def case(name: str, count: int, networks: Json, *parts: Iterable[Json]) -> Made:
         return made(f"sessions with a bearer at once: {name}", *parts, packet={**with_template(), "count": count, **networks})
 
-    def pool6(count, first=FIRST6):
+    def pool6(count: int, first: str = FIRST6) -> Json:
         return {"pool6": first, "count6": count}
 
     none = ["answered", "rejected"]
@@ -186,14 +192,14 @@ def versions_with_template():
     ]
 
 
-def bearer_asked(first, answer):
+def bearer_asked(first: int, answer: str) -> Iterator[Json]:
     """A dedicated bearer is asked for, by the datagram with this number; what the answer comes to."""
     yield {"do": "create_bearer", "teid": "01000001", "tft": "21", "expect": "begun"}
     yield deliver(first, "answered")
     yield deliver(first + 1, answer)
 
 
-def most_held(name, expected, status):
+def most_held(name: str, expected: Json, status: int) -> Made:
     """The serving gateway holds 4,096 answers: to the request of a pair, to nine more for which the session has room,
     and to those that it refuses. Of the next pair, which is expected so, it takes the first message and drops the second
     (X8), and when that request is sent again alone it drops it too."""
@@ -212,7 +218,7 @@ def most_held(name, expected, status):
     )
 
 
-def scenarios():
+def scenarios() -> list[Made]:
     return [
         most_pending(),
         most_pending_with_template(),

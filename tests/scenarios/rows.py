@@ -10,7 +10,11 @@ In rows and lines <c3a9> stands for these octets, <> for none, and <9 times TEXT
 text is the number of the time, from 0; as a whole line it stands for so many lines. <filled to 99> ends a row whose
 text gets blanks at its end, up to so many octets. A blank at the end of a row is written as <20>, and < as <3c>."""
 
+from __future__ import annotations
+
+import pathlib
 import re
+from collections.abc import Iterator
 from dataclasses import dataclass
 
 MARK = re.compile(r"<(?:(?P<count>\d+) times (?P<text>[^>]*)|(?P<octets>(?:[0-9a-f]{2})*))>")
@@ -25,15 +29,15 @@ class Case:
     text: bytes
     status: int
     output: bytes
-    words: tuple = ()
+    words: tuple[str, ...] = ()
 
 
-def times_of(mark):
+def times_of(mark: re.Match[str]) -> list[str]:
     """The texts that a mark of so many times stands for."""
     return [mark["text"].replace("#", str(time)) for time in range(int(mark["count"]))]
 
 
-def octets_of(text):
+def octets_of(text: str) -> bytes:
     """The octets that a text with marks stands for."""
     octets, at = b"", 0
     for mark in MARK.finditer(text):
@@ -43,7 +47,7 @@ def octets_of(text):
     return octets + text[at:].encode()
 
 
-def lines_of(text):
+def lines_of(text: str) -> list[bytes]:
     """The lines that a line with marks stands for."""
     mark = MARK.fullmatch(text)
     if mark and mark["count"]:
@@ -51,7 +55,7 @@ def lines_of(text):
     return [octets_of(text)]
 
 
-def text_of(place, row, quiet):
+def text_of(place: str | None, row: str, quiet: bytes) -> bytes:
     """The text of a row: the row, or the quiet scenario with the row in this place."""
     filled = FILLED.fullmatch(row)
     row, size = filled.groups() if filled else (row, 0)
@@ -70,7 +74,7 @@ def text_of(place, row, quiet):
 GROUP = re.compile(r"(?:the whole text|in place of (?P<place>.+))\n(?P<rows>(?:\| .*\n)+)status (?P<status>\d)\n(?P<output>(?:.*\n)*)")
 
 
-def cases_of(path, quiet):
+def cases_of(path: pathlib.Path, quiet: bytes) -> Iterator[Case]:
     """The cases of a file."""
     for text in path.read_text(encoding="utf-8").rstrip("\n").split("\n\n"):
         lines = [line for line in text.split("\n") if not line.startswith("# ")]
