@@ -416,7 +416,7 @@ mod tests {
     use std::mem::{offset_of, size_of};
 
     /// The size of each struct and the place of each of its fields are those of the header: `GTP_LAYOUT` names a file with the lines
-    /// that tests/c_programs/layout.c prints.
+    /// that the program of tests/c_programs/structs.py prints.
     #[test]
     fn layout() {
         let Some(file) = std::env::var_os("GTP_LAYOUT") else {
