@@ -469,7 +469,7 @@ static void print_tables(int sizes, int turns)
         { "get a bearer", 0, { 20000, 20000, 1000000, 4000000 } },
         { "find a bearer by the peer's TEID", 1, { 20000, 20000, 1000000, 1000000 } },
         { "find a bearer by session and identity", 2, { 20000, 20000, 1000000, 1000000 } },
-        { "find the lowest free address", 3, { 20000, 2000, 50, 50 } },
+        { "find the lowest free address", 3, { 20000, 20000, 1000000, 4000000 } },
         { "close the bearers of a session", 4, { 20000, 20000, 200000, 1000000 } },
         { "remove the bearers of a session", 5, { 10, 500, 20000, 20000 } },
         { "remove a session", 6, { 10, 500, 20000, 20000 } },
