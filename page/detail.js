@@ -60,8 +60,9 @@ async function showFault(fault, mark) {
   if (!fault) return;
   const { code, told } = faultWords(fault);
   const meaning = make("span", { className: "meaning" });
-  const go = make("button", { className: "tool", textContent: "Show the place", hidden: !mark });
+  const go = make("button", { className: "tool", textContent: "Show the place", hidden: !mark || mark.from === mark.to });
   go.onclick = () => {
+    if (!$("octets").cells[mark.from]) drawOctets(state.octets, mark, true);
     scrollToOctet(mark.from);
     showMark(mark.from, mark.to);
     bringToFault();
@@ -108,7 +109,7 @@ function shownItem(it, depth) {
   shown.style.setProperty("--depth", depth);
   if (it.note) shown.append(make("span", { className: "tag", textContent: it.note }));
   shown.append(make("span", { className: "value", textContent: it.value }));
-  if (it.from !== null) {
+  if (it.from !== null && it.from < it.to) {
     const place = it.to - it.from > 1 ? `${it.from}–${it.to - 1}` : String(it.from);
     shown.append(make("span", { className: "place", textContent: place }));
   }
@@ -177,9 +178,7 @@ function drawOctets(octets, mark, all = false) {
   box.replaceChildren(...lines);
   box.cells = cells;
   state.marked = [0, 0];
-  if (!mark) return;
-  const bad = mark.from < mark.to ? cells.slice(mark.from, mark.to) : cells.slice(-1);
-  for (const it of bad.flat()) it.classList.add("bad");
+  if (mark) for (const it of cells.slice(mark.from, mark.to).flat()) it.classList.add("bad");
 }
 
 function lineOf(octets, from, to, cells) {

@@ -149,19 +149,19 @@ function userNode(octets, message) {
 }
 
 function userHeader(octets, message) {
-  const flags = octets[0], teid = hexOf(octets.subarray(4, 8)), { seq, npdu } = message;
+  const flags = octets[0], teid = hexOf(octets.subarray(4, 8)), { seq, npdu } = message, hasNumber = (flags & 2) !== 0 && seq !== undefined;
   const words = [
     `version ${flags >> 5}`, flags & 4 && "E (extension headers)", flags & 2 && "S (has a number)", flags & 1 && "PN (has an N-PDU number)",
   ];
   const end = Math.min(flags & 7 ? 12 : 8, octets.length);
-  const head = node("header", `teid ${teid}${seq === undefined ? "" : `  seq ${seq}`}`, 0, end, { note: "5.1" });
+  const head = node("header", `teid ${teid}${hasNumber ? `  seq ${seq}` : ""}`, 0, end, { note: "5.1" });
   head.children.push(
     node("version and flags", words.filter(Boolean).join(", "), 0, 1),
     node("type", worded(message.type, message.name), 1, 2),
     node("length", two(octets, 2), 2, 4),
     node("teid", teid, 4, 8));
-  if (seq !== undefined) head.children.push(node("seq", seq, 8, 10));
-  if (npdu !== undefined) head.children.push(node("N-PDU number", npdu, 10, 11));
+  if (hasNumber) head.children.push(node("seq", seq, 8, 10));
+  if (flags & 1 && npdu !== undefined) head.children.push(node("N-PDU number", npdu, 10, 11));
   return head;
 }
 
@@ -175,18 +175,29 @@ function nodeAt(nodes, at) {
   return null;
 }
 
-// The octets that a fault is about: those of what begins where it lies, or of its header those that it is about.
+// The end of the elements, a message's or a bearer context's, among which a place lies.
+function endOfList(nodes, at) {
+  const holder = nodes.find((it) => it.from <= at && at < it.to);
+  return holder && (endOfList(holder.children.filter((it) => it.type === CONTEXT), at) ?? holder.to);
+}
+
+// The end of an element of the user plane (TS 29.281 8.1): one that states no length may be of no known form.
+function endOfUserElement(octets, at) { return octets[at] >= 128 && at + 3 <= octets.length ? at + 3 + two(octets, at + 1) : octets.length; }
+
+// The octets that a fault is about: those of what begins where it lies, or of its header those that it is about. None if it lies at the end.
 function markOf(octets, fault, nodes) {
   const at = fault.element?.at ?? fault.at, part = (from, to) => ({ from: Math.min(from, octets.length), to: Math.min(to, octets.length) });
   switch (fault.code) {
-    case "H1": case "U1": return part(at, octets.length);
-    case "H2": case "U2": case "U3": return part(at, at + 1);
+    case "H1": case "U1": return part(at, at + fault.held);
+    case "H2": case "U2": case "U3": case "U5": return part(at, at + 1);
     case "H3": case "U4": return part(at + 2, at + 4);
     case "H4": return part(at, at + 2);
     case "H6": return fault.bearer_context ? part(at, nodeAt(nodes, at).to) : part(at + 1, at + 2);
+    case "U6": return part(at, octets.length);
     case "U7": return part(at, at + 4 * octets[at]);
     case "U8": return part(1, 2);
-    default: return part(at, nodeAt(nodes, at)?.to ?? at + 4);
+    case "U9": return part(at, endOfUserElement(octets, at));
+    default: return part(at, nodeAt(nodes, at)?.to ?? endOfList(nodes, at) ?? octets.length);
   }
 }
 
@@ -202,7 +213,8 @@ function treeOf(octets, object) {
     holder.open = true;
     holder.children.push(node(elementName(fault.type, fault.instance), `missing, ${fault.mark}`, null, null, { bad: true }));
   }
-  if (mark) spread(nodes, mark);
+  if (mark.from === mark.to) nodes.at(-1).bad = true;
+  else spread(nodes, mark);
   return { nodes, mark };
 }
 
@@ -210,11 +222,10 @@ function treeOf(octets, object) {
 function spread(nodes, mark) {
   let isHeld = false;
   for (const it of nodes) {
-    if (it.from === null || it.from > mark.from || mark.to > it.to || it.to === it.from) continue;
+    if (it.from === null || it.from > mark.from || mark.to > it.to) continue;
     it.open = true;
     isHeld = true;
-    const isInner = !spread(it.children, mark) && mark.from < mark.to;
-    it.bad = isInner || it.from === mark.from && it.to === mark.to;
+    it.bad = !spread(it.children, mark) || it.from === mark.from && it.to === mark.to;
   }
   return isHeld;
 }

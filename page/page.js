@@ -43,7 +43,8 @@ function listKeys(event) {
 }
 
 function pageKeys(event) {
-  if (event.key !== "/" || /INPUT|TEXTAREA|SELECT/.test(document.activeElement.tagName) || $("list-card").hidden) return;
+  const isTyped = document.activeElement.matches("input:not([type=checkbox]), textarea, select");
+  if (event.key !== "/" || isTyped || $("list-card").hidden) return;
   $("filter").focus();
   event.preventDefault();
 }

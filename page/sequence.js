@@ -61,9 +61,10 @@ function inRow(buttons) {
       const to = buttons[{ ArrowDown: at + 1, ArrowUp: at - 1, Home: 0, End: buttons.length - 1 }[event.key]];
       if (!to) return;
       event.preventDefault();
-      it.setAttribute("tabindex", -1);
-      to.setAttribute("tabindex", 0);
       to.focus();
+    });
+    it.addEventListener("focus", () => {
+      for (const one of buttons) one.setAttribute("tabindex", one === it ? 0 : -1);
     });
   });
 }
