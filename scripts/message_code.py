@@ -24,7 +24,7 @@ class SingleCode:
     @property
     def functions(self) -> dict[str, set[str]]:
         """The functions that read, measure and write it, by their modules."""
-        return {"rows": {self.builder, self.reader}, "room": {f"after_{self.shape}"}, "writing": {f"put_{self.shape}"}}
+        return {"single_rows": {self.builder, self.reader}, "encoded_length": {f"after_{self.shape}"}, "writing": {f"put_{self.shape}"}}
 
     @property
     def shape(self) -> str:
@@ -102,7 +102,7 @@ class SeveralCode(SingleCode):
         return f"Listed<{self.row.element.type}>"
     @property
     def functions(self) -> dict[str, set[str]]:
-        return {"repeated": {"read_several", "several", "several_pass"}, "room": {"after_several"}, "writing": {"put_several"}}
+        return {"list_rows": {"read_several", "several", "several_pass"}, "encoded_length": {"after_several"}, "writing": {"put_several"}}
 
     @property
     def build(self) -> str:
@@ -150,7 +150,7 @@ class GroupCode(SingleCode):
 
     @property
     def functions(self) -> dict[str, set[str]]:
-        return {"groups": {"contexts", "contexts_pass", "read_contexts"}, "room": {"after_contexts"}, "writing": {"put_contexts"}}
+        return {"grouped_rows": {"contexts", "contexts_pass", "read_contexts"}, "encoded_length": {"after_contexts"}, "writing": {"put_contexts"}}
 
     @property
     def need(self) -> str:
@@ -362,17 +362,17 @@ class MessageCode(PartCode):
             "crate::header": {"Header"},
             "crate::kinds": {self.part.constant},
             "crate::message": {"Datagram"},
-            "crate::typed": {"Typed"},
+            "crate::message_table": {"HasTable"},
             "std::alloc": {"AllocError", "Global"},
         }
         if self.lists:
-            names["crate::listed"] = {"Listed"}
+            names["crate::list"] = {"Listed"}
         if self.part.is_boxed:
             names["crate::boxed"] = {"Boxed"}
         if self.part.contexts:
             names["crate::fault"].add("Need")
-            names["crate::groups"].add("Context")
-            names["crate::marks"] = {"contexts_meet"}
+            names["crate::grouped_rows"].add("Context")
+            names["crate::presence"] = {"contexts_meet"}
         return lines_of(f"use {path}::{{{', '.join(sorted(names[path]))}}};" for path in sorted(names))
 
     def ghost_imports(self) -> str:
@@ -398,7 +398,7 @@ class MessageCode(PartCode):
 {self.ghost_imports()}
 {self.imports()}
 {self.struct()}
-        impl Typed for {self.part.name} {{
+        impl HasTable for {self.part.name} {{
             const KIND: u8 = {self.part.constant};
 
             ghost KIND = {{ {self.part.snake}.kind }};
@@ -431,7 +431,7 @@ def antt_bool(value: bool) -> str:
     return "true" if value else "false"
 
 
-def shapes(messages: list[Message]) -> str:
+def required_rows(messages: list[Message]) -> str:
     """What each type of message asks, as constants that the program checks a datagram by: the rows that can be at fault,
     and those on which a list depends."""
 

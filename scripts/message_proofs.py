@@ -7,6 +7,8 @@ from collections.abc import Callable
 
 from message_tables import WRITTEN, Group, Message, Part, Row, Several, lines_of
 
+IN_A_LINE = 12  # so many names of an import
+
 
 def same(row: Row) -> str:
     """That two are equal."""
@@ -58,10 +60,10 @@ def identity(part: Part, values: str, one_of: Callable[[Row, str], str]) -> str:
         proof += f"    let p{place} : a.{row.field} ≡ b.{row.field} = {one_of(row, f'(first_one {alike})')} in\n"
         if place + 1 < len(part.rows):
             proof += f"    let e{place + 1} = others_one {alike} in\n"
-    fields = "; ".join(f"{row.field} = a.{row.field}" for row in part.rows)
+    fields = lines_of(f"      {row.field} = a.{row.field};" for row in part.rows)
     parts = ", ".join(f"p{place}" for place in range(len(part.rows)))
     parts = f"({parts})" if len(part.rows) > 1 else parts
-    return f"{head}\n{proof}    let whole : b ≡ record {{ {fields} }} = rw {parts} refl in\n    sym whole\n"
+    return f"{head}\n{proof}    let whole : b ≡ record {{\n{fields}    }} = rw {parts} refl in\n    sym whole\n"
 
 
 def antt_case(message: Message) -> str:
@@ -76,7 +78,7 @@ def passing_answer(message: Message) -> str:
 use Rattle.std.proofs.Common.{{rules}}
 use Rattle.gtp_v2.specs.reading.Rows.{{lines_at}}
 use Rattle.gtp_v2.proofs.Passing.{{ok_is}}
-use Rattle.gtp_v2.proofs.body.{message.snake}.{message.name}Typed.passes.Goals as goal
+use Rattle.gtp_v2.proofs.body.{message.snake}.{message.name}HasTable.passes.Goals as goal
 
 pub returns : goal.returns
 unfolding lines_at
@@ -99,7 +101,7 @@ def equalities(messages: list[Message]) -> str:
         "Rattle.std.specs.Cmp.Lexicographic.{bytes_decides}",
         "Rattle.std.proofs.lemmas.Bool.Decides.{Decides-eqb}",
         f"Rattle.gtp_ie.specs.Value.{{{', '.join(values)}}}",
-        f"Rattle.gtp_ie.proofs.Same.{{{', '.join(lemmas)}}}",
+        *(f"Rattle.gtp_ie.proofs.Same.{{{', '.join(lemmas[at : at + IN_A_LINE])}}}" for at in range(0, len(lemmas), IN_A_LINE)),
         "Rattle.gtp_v2.specs.declared.body.Body.{Body}",
         "Rattle.gtp_v2.specs.declared.body.Body.TheVariants as bodies",
         "Rattle.gtp_v2.specs.contracts.body.BodyPartialEq.TheImpl as body_eq",

@@ -254,6 +254,6 @@ def unmet_line(story: list[Happened]) -> str:
             continue
         event, expect = f"gtpshow: standard input: event {happened.number}", happened.event.get("expect")
         if expect is None:
-            return f"{event} is refused, dropped or impossible, which its entry does not expect\n"
-        return f"{event} is not \"{expect}\", as its entry expects\n"
+            return f"{event} was refused, dropped or impossible, and its entry expects none of these\n"
+        return f"{event} came to something else than \"{expect}\", which its entry expects\n"
     return ""

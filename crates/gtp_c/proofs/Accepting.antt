@@ -98,7 +98,8 @@ module _ (octets : List ℕ) (old : Node) (role : Role) (source : Endpoint) wher
       subst (λ (it : Entry). AreLast it.payload octets) of.is each.0
 
 -- what was accepted is the last octets of the datagram
-pub is_payload : (plane : Plane) (source : Endpoint) (octets : List ℕ) (old : GatewayState) (s : Step) (new : GatewayState) → IsReceived plane source octets old s new → IsPayloadOf plane s.accepted octets
+pub is_payload : (plane : Plane) (source : Endpoint) (octets : List ℕ) (old : GatewayState) (s : Step) (new : GatewayState)
+    → IsReceived plane source octets old s new → IsPayloadOf plane s.accepted octets
 is_payload Control source octets old s new received = tt
 is_payload User source octets old s new received =
     payload octets old.node old.role source s.accepted received.effect received.tells.accepted (step octets old.node old.role source received.effect received.takes)

@@ -67,7 +67,8 @@ module _ (command : Command) (Bad : Type 0) (good : ¬ Bad) (desk mid : GatewayW
         memory = λ two. inl (memory two);
       }
 
-  module _ (new : GatewayWithQueue) (told : Told) (after : GatewayState) (r : Result Begun CommandFault) (status : ℕ) (settled : IsSettled r (begun_number command) before told (record { gateway = after; waiting = mid.waiting }) new status) where
+  module _ (new : GatewayWithQueue) (told : Told) (after : GatewayState) (r : Result Begun CommandFault) (status : ℕ)
+      (settled : IsSettled r (begun_number command) before told (record { gateway = after; waiting = mid.waiting }) new status) where
     has_begun : (r : Result Begun CommandFault) → IfOk r (λ b. IsCarriedOut command mid.gateway b after) → IfOk r (λ b. IsTimed command mid.gateway b after) → IfOk r (λ b. IsUntold command b)
         → IsOkAnd r (λ b. new.waiting.items ≡ mid.waiting.items ++ b.out ∷ []) → IsOkAnd r (λ b. told ≡ begun_told (begun_number command) b (deque_len new.waiting)) → HasBegun command told desk new
     has_begun (Ok b) done timed untold waits tells =
@@ -94,7 +95,8 @@ module _ (command : Command) (Bad : Type 0) (good : ¬ Bad) (desk mid : GatewayW
     -- a command that ran out of memory is not refused by the machine
     may_run_out : IsRefusedWhere command mid.gateway r → r ≡ Err Memory → CommandMayRunOut command desk
     may_run_out refuses out =
-        inr (λ why is. true≢false (sym (ap ran_out out) ∙ ap ran_out ((refuses why).1 (subst (λ (g : GatewayState). MachineStep g.role g.node (Commanded command) (refused g.node why)) (sym kept.0) is)))) where
+        inr (λ why is. true≢false (sym (ap ran_out out) ∙ ap ran_out
+        ((refuses why).1 (subst (λ (g : GatewayState). MachineStep g.role g.node (Commanded command) (refused g.node why)) (sym kept.0) is)))) where
           ran_out : Result Begun CommandFault → Bool
           ran_out (Err Memory) = true
           ran_out (Err (Refused why)) = false
@@ -140,7 +142,8 @@ pub as_command : {command other : Command} {Bad : Type 0} {before told : Told} {
 as_command {command} {other} {Bad} {before} {told} {old} {new} {status} is said = subst (λ (c : Command). IsCommanded c Bad before told old new status) is said
 
 -- a session with C's values
-pub asked : {c : Session} {imsi : Identity} {access_point : List ℕ} {before told : Told} {desk new : GatewayWithQueue} {old : Option GatewayWithQueue} {status : ℕ} (spec : SessionSpec) → IsSpecified c imsi access_point spec → Some desk ≡ old
+pub asked : {c : Session} {imsi : Identity} {access_point : List ℕ} {before told : Told} {desk new : GatewayWithQueue} {old : Option GatewayWithQueue}
+    {status : ℕ} (spec : SessionSpec) → IsSpecified c imsi access_point spec → Some desk ≡ old
     → IsCommanded (Create_session (specification spec)) (¬ IsGoodSession c imsi access_point) before told (Some desk) (Some new) status
     → IsSessionAsked c imsi access_point before told old (Some new) status
 asked {c} {imsi} {access_point} {before} {told} {desk} {new} {old} {status} spec is there said =

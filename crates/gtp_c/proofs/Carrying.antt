@@ -121,5 +121,7 @@ pub has_types : (types octets : List ℕ) (m : MessageValue) → IsUserMessage o
 has_types types octets m (h, headed, (tail, chain, carries, seq, npdu)) same =
     let whole : Carries h.kind h.teid tail (Notification types) = subst (λ (c : Content). Carries h.kind h.teid tail c) (sym same) carries in
     let n = length (chain_encoding m.ext) in
-    let here : drop (header_size octets + n) octets ≡ tail = sym (drop-drop n (header_size octets) octets) ∙ (ap (λ (xs : List ℕ). drop n xs) (header_at octets h headed) ∙ chain_at h.first h.rest m.ext tail chain) in
+    let here : drop (header_size octets + n) octets ≡ tail =
+    sym (drop-drop n (header_size octets) octets)
+    ∙ (ap (λ (xs : List ℕ). drop n xs) (header_at octets h headed) ∙ chain_at h.first h.rest m.ext tail chain) in
     subst (λ (xs : List ℕ). HasTypes types xs) (sym here) whole.1

@@ -40,7 +40,8 @@ behind octets Skipped after other (kind, high, low, body, is, size, least, no_pe
     let on : drop (3 + (256 * high + low)) whole ≡ after = sym (drop-drop (256 * high + low) 3 whole) ∙ drop_at body after (256 * high + low) size in
     subst (λ (xs : List ℕ). drop (element_size xs) xs ≡ after) (sym is) (rw (t14, t16) on)
 
-on_from : (types octets : List ℕ) (e : Element) (es : List Element) (after : List ℕ) → slice_index octets 0 ≢ 141 → BeginsElement octets e after → Spans after es [] → first_types es ≡ Some types → HasTypes types (drop (element_size octets) octets)
+on_from : (types octets : List ℕ) (e : Element) (es : List Element) (after : List ℕ) → slice_index octets 0 ≢ 141 → BeginsElement octets e after
+    → Spans after es [] → first_types es ≡ Some types → HasTypes types (drop (element_size octets) octets)
 on_from types octets e es after other begins spans is = subst (λ (xs : List ℕ). HasTypes types xs) (sym (behind octets e after other begins)) (es, spans, is)
 
 -- behind an element that is no list the same list is the first
@@ -78,6 +79,7 @@ list_at octets at types within here has =
     (at, omega arith, (omega (arith, size, rest, sum), ap (λ (xs : List ℕ). take (length whole) xs) leads.1 ∙ take_at whole leads.0 (length whole) refl))
 
 -- so many octets further
-pub further_at : (octets : List ℕ) (at : ℕ) (types : List ℕ) → slice_index (drop at octets) 0 ≢ 141 → HasTypes types (drop at octets) → HasTypes types (drop (at + element_size (drop at octets)) octets)
+pub further_at : (octets : List ℕ) (at : ℕ) (types : List ℕ) → slice_index (drop at octets) 0 ≢ 141 → HasTypes types (drop at octets)
+    → HasTypes types (drop (at + element_size (drop at octets)) octets)
 further_at octets at types other has =
     subst (λ (xs : List ℕ). HasTypes types xs) (drop-drop (element_size (drop at octets)) at octets) (further types (drop at octets) other has)

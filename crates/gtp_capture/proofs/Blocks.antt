@@ -1,5 +1,6 @@
 -- Blocks, and octets at whose start none stands.
-use Rattle.std.proofs.Common.{◌≡◌, ◌≢◌, ℕ, ◌+◌, ◌%◌, ◌<◌, ◌≤◌, List, [], ◌++◌, length, take, drop, Option, Some, None, refl, sym, ap, ◌∙◌, subst, arith, length-append, append_assoc, append-nil, inl, inr, length-take-le, length-drop, take-append-drop}
+use Rattle.std.proofs.Common.{◌≡◌, ◌≢◌, ℕ, ◌+◌, ◌%◌, ◌<◌, ◌≤◌, List, [], ◌++◌, length, take, drop, Option, Some, None, refl, sym, ap, ◌∙◌, subst}
+use Rattle.std.proofs.Common.{arith, length-append, append_assoc, append-nil, inl, inr, length-take-le, length-drop, take-append-drop}
 use Rattle.std.specs.Prelude.{true, false, Result, Ok, Err, IfOk}
 use Rattle.std.specs.Io.KnownBytes.{Consumes, IsAtEnd}
 use Rattle.gtp_capture.specs.Octets.{four_at}
@@ -48,13 +49,15 @@ few_octets order head y size eight says few h b rest is =
     omega (arith, says, block_size order head y h b rest eight is, block_room order head y h b rest eight is, few)
 
 -- what is not finished after a front is none
-unfinished : (order : Order) (head front y : List ℕ) (n size : ℕ) → length head ≡ 8 → size ≡ four_at order 4 head → size ≡ 12 + (length front + n) → ((more rest : List ℕ) → IsFinish order n size y more rest → ⊥) → NoBlock order (head ++ (front ++ y))
+unfinished : (order : Order) (head front y : List ℕ) (n size : ℕ) → length head ≡ 8 → size ≡ four_at order 4 head → size ≡ 12 + (length front + n)
+    → ((more rest : List ℕ) → IsFinish order n size y more rest → ⊥) → NoBlock order (head ++ (front ++ y))
 unfinished order head front y n size eight says is none h b rest block =
     let m = length front in
     let held : 12 + length b ≡ size = sym (block_size order head (front ++ y) h b rest eight block) ∙ sym says in
     let fits : m ≤ length b = omega (arith, held, is) in
     let follows = (block_front order head (front ++ y) h b rest eight block).1 in
-    let cut : front ++ y ≡ take m b ++ (drop m b ++ (block.tail ++ rest)) = follows ∙ ap (λ l. l ++ (block.tail ++ rest)) (sym (take-append-drop m b)) ∙ append_assoc (take m b) (drop m b) (block.tail ++ rest) in
+    let cut : front ++ y ≡ take m b ++ (drop m b ++ (block.tail ++ rest)) =
+    follows ∙ ap (λ l. l ++ (block.tail ++ rest)) (sym (take-append-drop m b)) ∙ append_assoc (take m b) (drop m b) (block.tail ++ rest) in
     let same = same_front front (take m b) y (drop m b ++ (block.tail ++ rest)) (sym (length-take-le m b fits)) cut in
     none (drop m b) rest (record {
       tail = block.tail;
@@ -65,7 +68,8 @@ unfinished order head front y n size eight says is none h b rest block =
     })
 
 -- what is finished is one
-finished : (order : Order) (head front y more z : List ℕ) (n size : ℕ) → length head ≡ 8 → size ≡ four_at order 4 head → size ≡ 12 + (length front + n) → size % 4 ≡ 0 → IsFinish order n size y more z → IsBlock order (head ++ (front ++ y)) head (front ++ more) z
+finished : (order : Order) (head front y more z : List ℕ) (n size : ℕ) → length head ≡ 8 → size ≡ four_at order 4 head → size ≡ 12 + (length front + n)
+    → size % 4 ≡ 0 → IsFinish order n size y more z → IsBlock order (head ++ (front ++ y)) head (front ++ more) z
 finished order head front y more z n size eight says is fours finish =
     let held : size ≡ 12 + length (front ++ more) = omega (arith, is, length-append front more, finish.held) in
     record {
@@ -103,7 +107,8 @@ section_broken order is head x eight type none = (
 )
 
 -- fewer octets than a head has
-pub block_short : (order : Order) (is : List Interface) (a b : Option (List ℕ)) (front room : List ℕ) → Consumes a b front → IsAtEnd b → 0 < length front → length front < 8 → Steps (Blocks order is) a b step.Broken room
+pub block_short : (order : Order) (is : List Interface) (a b : Option (List ℕ)) (front room : List ℕ) → Consumes a b front → IsAtEnd b → 0 < length front
+    → length front < 8 → Steps (Blocks order is) a b step.Broken room
 block_short order is a b front room so over some few =
     let small : (o : Order) (h body rest : List ℕ) → IsBlock o front h body rest → ⊥ = λ o h body rest i. omega (arith, ap length i.whole, length-append h (body ++ (i.tail ++ rest)), i.start, few) in
     read_all (IsStep (Blocks order is) step.Broken room) a b front
@@ -114,23 +119,29 @@ block_short order is a b front room so over some few =
     so over
 
 -- a block whose head was read
-pub inside_bad : (order : Order) (is : List Interface) (a : Option (List ℕ)) (head room : List ℕ) (size : ℕ) → length head ≡ 8 → four_at High 0 head ≢ section_type → size ≡ four_at order 4 head → (12 ≤ size → size % 4 ≡ 0 → ⊥) → StepsBehind head (Blocks order is) a a step.Broken room
+pub inside_bad : (order : Order) (is : List Interface) (a : Option (List ℕ)) (head room : List ℕ) (size : ℕ) → length head ≡ 8 → four_at High 0 head ≢ section_type
+    → size ≡ four_at order 4 head → (12 ≤ size → size % 4 ≡ 0 → ⊥) → StepsBehind head (Blocks order is) a a step.Broken room
 inside_bad order is a head room size eight other says bad =
-    known_same (λ x y. IsStep (Blocks order is) step.Broken room (head ++ x) y) a (λ x. inside_broken order is head x eight other (λ h b rest block p m. bad_size order head x size eight says bad h b rest block))
+    known_same (λ x y. IsStep (Blocks order is) step.Broken room (head ++ x) y) a
+    (λ x. inside_broken order is head x eight other (λ h b rest block p m. bad_size order head x size eight says bad h b rest block))
 
-pub inside_short : (order : Order) (is : List Interface) (a b : Option (List ℕ)) (head front room : List ℕ) (size : ℕ) → length head ≡ 8 → four_at High 0 head ≢ section_type → size ≡ four_at order 4 head → Consumes a b front → IsAtEnd b → length front + 8 < size → StepsBehind head (Blocks order is) a b step.Broken room
+pub inside_short : (order : Order) (is : List Interface) (a b : Option (List ℕ)) (head front room : List ℕ) (size : ℕ) → length head ≡ 8
+    → four_at High 0 head ≢ section_type → size ≡ four_at order 4 head → Consumes a b front → IsAtEnd b → length front + 8 < size
+    → StepsBehind head (Blocks order is) a b step.Broken room
 inside_short order is a b head front room size eight other says so over few =
     read_all (λ x y. IsStep (Blocks order is) step.Broken room (head ++ x) y) a b front
     (λ y. inside_broken order is head front eight other (λ h b rest block p m. few_octets order head front size eight says few h b rest block)) so over
 
-pub inside_unfinished : (order : Order) (is : List Interface) (a b c : Option (List ℕ)) (head front room : List ℕ) (n size : ℕ) → length head ≡ 8 → four_at High 0 head ≢ section_type → size ≡ four_at order 4 head → size ≡ 12 + (length front + n)
+pub inside_unfinished : (order : Order) (is : List Interface) (a b c : Option (List ℕ)) (head front room : List ℕ) (n size : ℕ) → length head ≡ 8
+    → four_at High 0 head ≢ section_type → size ≡ four_at order 4 head → size ≡ 12 + (length front + n)
     → Consumes a b front → Known (Finishes order n size false) b c → StepsBehind head (Blocks order is) a c step.Broken room
 inside_unfinished order is a b c head front room n size eight other says held so none =
     read_front (Finishes order n size false) (λ x y. IsStep (Blocks order is) step.Broken room (head ++ x) y) a b c front
     (λ y z f. inside_broken order is head (front ++ y) eight other (λ h b rest block p m. unfinished order head front y n size eight says held f h b rest block)) so none
 
 -- a block that means nothing
-pub inside_unmeant : (order : Order) (is : List Interface) (a b c : Option (List ℕ)) (head front room : List ℕ) (n size : ℕ) → length head ≡ 8 → four_at High 0 head ≢ section_type → size ≡ four_at order 4 head → size ≡ 12 + (length front + n) → size % 4 ≡ 0
+pub inside_unmeant : (order : Order) (is : List Interface) (a b c : Option (List ℕ)) (head front room : List ℕ) (n size : ℕ) → length head ≡ 8
+    → four_at High 0 head ≢ section_type → size ≡ four_at order 4 head → size ≡ 12 + (length front + n) → size % 4 ≡ 0
     → ((more : List ℕ) (p : Piece) → length more ≡ n → IsMeant order is (four_at order 0 head) (front ++ more) p → ⊥)
     → Consumes a b front → Known (Finishes order n size true) b c → StepsBehind head (Blocks order is) a c step.Broken room
 inside_unmeant order is a b c head front room n size eight other says held fours none so found =
@@ -144,7 +155,8 @@ inside_unmeant order is a b c head front room n size eight other says held fours
     so found
 
 -- a block that means something
-pub inside_found : (order : Order) (is : List Interface) (a b c : Option (List ℕ)) (head front : List ℕ) (n size : ℕ) (i : Item) → length head ≡ 8 → four_at High 0 head ≢ section_type → size ≡ four_at order 4 head → size ≡ 12 + (length front + n) → size % 4 ≡ 0
+pub inside_found : (order : Order) (is : List Interface) (a b c : Option (List ℕ)) (head front : List ℕ) (n size : ℕ) (i : Item) → length head ≡ 8
+    → four_at High 0 head ≢ section_type → size ≡ four_at order 4 head → size ≡ 12 + (length front + n) → size % 4 ≡ 0
     → ((more : List ℕ) → length more ≡ n → IsMeant order is (four_at order 0 head) (front ++ more) (piece_of i front))
     → Consumes a b front → Known (Finishes order n size true) b c → StepsBehind head (Blocks order is) a c (step.Found (record { item = i; size = size })) front
 inside_found order is a b c head front n size i eight other says held fours means so found =
@@ -174,11 +186,14 @@ section_order head front y o rest eight sixteen is =
     let follows = (block_front o head (front ++ y) is.head is.body rest eight is.block).1 in
     four_same High 0 front is.body y (is.block.tail ++ rest) follows (omega (arith, sixteen)) (omega (arith, is.room)) ∙ is.says
 
-pub section_none : (a : Option (List ℕ)) (head front : List ℕ) → length head ≡ 8 → length front ≡ 16 → ((o : Order) → four_at High 0 front ≡ order_number o → ⊥) → Known (IsSectionBehind (head ++ front) None) a a
+pub section_none : (a : Option (List ℕ)) (head front : List ℕ) → length head ≡ 8 → length front ≡ 16 → ((o : Order) → four_at High 0 front ≡ order_number o → ⊥)
+    → Known (IsSectionBehind (head ++ front) None) a a
 section_none a head front eight sixteen none =
     known_same (IsSectionBehind (head ++ front) None) a (λ x o rest is. none o (section_order head front x o rest eight sixteen (subst (λ l. IsSection l o rest) (append_assoc head front x) is)))
 
-pub section_bad : (a : Option (List ℕ)) (head front : List ℕ) (order : Order) (size : ℕ) → length head ≡ 8 → length front ≡ 16 → four_at High 0 front ≡ order_number order → size ≡ four_at order 4 head → (28 ≤ size → size % 4 ≡ 0 → ⊥) → Known (IsSectionBehind (head ++ front) None) a a
+pub section_bad : (a : Option (List ℕ)) (head front : List ℕ) (order : Order) (size : ℕ) → length head ≡ 8 → length front ≡ 16
+    → four_at High 0 front ≡ order_number order → size ≡ four_at order 4 head → (28 ≤ size → size % 4 ≡ 0 → ⊥)
+    → Known (IsSectionBehind (head ++ front) None) a a
 section_bad a head front order size eight sixteen says is bad =
     known_same (IsSectionBehind (head ++ front) None) a (λ x o rest s.
     let t = subst (λ l. IsSection l o rest) (append_assoc head front x) s in
@@ -187,7 +202,8 @@ section_bad a head front order size eight sixteen says is bad =
     let sized : size ≡ 12 + length t.body = is ∙ ap (λ p. four_at p 4 head) (sym same) ∙ held in
     bad (omega (arith, sized, t.room)) (omega (arith, sized, t.block.fours)))
 
-pub section_unfinished : (a b : Option (List ℕ)) (head front : List ℕ) (order : Order) (n size : ℕ) → length head ≡ 8 → length front ≡ 16 → four_at High 0 front ≡ order_number order → size ≡ four_at order 4 head → size ≡ 28 + n
+pub section_unfinished : (a b : Option (List ℕ)) (head front : List ℕ) (order : Order) (n size : ℕ) → length head ≡ 8 → length front ≡ 16
+    → four_at High 0 front ≡ order_number order → size ≡ four_at order 4 head → size ≡ 28 + n
     → Known (Finishes order n size false) a b → Known (IsSectionBehind (head ++ front) None) a b
 section_unfinished a b head front order n size eight sixteen says is held none =
     known_map (Finishes order n size false) (IsSectionBehind (head ++ front) None) a b (λ x y f o rest s.
@@ -196,7 +212,8 @@ section_unfinished a b head front order n size eight sixteen says is held none =
     unfinished order head front x n size eight is (omega (arith, held, sixteen)) f t.head t.body rest (subst (λ p. IsBlock p (head ++ (front ++ x)) t.head t.body rest) same t.block))
     none
 
-pub section_found : (a b : Option (List ℕ)) (head front : List ℕ) (order : Order) (n size : ℕ) → length head ≡ 8 → length front ≡ 16 → four_at High 0 head ≡ section_type → four_at High 0 front ≡ order_number order → size ≡ four_at order 4 head → size ≡ 28 + n → size % 4 ≡ 0
+pub section_found : (a b : Option (List ℕ)) (head front : List ℕ) (order : Order) (n size : ℕ) → length head ≡ 8 → length front ≡ 16
+    → four_at High 0 head ≡ section_type → four_at High 0 front ≡ order_number order → size ≡ four_at order 4 head → size ≡ 28 + n → size % 4 ≡ 0
     → Known (Finishes order n size true) a b → Known (IsSectionBehind (head ++ front) (Some (order, size))) a b
 section_found a b head front order n size eight sixteen type says is held fours found =
     known_map (Finishes order n size true) (IsSectionBehind (head ++ front) (Some (order, size))) a b (λ x y f.
@@ -215,23 +232,28 @@ section_found a b head front order n size eight sixteen type says is held fours 
     found
 
 -- fewer octets than a header has
-pub section_short : (order : Order) (is : List Interface) (a b : Option (List ℕ)) (head front room : List ℕ) → length head ≡ 8 → four_at High 0 head ≡ section_type → Consumes a b front → IsAtEnd b → length front < 16 → StepsBehind head (Blocks order is) a b step.Broken room
+pub section_short : (order : Order) (is : List Interface) (a b : Option (List ℕ)) (head front room : List ℕ) → length head ≡ 8 → four_at High 0 head ≡ section_type
+    → Consumes a b front → IsAtEnd b → length front < 16 → StepsBehind head (Blocks order is) a b step.Broken room
 section_short order is a b head front room eight type so over few =
     read_all (λ x y. IsStep (Blocks order is) step.Broken room (head ++ x) y) a b front
     (λ y. section_broken order is head front eight type (λ o rest s. omega (arith, s.room, few, block_room o head front s.head s.body rest eight s.block))) so over
 
-pub section_unknown : (order : Order) (is : List Interface) (a b c : Option (List ℕ)) (head front room : List ℕ) → length head ≡ 8 → four_at High 0 head ≡ section_type → Consumes a b front → Known (IsSectionBehind (head ++ front) None) b c → StepsBehind head (Blocks order is) a c step.Broken room
+pub section_unknown : (order : Order) (is : List Interface) (a b c : Option (List ℕ)) (head front room : List ℕ) → length head ≡ 8 → four_at High 0 head ≡ section_type
+    → Consumes a b front → Known (IsSectionBehind (head ++ front) None) b c → StepsBehind head (Blocks order is) a c step.Broken room
 section_unknown order is a b c head front room eight type so none =
     read_front (IsSectionBehind (head ++ front) None) (λ x y. IsStep (Blocks order is) step.Broken room (head ++ x) y) a b c front
     (λ y z f. section_broken order is head (front ++ y) eight type (λ o rest s. f o rest (subst (λ l. IsSection l o rest) (sym (append_assoc head front y)) s))) so none
 
-pub section_stands : (order : Order) (is : List Interface) (a b c : Option (List ℕ)) (head front room : List ℕ) (o : Order) (size : ℕ) → Consumes a b front → Known (IsSectionBehind (head ++ front) (Some (o, size))) b c → StepsBehind head (Blocks order is) a c (step.Found (record { item = item.Section o; size = size })) room
+pub section_stands : (order : Order) (is : List Interface) (a b c : Option (List ℕ)) (head front room : List ℕ) (o : Order) (size : ℕ) → Consumes a b front
+    → Known (IsSectionBehind (head ++ front) (Some (o, size))) b c
+    → StepsBehind head (Blocks order is) a c (step.Found (record { item = item.Section o; size = size })) room
 section_stands order is a b c head front room o size so found =
     let f : Found = record { item = item.Section o; size = size } in
     read_front (IsSectionBehind (head ++ front) (Some (o, size))) (λ x y. IsStep (Blocks order is) (step.Found f) room (head ++ x) y) a b c front
     (λ y z g. (inl (o, refl, subst (λ l. IsSection l o z) (append_assoc head front y) g.0), g.1 ∙ ap length (append_assoc head front y))) so found
 
 -- a header whose head was read before
-pub section_next : (order : Order) (is : List Interface) (a b c : Option (List ℕ)) (head room : List ℕ) (r : Result Step Stop) → Consumes a b head → IfOk r (λ s. (rest : List ℕ) → StepsBehind head (Blocks order is) b c s rest) → IfOk r (λ s. Steps (Blocks order is) a c s room)
+pub section_next : (order : Order) (is : List Interface) (a b c : Option (List ℕ)) (head room : List ℕ) (r : Result Step Stop) → Consumes a b head
+    → IfOk r (λ s. (rest : List ℕ) → StepsBehind head (Blocks order is) b c s rest) → IfOk r (λ s. Steps (Blocks order is) a c s room)
 section_next order is a b c head room (Ok s) so then = behind (IsStep (Blocks order is) s room) a b c head so (then room)
 section_next order is a b c head room (Err e) so then = tt

@@ -1,5 +1,7 @@
 -- What the reading functions find is what the figures say.
-use Rattle.std.proofs.Common.{◌≡◌, ◌≢◌, ℕ, zero, suc, ◌+◌, ◌-◌, ◌*◌, ◌/◌, ◌%◌, ◌<◌, ◌≤◌, List, [], ◌∷◌, length, take, drop, slice_index, slice_range, Option, Some, None, Bool, true, false, ◌==◌, ◌||◌, nat_lt, cond, ◌⊎◌, inl, inr, refl, sym, ap, ◌∙◌, arith, subst, IsTrue, take_all, length-drop}
+use Rattle.std.proofs.Common.{◌≡◌, ◌≢◌, ℕ, zero, suc, ◌+◌, ◌-◌, ◌*◌, ◌/◌, ◌%◌, ◌<◌, ◌≤◌, List, [], ◌∷◌, length, take, drop, slice_index, slice_range}
+use Rattle.std.proofs.Common.{Option, Some, None, Bool, true, false, ◌==◌, ◌||◌, nat_lt, cond, ◌⊎◌, inl, inr, refl, sym, ap, ◌∙◌, arith, subst}
+use Rattle.std.proofs.Common.{IsTrue, take_all, length-drop}
 use Rattle.std.specs.Int.{w16, from_be_bytes}
 use Rattle.std.proofs.lemmas.Bool.{cases_lt}
 use Rattle.std.proofs.lemmas.Bool.Decides.{nat_tests}
@@ -77,9 +79,12 @@ udp_only octets u is =
     let a : nat_lt (length octets) 8 ≡ false = grind (arith, nat_tests, is.head) in
     let b : nat_lt (two_at 4 octets) 8 ≡ false = grind (arith, nat_tests, is.size) in
     let had : two_at 4 octets - 8 ≡ u.had = omega (arith, is.size) in
-    rw (a, b) (udp_same (two_at 0 octets) (two_at 2 octets) (two_at 4 octets - 8) (take (two_at 4 octets - 8) (drop 8 octets)) u is.from is.to (sym had) (udp_held octets u is ∙ ap (λ n. take n (drop 8 octets)) (sym had)))
+    rw (a, b)
+    (udp_same (two_at 0 octets) (two_at 2 octets) (two_at 4 octets - 8) (take (two_at 4 octets - 8) (drop 8 octets)) u is.from is.to (sym had)
+    (udp_held octets u is ∙ ap (λ n. take n (drop 8 octets)) (sym had)))
 
-parcel_same : (a b : Ip) (f : Bool) (c : List ℕ) (p : Parcel) → p.from ≡ a → p.to ≡ b → p.fragment ≡ f → p.octets ≡ c → ◌≡◌ {A = Option Parcel} (Some (record { from = a; to = b; fragment = f; octets = c })) (Some p)
+parcel_same : (a b : Ip) (f : Bool) (c : List ℕ) (p : Parcel) → p.from ≡ a → p.to ≡ b → p.fragment ≡ f → p.octets ≡ c
+    → ◌≡◌ {A = Option Parcel} (Some (record { from = a; to = b; fragment = f; octets = c })) (Some p)
 parcel_same a b f c p q r m s =
     let one : Parcel → Option Parcel = λ v. Some v in
     ap (λ x. one (record { from = x; to = b; fragment = f; octets = c })) (sym q)
@@ -97,7 +102,10 @@ v4_only octets p words carried is =
     let total : nat_lt (two_at 2 octets) (4 * words) ≡ false = grind (arith, nat_tests, is.size) in
     let head : nat_lt (length octets) (4 * words) ≡ false = grind (arith, nat_tests, is.head) in
     let left : two_at 2 octets - 4 * words ≡ carried = omega (arith, is.size) in
-    let after : v4_after (4 * words) octets ≡ Some p = rw (some, total, head) (parcel_same (V4 (slice_range octets 12 16)) (V4 (slice_range octets 16 20)) (two_at 6 octets / 8192 % 2 == 1) (take (two_at 2 octets - 4 * words) (drop (4 * words) octets)) p is.from is.to is.more (is.inside ∙ ap (λ n. take n (drop (4 * words) octets)) (sym left))) in
+    let after : v4_after (4 * words) octets ≡ Some p =
+    rw (some, total, head) (parcel_same (V4 (slice_range octets 12 16)) (V4 (slice_range octets 16 20)) (two_at 6 octets / 8192 % 2 == 1)
+    (take (two_at 2 octets - 4 * words) (drop (4 * words) octets)) p is.from is.to is.more
+    (is.inside ∙ ap (λ n. take n (drop (4 * words) octets)) (sym left))) in
     rw (long, ap (λ n. n == 4) version, ap (λ n. n == 17) is.protocol, ap (λ n. n == 0) is.offset) (ap (λ n. v4_after (4 * n) octets) said ∙ after)
 
 pub v4_found : (octets : List ℕ) (p : Parcel) → v4_in octets ≡ Some p → CarriesV4 octets p
@@ -201,8 +209,17 @@ chain_found (suc steps) kind before octets i e = elim (kind == 17) as (λ v. (ki
   | false ↦ λ s.
       let b = bound_is (header_in kind octets) (λ h. chain_in steps h.next (before || h.more) h.rest) i (rw s at e) in
       let k = header_kept kind octets b.0 b.1 in
-      let more = chain_found steps b.0.next (before || b.0.more) b.0.rest i b.2 in
-      (suc more.0, (k.0, b.0.more, k.1, k.2, subst (λ o. IsChain more.0 (slice_index octets 0) (before || b.0.more) o i.fragment i.octets) k.4 (subst (λ n. IsChain more.0 n (before || b.0.more) b.0.rest i.fragment i.octets) k.3 more.1)))
+      let more = chain_found steps b.0.next (before || b.0.more) b.0.rest i b.2 in (
+        suc more.0,
+        (
+          k.0,
+          b.0.more,
+          k.1,
+          k.2,
+          subst (λ o. IsChain more.0 (slice_index octets 0) (before || b.0.more) o i.fragment i.octets) k.4
+              (subst (λ n. IsChain more.0 n (before || b.0.more) b.0.rest i.fragment i.octets) k.3 more.1),
+        ),
+      )
 ] refl
 
 inside_same : (f : Bool) (o : List ℕ) (i : Inside) → i.fragment ≡ f → i.octets ≡ o → ◌≡◌ {A = Option Inside} (Some (record { fragment = f; octets = o })) (Some i)
@@ -228,7 +245,8 @@ header_read kind octets size more (inr h) room =
     let found : header_in 44 octets ≡ one (two_at 2 octets % 2 == 1) 8 = rw (a, ap (λ n. n == 0) h.2) refl in
     (ap (λ k. header_in k octets) h.0 ∙ found ∙ ap (one (two_at 2 octets % 2 == 1)) (sym h.1) ∙ ap (λ m. one m size) (sym h.3), λ e. omega (arith, e, h.0))
 
-chain_only : (headers steps kind : ℕ) (before : Bool) (octets : List ℕ) (i : Inside) → length octets ≤ steps → IsChain headers kind before octets i.fragment i.octets → chain_in steps kind before octets ≡ Some i
+chain_only : (headers steps kind : ℕ) (before : Bool) (octets : List ℕ) (i : Inside) → length octets ≤ steps
+    → IsChain headers kind before octets i.fragment i.octets → chain_in steps kind before octets ≡ Some i
 chain_only zero steps kind before octets i room is = chain_done steps kind before octets is.0 ∙ inside_same before octets i is.1 is.2
 chain_only (suc n) steps kind before octets i room (size, more, header, fits, is) =
     let h : Header = record { next = slice_index octets 0; more = more; rest = drop size octets } in
@@ -242,7 +260,10 @@ v6_found octets p e =
     let carried = take (two_at 4 octets) (drop 40 octets) in
     let a = let_through (nat_lt (length octets) 40) _ p e in
     let b = kept (slice_index octets 0 / 16 == 6) _ p a.1 in
-    let c = bound_is (chain_in (length carried) (slice_index octets 6) false carried) (λ inside. Some (record { from = V6 (slice_range octets 8 24); to = V6 (slice_range octets 24 40); fragment = inside.fragment; octets = inside.octets })) p b.1 in
+    let c =
+    bound_is (chain_in (length carried) (slice_index octets 6) false carried) (λ inside.
+    Some (record { from = V6 (slice_range octets 8 24); to = V6 (slice_range octets 24 40); fragment = inside.fragment; octets = inside.octets })) p
+    b.1 in
     let is = some_is c.2 in
     let headers = chain_found (length carried) (slice_index octets 6) false carried c.0 c.1 in (
       headers.0,
@@ -333,8 +354,18 @@ packet_found ports link frame d e =
     let a = bound_is (inside_in link frame) _ d e in
     let b = bound_is (udp_in a.0.octets) _ d a.2 in
     let c = bound_is (plane_at ports b.0.from b.0.to) _ d b.2 in
-    let is = some_is c.2 in
-    (a.0, b.0, frame_found link frame a.0 a.1, udp_found a.0.octets b.0 b.1, c.1 ∙ ap (λ x. Some x) (ap (λ v. v.plane) is), sym (ap (λ v. v.from) is), sym (ap (λ v. v.to) is), sym (ap (λ v. v.fragment) is), sym (ap (λ v. v.had) is), sym (ap (λ v. v.octets) is))
+    let is = some_is c.2 in (
+      a.0,
+      b.0,
+      frame_found link frame a.0 a.1,
+      udp_found a.0.octets b.0 b.1,
+      c.1 ∙ ap (λ x. Some x) (ap (λ v. v.plane) is),
+      sym (ap (λ v. v.from) is),
+      sym (ap (λ v. v.to) is),
+      sym (ap (λ v. v.fragment) is),
+      sym (ap (λ v. v.had) is),
+      sym (ap (λ v. v.octets) is),
+    )
 
 v4_read : (octets : List ℕ) (p : Parcel) → CarriesV4 octets p → v4_in octets ≡ Some p
 v4_read octets p (words, carried, is) = v4_only octets p words carried is
@@ -407,7 +438,8 @@ packet_same a b f n l d p q m r s =
 pub packet_only : (ports : Ports) (link : ℕ) (frame : List ℕ) (d : Packet) → Carries ports link frame d → packet_in ports link frame ≡ Some d
 unfolding packet_in
 packet_only ports link frame d (p, u, inside, is, plane, from, to, fragment, had, octets) =
-    rw (frame_only link frame p inside, udp_only p.octets u is, plane) (packet_same (record { ip = p.from; port = u.from }) (record { ip = p.to; port = u.to }) p.fragment u.had u.held d from to fragment had octets)
+    rw (frame_only link frame p inside, udp_only p.octets u is, plane)
+    (packet_same (record { ip = p.from; port = u.from }) (record { ip = p.to; port = u.to }) p.fragment u.had u.held d from to fragment had octets)
 
 pub reads_what_is_carried : ReadsWhatIsCarried
 reads_what_is_carried ports link frame d = (packet_found ports link frame d, packet_only ports link frame d)

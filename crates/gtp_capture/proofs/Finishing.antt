@@ -11,7 +11,8 @@ use Rattle.gtp_capture.proofs.Pieces.{same_front}
 use Rattle.gtp_capture.proofs.KnownOctets.{known_then, known_map, read_one, read_all}
 
 -- there are fewer octets
-pub pass_short : (a b c : Option (List ℕ)) (front got : List ℕ) (left size : ℕ) → length front + left ≡ size → Known (λ x y. x ≡ front ++ y) a b → Consumes b c got → IsAtEnd c → length got < left → Known (Passes size false) a c
+pub pass_short : (a b c : Option (List ℕ)) (front got : List ℕ) (left size : ℕ) → length front + left ≡ size → Known (λ x y. x ≡ front ++ y) a b → Consumes b c got
+    → IsAtEnd c → length got < left → Known (Passes size false) a c
 pass_short a b c front got left size fits so then over few =
     known_then (λ x y. x ≡ front ++ y) (λ y z. y ≡ got) (Passes size false) a b c
     (λ x y z e f more rest long g. omega (arith, ap length (sym g ∙ e), length-append more rest, length-append front y, ap length f, long, fits, few))
@@ -30,7 +31,8 @@ number_is : (n m : ℕ) → nat_eq n m ≡ true → n ≡ m
 number_is n m s = grind (arith, nat_tests)
 
 -- whether four octets behind say the size
-pub finish_says : (order : Order) (many size n : ℕ) (a b c : Option (List ℕ)) (tail : List ℕ) → Known (Passes many true) a b → Consumes b c tail → length tail ≡ 4 → n ≡ four_at order 0 tail → Known (Finishes order many size (nat_eq n size)) a c
+pub finish_says : (order : Order) (many size n : ℕ) (a b c : Option (List ℕ)) (tail : List ℕ) → Known (Passes many true) a b → Consumes b c tail → length tail ≡ 4
+    → n ≡ four_at order 0 tail → Known (Finishes order many size (nat_eq n size)) a c
 finish_says order many size n a b c tail so then four says =
     elim (nat_eq n size) as (λ v. nat_eq n size ≡ v → Known (Finishes order many size v) a c) [
       | true ↦ λ e. known_then (Passes many true) (λ y z. y ≡ tail ++ z) (Finishes order many size true) a b c
@@ -45,7 +47,8 @@ finish_says order many size n a b c tail so then four says =
     ] refl
 
 -- fewer than four octets are behind
-pub finish_short : (order : Order) (many size : ℕ) (a b c : Option (List ℕ)) (tail : List ℕ) → Known (Passes many true) a b → Consumes b c tail → IsAtEnd c → length tail < 4 → Known (Finishes order many size false) a c
+pub finish_short : (order : Order) (many size : ℕ) (a b c : Option (List ℕ)) (tail : List ℕ) → Known (Passes many true) a b → Consumes b c tail → IsAtEnd c
+    → length tail < 4 → Known (Finishes order many size false) a c
 finish_short order many size a b c tail so then over few =
     known_then (Passes many true) (λ y z. y ≡ tail) (Finishes order many size false) a b c
     (λ x y z p q more rest is.

@@ -6,7 +6,15 @@ use Rattle.gtp_capture.specs.Capture.{State, Records, Blocks, Piece, Holds, Begi
 use Rattle.gtp_capture.specs.declared.octets.Order.{Order}
 
 block_shorter : (order : Order) (octets head body rest : List ℕ) → IsBlock order octets head body rest → length rest + 1 ≤ length octets
-block_shorter order octets head body rest is = omega (arith, ap length is.whole, is.start, length-append head (body ++ (is.tail ++ rest)), length-append body (is.tail ++ rest), length-append is.tail rest)
+block_shorter order octets head body rest is =
+    omega (
+      arith,
+      ap length is.whole,
+      is.start,
+      length-append head (body ++ (is.tail ++ rest)),
+      length-append body (is.tail ++ rest),
+      length-append is.tail rest,
+    )
 
 pub piece_shorter : (state : State) (octets : List ℕ) (p : Piece) (rest : List ℕ) → IsPiece state octets p rest → length rest + 1 ≤ length octets
 piece_shorter (Records k) octets p rest (f, same, is) = omega (arith, ap length is.whole, is.size, length-append is.head (f.octets ++ rest), length-append f.octets rest)

@@ -1,5 +1,6 @@
 -- What is written is read back.
-use Rattle.std.proofs.Common.{◌≡◌, ℕ, suc, ◌+◌, ◌^◌, ◌≤◌, ◌<◌, List, [], ◌∷◌, ◌++◌, length, Some, false, refl, sym, ap, ◌∙◌, subst, arith, take, drop, take_all, take_at, drop_at, append_assoc, length-append, inl, inr}
+use Rattle.std.proofs.Common.{◌≡◌, ℕ, suc, ◌+◌, ◌^◌, ◌≤◌, ◌<◌, List, [], ◌∷◌, ◌++◌, length, Some, false, refl, sym, ap, ◌∙◌, subst, arith, take, drop}
+use Rattle.std.proofs.Common.{take_all, take_at, drop_at, append_assoc, length-append, inl, inr}
 use Rattle.std.specs.List.{AllByRecursion}
 use Rattle.std.proofs.lemmas.Nat.{from_be_bytes-to_be_bytes_2, from_be_bytes-to_be_bytes_4}
 use Rattle.gtp_capture.specs.Octets.{four_at}
@@ -14,7 +15,8 @@ use Rattle.gtp_capture.specs.Seen.{datagrams, seen_as}
 use Rattle.gtp_capture.specs.Carries.{Carries}
 use Rattle.gtp_values.specs.declared.plane.Plane.{Plane}
 use Rattle.gtp_capture.specs.Packet.{Packet, plane_at}
-use Rattle.gtp_capture.specs.Writing.{Sent, kind_written, head_octets, udp_size, udp_octets, header_v4, header_v6, IsPacket, AreWhole, most_octets, ip_from, ip_to, record_head, AreWritten, HasRoom, seen_sent, seen_all, ReadsBack}
+use Rattle.gtp_capture.specs.Writing.{Sent, kind_written, head_octets, udp_size, udp_octets, header_v4, header_v6, IsPacket, AreWhole, most_octets}
+use Rattle.gtp_capture.specs.Writing.{ip_from, ip_to, record_head, AreWritten, HasRoom, seen_sent, seen_all, ReadsBack}
 use Rattle.gtp_capture.specs.declared.writing.Ends.{Ends}
 use Rattle.gtp_capture.specs.declared.writing.Ends.TheVariants.{V4, V6}
 use Rattle.gtp_capture.specs.declared.octets.Order.TheVariants.{High}
@@ -79,7 +81,15 @@ v6_is sum d from to ef et size =
     }
 
 abbrev packet_sent : Sent → Ends → Plane → Packet
-packet_sent d ends plane = record { from = record { ip = ip_from ends; port = d.from_port }; to = record { ip = ip_to ends; port = d.to_port }; plane = plane; fragment = false; had = length d.octets; octets = d.octets }
+packet_sent d ends plane =
+    record {
+      from = record { ip = ip_from ends; port = d.from_port };
+      to = record { ip = ip_to ends; port = d.to_port };
+      plane = plane;
+      fragment = false;
+      had = length d.octets;
+      octets = d.octets;
+    }
 
 carries : (ports : Ports) (d : Sent) (ends : Ends) (packet : List ℕ) (plane : Plane) → plane_at ports d.from_port d.to_port ≡ Some plane → d.from_port < 2 ^ 16 → d.to_port < 2 ^ 16
     → AreWhole ends → length d.octets ≤ most_octets ends → IsPacket ends d packet → Carries ports 101 packet (packet_sent d ends plane)
@@ -120,7 +130,8 @@ time_sent d = record { seconds = d.seconds; fraction = d.microseconds; unit = Mi
 abbrev frame_sent : List ℕ → Sent → Frame
 frame_sent packet d = record { time = time_sent d; link = 101; had = length packet; octets = packet }
 
-record_is : (packet : List ℕ) (d : Sent) (rest : List ℕ) → length packet ≤ 65575 → d.seconds < 2 ^ 32 → d.microseconds < 2 ^ 32 → IsRecord kind_written (record_head d (length packet) ++ (packet ++ rest)) (frame_sent packet d) rest
+record_is : (packet : List ℕ) (d : Sent) (rest : List ℕ) → length packet ≤ 65575 → d.seconds < 2 ^ 32 → d.microseconds < 2 ^ 32
+    → IsRecord kind_written (record_head d (length packet) ++ (packet ++ rest)) (frame_sent packet d) rest
 record_is packet d rest few seconds microseconds =
     let n = length packet in
     let size : n ≡ four_at High 8 (record_head d n) = sym (from_be_bytes-to_be_bytes_4 n (omega (arith, few))) in
@@ -129,7 +140,9 @@ record_is packet d rest few seconds microseconds =
       head = record_head d n;
       size = refl;
       whole = refl;
-      time = ap (λ s. timed s d.microseconds) (sym (from_be_bytes-to_be_bytes_4 d.seconds seconds)) ∙ ap (λ f. timed (four_at High 0 (record_head d n)) f) (sym (from_be_bytes-to_be_bytes_4 d.microseconds microseconds));
+      time =
+          ap (λ s. timed s d.microseconds) (sym (from_be_bytes-to_be_bytes_4 d.seconds seconds))
+          ∙ ap (λ f. timed (four_at High 0 (record_head d n)) f) (sym (from_be_bytes-to_be_bytes_4 d.microseconds microseconds));
       link = refl;
       held = size;
       limit = omega (arith, few);

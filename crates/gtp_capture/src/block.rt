@@ -10,11 +10,11 @@ ghost use Rattle.gtp_capture.specs.reading.Block.{Passes, Finishes};
 ghost use Rattle.gtp_capture.specs.declared.octets.Order.{Order as AnyOrder};
 ghost use Rattle.gtp_capture.specs.declared.octets.Order.TheVariants.{High};
 
+use crate::block_kind::{is_read_type, item_in};
 use crate::fault::Stop;
-use crate::filling::{fill, next_octets, refill};
 use crate::interface::Interface;
-use crate::meaning::{is_read_type, item_in};
 use crate::octets::{Order, four};
+use crate::read_exact::{fill, next_octets, refill};
 use crate::step::{Found, Item, Step};
 use gtp_counted::Counted;
 use std::io::Read;

@@ -13,8 +13,8 @@ ghost use Rattle.gtp_capture.specs.declared.head.Unit.{Unit as AnyUnit};
 
 use crate::block::{SECTION, finish_section};
 use crate::fault::Stop;
-use crate::filling::next_octets;
 use crate::octets::{Order, four, from, front};
+use crate::read_exact::next_octets;
 use crate::step::{Format, Started};
 use gtp_counted::Counted;
 use std::io::Read;

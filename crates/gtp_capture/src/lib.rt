@@ -3,21 +3,21 @@
 #![tactic(auto)]
 
 mod block;
+mod block_kind;
 mod captured;
 mod checksum;
 mod clock;
 mod fault;
-mod filling;
 mod head;
 mod interface;
 mod internet;
 mod laws;
 mod link;
-mod meaning;
 mod octets;
 mod options;
 mod packet;
 mod ports;
+mod read_exact;
 mod reading;
 mod record;
 mod step;

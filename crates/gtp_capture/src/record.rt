@@ -7,9 +7,9 @@ ghost use Rattle.gtp_capture.specs.Outcome.{Steps};
 
 use crate::captured::Time;
 use crate::fault::Stop;
-use crate::filling::{next_octets, refill};
 use crate::head::Kind;
 use crate::octets::four;
+use crate::read_exact::{next_octets, refill};
 use crate::step::{Found, Head, Item, Step};
 use gtp_counted::Counted;
 use std::io::Read;

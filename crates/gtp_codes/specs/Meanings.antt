@@ -11,7 +11,7 @@ control_faults =
     ∷ (codes "H4", ([], codes "the header has a TEID where its type has none, or none where it has one (TS 29.274 5.5.1)"))
     ∷ (codes "H5", ([], codes "a second message is announced and missing, or announces a third (TS 29.274 5.5.1); at: its place in the datagram"))
     ∷ (codes "H6", ([], codes "an element is missing that must be there (TS 29.274 7.7.6)"))
-    ∷ (codes "H7", (codes "I1", codes "the datagram ends within an element (TS 29.274 7.7.7); at: the place of its header"))
+    ∷ (codes "H7", (codes "I1", codes "the elements of a message or of a bearer context end within an element (TS 29.274 7.7.7); at: the place of its header"))
     ∷ (codes "H7", (codes "I2", codes "an element is shorter than its form (TS 29.274 7.7.7); at: the place of its header"))
     ∷ (codes "H7", (codes "I3", codes "the value of an element is not allowed (TS 29.274 7.7.8); at: the place of its header"))
     ∷ []

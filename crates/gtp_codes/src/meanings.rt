@@ -26,7 +26,7 @@ fn control_faults() -> &'static [Meaning]
         "H4" "" "the header has a TEID where its type has none, or none where it has one (TS 29.274 5.5.1)",
         "H5" "" "a second message is announced and missing, or announces a third (TS 29.274 5.5.1); at: its place in the datagram",
         "H6" "" "an element is missing that must be there (TS 29.274 7.7.6)",
-        "H7" "I1" "the datagram ends within an element (TS 29.274 7.7.7); at: the place of its header",
+        "H7" "I1" "the elements of a message or of a bearer context end within an element (TS 29.274 7.7.7); at: the place of its header",
         "H7" "I2" "an element is shorter than its form (TS 29.274 7.7.7); at: the place of its header",
         "H7" "I3" "the value of an element is not allowed (TS 29.274 7.7.8); at: the place of its header",
     ];

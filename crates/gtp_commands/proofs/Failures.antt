@@ -13,6 +13,7 @@ no_packet_by faults.Read number is = absurd (cc is)
 no_packet_by faults.Write number is = absurd (cc is)
 no_packet_by (faults.NoPacket other) number is = let same : other ≡ number = cc is in ap (λ n. faults.NoPacket n) same
 
-pub no_packet_from : {A : Type 0} (answer : Result A Failure) (fault : ReplayFault) (number : ℕ) → IsErrAnd answer (λ failure. failure ≡ failure_by fault) → answer ≡ Err (NoPacket number) → fault ≡ faults.NoPacket number
+pub no_packet_from : {A : Type 0} (answer : Result A Failure) (fault : ReplayFault) (number : ℕ) → IsErrAnd answer (λ failure. failure ≡ failure_by fault)
+    → answer ≡ Err (NoPacket number) → fault ≡ faults.NoPacket number
 no_packet_from (Ok a) fault number gives is = absurd gives
 no_packet_from (Err failure) fault number gives is = let here : failure ≡ NoPacket number = cc is in no_packet_by fault number (sym gives ∙ here)

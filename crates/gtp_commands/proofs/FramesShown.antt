@@ -1,5 +1,6 @@
 -- What a writer of the lines of datagrams has.
-use Rattle.std.proofs.Common.{◌≡◌, ◌≢◌, ◌⊎◌, ℕ, suc, ◌+◌, ◌-◌, ◌^◌, ◌<◌, ◌≤◌, Bool, true, false, List, [], ◌∷◌, ◌++◌, length, length-append, Option, Some, None, Result, Err, inl, inr, refl, sym, ap, subst, ◌∙◌, arith}
+use Rattle.std.proofs.Common.{◌≡◌, ◌≢◌, ◌⊎◌, ℕ, suc, ◌+◌, ◌-◌, ◌^◌, ◌<◌, ◌≤◌, Bool, true, false, List, [], ◌∷◌, ◌++◌, length, length-append, Option}
+use Rattle.std.proofs.Common.{Some, None, Result, Err, inl, inr, refl, sym, ap, subst, ◌∙◌, arith}
 use Rattle.std.specs.Int.{from_bool}
 use Rattle.std.specs.Io.KnownBytes.{Appends}
 use Rattle.std.proofs.KnownBytes.{Appends-trans}
@@ -22,7 +23,8 @@ use Rattle.gtp_capture.specs.declared.fault.CaptureFault.TheVariants.{Broken}
 use Rattle.gtp_commands.specs.Captured.{nothing_shown, is_cut, counted, AreShown, TakesFrame, IsFull, IsUnshown, IsFrameInPart, RefusesFrame, AreWritten, IsBrokenShown, IsFirstShown, IsNextShown}
 use Rattle.gtp_commands.specs.Stops.{StopsCapture}
 use Rattle.gtp_commands.specs.declared.command.Failure.{Failure}
-use Rattle.gtp_commands.specs.declared.command.Failure.TheVariants.{BadWords, BadPort, BadFilter, BadHex, BadCode, BadGateway, BadCapture, BrokenCapture, Memory, Read, TooLong, Write, Closed, NoPacket}
+use Rattle.gtp_commands.specs.declared.command.Failure.TheVariants.{BadWords, BadPort, BadFilter, BadHex, BadCode, BadGateway, BadCapture}
+use Rattle.gtp_commands.specs.declared.command.Failure.TheVariants.{BrokenCapture, Memory, Read, TooLong, Write, Closed, NoPacket}
 use Rattle.gtp_commands.specs.declared.capturing.Counts.{Counts}
 use Rattle.gtp_commands.specs.declared.capturing.FrameWriter.{FrameWriter}
 
@@ -38,7 +40,8 @@ appends_nothing : (known : Option (List ℕ)) → Appends known known []
 appends_nothing None = tt
 appends_nothing (Some octets) = sym (append-nil octets)
 
-pub has_shown : {W : Type 0} (contents : W → Option (List ℕ)) (before : FrameWriter W) (ds : List Seen) (after : FrameWriter W) → Takes (TakesFrame contents) before ds after → HasShown contents before ds after
+pub has_shown : {W : Type 0} (contents : W → Option (List ℕ)) (before : FrameWriter W) (ds : List Seen) (after : FrameWriter W)
+    → Takes (TakesFrame contents) before ds after → HasShown contents before ds after
 has_shown contents before [] after same =
     record {
       text = [];
@@ -59,7 +62,8 @@ has_shown contents before (d ∷ ds) after (next, inl (out, same), later) =
 has_shown contents before (d ∷ ds) after (next, inr (lines, faulty, shows, form, written, counts, failed), later) =
     let rest = has_shown contents next ds after later in
     let others : AreShown before.asked (counted before.counts d.packet faulty) ds rest.text after.counts =
-    subst (λ (f : FramesAsked). AreShown f (counted before.counts d.packet faulty) ds rest.text after.counts) form (subst (λ (c : Counts). AreShown next.asked c ds rest.text after.counts) counts rest.lines) in
+    subst (λ (f : FramesAsked). AreShown f (counted before.counts d.packet faulty) ds rest.text after.counts) form
+    (subst (λ (c : Counts). AreShown next.asked c ds rest.text after.counts) counts rest.lines) in
     record {
       text = lines ++ rest.text;
       lines = inr (lines, faulty, rest.text, shows, others, refl);
@@ -72,7 +76,9 @@ pub same_failure : (a b : Failure) → ◌≡◌ {A = Result ℕ Failure} (Err a
 same_failure a b e = cc
 
 -- so the writer has the lines of these frames' datagrams, and counts them
-pub frames_shown : {W : Type 0} (contents : W → Option (List ℕ)) (ports : Ports) (before after : FrameWriter W) (frames : List Frame) → before.counts ≡ nothing_shown → Takes (TakesFrame contents) before (datagrams ports 1 frames) after → AreWritten before.asked ports frames (contents (inner_of before.out)) (contents (inner_of after.out)) after.counts
+pub frames_shown : {W : Type 0} (contents : W → Option (List ℕ)) (ports : Ports) (before after : FrameWriter W) (frames : List Frame) → before.counts ≡ nothing_shown
+    → Takes (TakesFrame contents) before (datagrams ports 1 frames) after
+    → AreWritten before.asked ports frames (contents (inner_of before.out)) (contents (inner_of after.out)) after.counts
 frames_shown contents ports before after frames none taken =
     let shown = has_shown contents before (datagrams ports 1 frames) after taken in
     record {
@@ -82,13 +88,19 @@ frames_shown contents ports before after frames none taken =
     }
 
 -- where no record or block stands from an octet on, those of the frames before it
-pub broken_shown : {W : Type 0} (contents : W → Option (List ℕ)) (ports : Ports) (file : List ℕ) (before after : FrameWriter W) (at : ℕ) → before.counts ≡ nothing_shown → IsRead ports (TakesFrame contents) (RefusesFrame contents) file before after (Err (Broken at)) → IsBrokenShown before.asked ports file (contents (inner_of before.out)) (contents (inner_of after.out)) at
-broken_shown contents ports file before after at none (state, frames, rest, hands, broken, place) = (state, frames, rest, after.counts, hands.capture, broken, place, frames_shown contents ports before after frames none hands.taken)
+pub broken_shown : {W : Type 0} (contents : W → Option (List ℕ)) (ports : Ports) (file : List ℕ) (before after : FrameWriter W) (at : ℕ)
+    → before.counts ≡ nothing_shown → IsRead ports (TakesFrame contents) (RefusesFrame contents) file before after (Err (Broken at))
+    → IsBrokenShown before.asked ports file (contents (inner_of before.out)) (contents (inner_of after.out)) at
+broken_shown contents ports file before after at none (state, frames, rest, hands, broken, place) =
+    (state, frames, rest, after.counts, hands.capture, broken, place, frames_shown contents ports before after frames none hands.taken)
 
 -- where a read failed or memory was wanting, those of some first frames, or none
-pub first_shown : {W : Type 0} (contents : W → Option (List ℕ)) (ports : Ports) (file : List ℕ) (before after : FrameWriter W) → before.counts ≡ nothing_shown → HandsOnSome ports (TakesFrame contents) file before after → IsFirstShown before.asked ports file (contents (inner_of before.out)) (contents (inner_of after.out))
+pub first_shown : {W : Type 0} (contents : W → Option (List ℕ)) (ports : Ports) (file : List ℕ) (before after : FrameWriter W) → before.counts ≡ nothing_shown
+    → HandsOnSome ports (TakesFrame contents) file before after
+    → IsFirstShown before.asked ports file (contents (inner_of before.out)) (contents (inner_of after.out))
 first_shown contents ports file before after none (inl same) = inl (ap (λ (w : FrameWriter _). contents (inner_of w.out)) same)
-first_shown contents ports file before after none (inr (state, frames, rest, hands)) = inr (state, frames, rest, after.counts, hands.capture, frames_shown contents ports before after frames none hands.taken)
+first_shown contents ports file before after none (inr (state, frames, rest, hands)) =
+    inr (state, frames, rest, after.counts, hands.capture, frames_shown contents ports before after frames none hands.taken)
 
 -- what is known where a writer did not show a datagram
 abbrev pub Refusal : {W : Type 0} → Failure → FrameWriter W → FrameWriter W → Type 0
@@ -98,7 +110,8 @@ Refusal Write before after = FailedOnce before.out after.out
 Refusal Closed before after = ClosedOnce before.out after.out
 Refusal other before after = ⊥
 
-refusal_by : {W : Type 0} (before middle after : FrameWriter W) (why : Failure) → failures_of before.out < 2 ^ 64 - 1 → NoneFailed before.out middle.out → IsUnshown why middle after → Refusal why before after
+refusal_by : {W : Type 0} (before middle after : FrameWriter W) (why : Failure) → failures_of before.out < 2 ^ 64 - 1 → NoneFailed before.out middle.out
+    → IsUnshown why middle after → Refusal why before after
 refusal_by before middle after Memory few kept is = ap failures_of is ∙ kept
 refusal_by before middle after TooLong few kept is = ap failures_of is.0 ∙ kept
 refusal_by before middle after Write few kept is = let failed = is (omega (arith, few, kept)) in (failed.0 ∙ ap (λ n. n + 1) kept, failed.1)
@@ -115,15 +128,18 @@ refusal_by before middle after Read few kept is = absurd is
 refusal_by before middle after (NoPacket number) few kept is = absurd is
 
 -- why the writer notes that it did not show one
-noted_why : {W : Type 0} (contents : W → Option (List ℕ)) (middle after : FrameWriter W) (d : Seen) (why : Failure) → RefusesFrame contents middle d after → after.unshown ≡ Some why → IsUnshown why middle after
+noted_why : {W : Type 0} (contents : W → Option (List ℕ)) (middle after : FrameWriter W) (d : Seen) (why : Failure) → RefusesFrame contents middle d after
+    → after.unshown ≡ Some why → IsUnshown why middle after
 noted_why contents middle after d why (noted, says, is, front) also =
     let same : noted ≡ why = cc in
     subst (λ (f : Failure). IsUnshown f middle after) same is
 
-pub noted_as : {W : Type 0} (contents : W → Option (List ℕ)) (takes : FrameWriter W → Seen → FrameWriter W → Type 0) (before after : FrameWriter W) (why : Failure) → TakesNoMore takes (RefusesFrame contents) before after → why ≡ unwrap_or after.unshown Memory → after.unshown ≡ Some why
+pub noted_as : {W : Type 0} (contents : W → Option (List ℕ)) (takes : FrameWriter W → Seen → FrameWriter W → Type 0) (before after : FrameWriter W)
+    (why : Failure) → TakesNoMore takes (RefusesFrame contents) before after → why ≡ unwrap_or after.unshown Memory → after.unshown ≡ Some why
 noted_as contents takes before after why (middle, d, took, (noted, says, is, front)) told = says ∙ ap (λ (f : Failure). Some f) (sym (told ∙ ap (λ (o : Option Failure). unwrap_or o Memory) says))
 
-pub refusal : {W : Type 0} (contents : W → Option (List ℕ)) (before after : FrameWriter W) (why : Failure) → failures_of before.out < 2 ^ 64 - 1 → TakesNoMore (TakesFrame contents) (RefusesFrame contents) before after → after.unshown ≡ Some why → Refusal why before after
+pub refusal : {W : Type 0} (contents : W → Option (List ℕ)) (before after : FrameWriter W) (why : Failure) → failures_of before.out < 2 ^ 64 - 1
+    → TakesNoMore (TakesFrame contents) (RefusesFrame contents) before after → after.unshown ≡ Some why → Refusal why before after
 refusal contents before after why few (middle, d, took, refused) noted =
     refusal_by before middle after why few (has_shown contents before took.0 middle took.1).failed (noted_why contents middle after d why refused noted)
 
@@ -166,7 +182,8 @@ refusal_first before after why is (inr (inl read)) = absurd (subst (λ (f : Fail
 refusal_first before after why is (inr (inr long)) = inr long
 
 -- a write that failed is why
-pub unwritten_why : {W : Type 0} (before after : FrameWriter W) (kind : ErrorKind) (why : Failure) → OneFailed kind before.out after.out → (why ≡ Closed → kind ≡ BrokenPipe) → (why ≡ Write → kind ≢ BrokenPipe) → (why ≡ Closed) ⊎ (why ≡ Write) → IsUnshown why before after
+pub unwritten_why : {W : Type 0} (before after : FrameWriter W) (kind : ErrorKind) (why : Failure) → OneFailed kind before.out after.out
+    → (why ≡ Closed → kind ≡ BrokenPipe) → (why ≡ Write → kind ≢ BrokenPipe) → (why ≡ Closed) ⊎ (why ≡ Write) → IsUnshown why before after
 unwritten_why before after kind why failed closed write (inl is) =
     subst (λ (f : Failure). IsUnshown f before after) (sym is) (λ few. (failed.0 few, failed.1 ∙ ap (λ (k : ErrorKind). Some k) (closed is)))
 unwritten_why before after kind why failed closed write (inr is) =
@@ -183,11 +200,23 @@ nothing_more middle after why (inl memory) is = subst (λ (f : Failure). IsUnsho
 nothing_more middle after why (inr long) is = (subst (λ (f : Failure). IsUnshown f middle after) long is).0
 
 -- so too where the writer wanted memory, or a count was at its end
-pub first_refused : {W : Type 0} (contents : W → Option (List ℕ)) (ports : Ports) (file : List ℕ) (before after : FrameWriter W) (why : Failure) → before.counts ≡ nothing_shown → after.unshown ≡ Some why → (why ≡ Memory) ⊎ (why ≡ TooLong) → StopsAt ports (TakesFrame contents) (RefusesFrame contents) file before after → IsFirstShown before.asked ports file (contents (inner_of before.out)) (contents (inner_of after.out))
+pub first_refused : {W : Type 0} (contents : W → Option (List ℕ)) (ports : Ports) (file : List ℕ) (before after : FrameWriter W) (why : Failure)
+    → before.counts ≡ nothing_shown → after.unshown ≡ Some why → (why ≡ Memory) ⊎ (why ≡ TooLong)
+    → StopsAt ports (TakesFrame contents) (RefusesFrame contents) file before after
+    → IsFirstShown before.asked ports file (contents (inner_of before.out)) (contents (inner_of after.out))
 first_refused contents ports file before after why none noted which stops =
     let same = nothing_more stops.middle after why which (noted_why contents stops.middle after stops.refused.0 why stops.refused.2 noted) in
     let written = frames_shown contents ports before stops.middle stops.frames none stops.taken.taken in
-    inr (stops.state, stops.frames, stops.rest, stops.middle.counts, stops.taken.capture, subst (λ (w : Counted _). AreWritten before.asked ports stops.frames (contents (inner_of before.out)) (contents (inner_of w)) stops.middle.counts) (sym same) written)
+    inr (
+      stops.state,
+      stops.frames,
+      stops.rest,
+      stops.middle.counts,
+      stops.taken.capture,
+      subst
+          (λ (w : Counted _). AreWritten before.asked ports stops.frames (contents (inner_of before.out)) (contents (inner_of w)) stops.middle.counts)
+          (sym same) written,
+    )
 
 -- no more is counted than there are datagrams
 pub record AtMost (most : ℕ) (c : Counts) : Type 0 where
@@ -208,7 +237,8 @@ one_more most c p faulty few = record {
   fragments = omega (arith, few.fragments, bool_few p.fragment);
 }
 
-shown_few : (asked : FramesAsked) (most : ℕ) (before : Counts) (ds : List Seen) (text : List ℕ) (after : Counts) → AtMost most before → AreShown asked before ds text after → AtMost (most + length ds) after
+shown_few : (asked : FramesAsked) (most : ℕ) (before : Counts) (ds : List Seen) (text : List ℕ) (after : Counts) → AtMost most before
+    → AreShown asked before ds text after → AtMost (most + length ds) after
 shown_few asked most before [] text after few (none, same) = record {
   gtp = omega (arith, few.gtp, ap (λ (c : Counts). c.gtp) same);
   faults = omega (arith, few.faults, ap (λ (c : Counts). c.faults) same);
@@ -238,21 +268,32 @@ full_long most c few (inr (inr (inl is))) = omega (arith, is, few.cut)
 full_long most c few (inr (inr (inr is))) = omega (arith, is, few.fragments)
 
 -- a count is at its end only in a file of so many octets
-pub long_refused : {W : Type 0} (contents : W → Option (List ℕ)) (ports : Ports) (file : List ℕ) (before after : FrameWriter W) → before.counts ≡ nothing_shown → after.unshown ≡ Some TooLong → StopsAt ports (TakesFrame contents) (RefusesFrame contents) file before after → 2 ^ 64 - 1 ≤ length file
+pub long_refused : {W : Type 0} (contents : W → Option (List ℕ)) (ports : Ports) (file : List ℕ) (before after : FrameWriter W) → before.counts ≡ nothing_shown
+    → after.unshown ≡ Some TooLong → StopsAt ports (TakesFrame contents) (RefusesFrame contents) file before after → 2 ^ 64 - 1 ≤ length file
 long_refused contents ports file before after none noted stops =
     let written = frames_shown contents ports before stops.middle stops.frames none stops.taken.taken in
     let full = (noted_why contents stops.middle after stops.refused.0 TooLong stops.refused.2 noted).1 in
     let nothing : AtMost 0 nothing_shown = record { gtp = omega arith; faults = omega arith; cut = omega arith; fragments = omega arith } in
     let few = shown_few before.asked 0 nothing_shown (datagrams ports 1 stops.frames) written.text stops.middle.counts nothing written.lines in
-    omega (arith, full_long (0 + length (datagrams ports 1 stops.frames)) stops.middle.counts few full, datagrams_few ports 1 stops.frames, frames_fit file stops.state stops.frames stops.rest stops.taken.capture)
+    omega (
+      arith,
+      full_long (0 + length (datagrams ports 1 stops.frames)) stops.middle.counts few full,
+      datagrams_few ports 1 stops.frames,
+      frames_fit file stops.state stops.frames stops.rest stops.taken.capture,
+    )
 
 -- a beginning of the lines of the datagram at which a write failed
-front_noted : {W : Type 0} (contents : W → Option (List ℕ)) (middle after : FrameWriter W) (d : Seen) (why : Failure) → RefusesFrame contents middle d after → after.unshown ≡ Some why → (why ≡ Write) ⊎ (why ≡ Closed) → IsFrameInPart middle.asked d (contents (inner_of middle.out)) (contents (inner_of after.out))
+front_noted : {W : Type 0} (contents : W → Option (List ℕ)) (middle after : FrameWriter W) (d : Seen) (why : Failure) → RefusesFrame contents middle d after
+    → after.unshown ≡ Some why → (why ≡ Write) ⊎ (why ≡ Closed)
+    → IsFrameInPart middle.asked d (contents (inner_of middle.out)) (contents (inner_of after.out))
 front_noted contents middle after d why (noted, says, is, front) also which =
     let same : noted ≡ why = cc in
     front (subst (λ (f : Failure). (f ≡ Write) ⊎ (f ≡ Closed)) (sym same) which)
 
-pub next_shown : {W : Type 0} (contents : W → Option (List ℕ)) (ports : Ports) (file : List ℕ) (before after : FrameWriter W) (why : Failure) → before.counts ≡ nothing_shown → after.unshown ≡ Some why → (why ≡ Write) ⊎ (why ≡ Closed) → StopsAt ports (TakesFrame contents) (RefusesFrame contents) file before after → IsNextShown before.asked ports file (contents (inner_of before.out)) (contents (inner_of after.out))
+pub next_shown : {W : Type 0} (contents : W → Option (List ℕ)) (ports : Ports) (file : List ℕ) (before after : FrameWriter W) (why : Failure)
+    → before.counts ≡ nothing_shown → after.unshown ≡ Some why → (why ≡ Write) ⊎ (why ≡ Closed)
+    → StopsAt ports (TakesFrame contents) (RefusesFrame contents) file before after
+    → IsNextShown before.asked ports file (contents (inner_of before.out)) (contents (inner_of after.out))
 next_shown contents ports file before after why none noted which stops =
     let (d, carries, refuses) = stops.refused in
     let form = (has_shown contents before (datagrams ports 1 stops.frames) stops.middle stops.taken.taken).asked in
@@ -269,5 +310,7 @@ next_shown contents ports file before after why none noted which stops =
       stands = stops.stands;
       datagram = d;
       carries = carries;
-      front = subst (λ (f : FramesAsked). IsFrameInPart f d (contents (inner_of stops.middle.out)) (contents (inner_of after.out))) form (front_noted contents stops.middle after d why refuses noted which);
+      front =
+          subst (λ (f : FramesAsked). IsFrameInPart f d (contents (inner_of stops.middle.out)) (contents (inner_of after.out))) form
+          (front_noted contents stops.middle after d why refuses noted which);
     }

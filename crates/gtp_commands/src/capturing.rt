@@ -12,8 +12,8 @@ ghost use Rattle.gtp_commands.specs.Stops.{TellsReads, TellsClosed, StopsCounts,
 use crate::command::Failure;
 use crate::dumping::BUFFERED;
 use crate::hinting::{hint_of_broken, hint_of_capture};
-use crate::kept::Watched;
 use crate::replaying::unopened;
+use crate::watched_readers::Watched;
 use gtp_capture::{CaptureFault, Captured, Packet, Ports, Refused, Sink, Stop, read_capture};
 use gtp_counted::{Counted, Failed};
 use gtp_json::{Members, frame_json};

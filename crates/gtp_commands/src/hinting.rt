@@ -2,7 +2,7 @@
 
 use crate::command::{Failure, command};
 use crate::flags::{imsi_of, kinds_of, teid_of};
-use crate::kept::Watched;
+use crate::watched_readers::Watched;
 use clap::ArgMatches;
 use gtp_capture::begins_as_capture;
 use gtp_dump::{Flaw, Hint, LineFault, begins_dump, flaw_of, hint_of, read_line, row_digits};

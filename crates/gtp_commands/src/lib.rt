@@ -8,12 +8,12 @@ mod dumping;
 mod explaining;
 mod flags;
 mod hinting;
-mod kept;
 mod replaying;
 mod running;
 mod serving;
 mod showing;
 mod unexpected;
+mod watched_readers;
 
 pub use command::Failure;
 pub use hinting::hint;

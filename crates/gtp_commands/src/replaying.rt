@@ -10,8 +10,8 @@ ghost use Rattle.gtp_commands.specs.Stops.{TellsReads, TellsWrites, StopsReplay}
 
 use crate::command::Failure;
 use crate::hinting::hint_of_scenario;
-use crate::kept::Kept;
 use crate::unexpected::hint_of_unmet;
+use crate::watched_readers::Kept;
 use gtp_counted::Counted;
 use gtp_replay::{Form, Verdict, replay};
 use std::alloc::Global;

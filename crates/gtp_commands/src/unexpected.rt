@@ -35,10 +35,10 @@ pub fn hint_of_unmet<R: Eprint>(
     };
     match expected_of(&scenario.entries, event) {
         Some(word) => eprintln!(rt;
-            "gtpshow: {name}: event {event} is not {word:?}, as its entry expects"
+            "gtpshow: {name}: event {event} came to something else than {word:?}, which its entry expects"
         ),
         None => eprintln!(rt;
-            "gtpshow: {name}: event {event} is refused, dropped or impossible, which its entry does not expect"
+            "gtpshow: {name}: event {event} was refused, dropped or impossible, and its entry expects none of these"
         ),
     }
 }

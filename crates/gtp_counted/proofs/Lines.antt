@@ -1,5 +1,7 @@
 -- What is held of a line, a part at a time.
-use Rattle.std.proofs.Common.{◌≡◌, ◌≢◌, ℕ, ◌+◌, ◌-◌, ◌^◌, ◌<◌, ◌≤◌, All, Bool, eqb, cond, List, [], ◌∷◌, ◌++◌, length, take, Option, Some, None, IfSome, true, false, inl, inr, refl, sym, ap, subst, ◌∙◌, append-nil, arith, length-append, length-take, take_all, take-take, le_refl, length-take-le}
+use Rattle.std.proofs.Common.{◌≡◌, ◌≢◌, ℕ, ◌+◌, ◌-◌, ◌^◌, ◌<◌, ◌≤◌, All, Bool, eqb, cond, List, [], ◌∷◌, ◌++◌, length, take, Option, Some, None}
+use Rattle.std.proofs.Common.{IfSome, true, false, inl, inr, refl, sym, ap, subst, ◌∙◌, append-nil, arith, length-append, length-take, take_all}
+use Rattle.std.proofs.Common.{take-take, le_refl, length-take-le}
 use Rattle.std.proofs.lemmas.List.{take-append-le}
 use Rattle.std.proofs.Math.Seq.{take-nil}
 use Rattle.std.proofs.lemmas.List.Elements.{All-nil, All-append}
@@ -78,7 +80,8 @@ none_yet None = tt
 none_yet (Some xs) = sym (append-nil xs)
 
 -- lines at the beginning of octets, and one more
-pub one_more : (octets : List ℕ) (lines : List (List ℕ)) (rest : List ℕ) → BeginsWithLines octets lines rest → rest ≢ [] → BeginsWithLines octets (lines ++ take_through 10 rest ∷ []) (drop_through 10 rest)
+pub one_more : (octets : List ℕ) (lines : List (List ℕ)) (rest : List ℕ) → BeginsWithLines octets lines rest → rest ≢ []
+    → BeginsWithLines octets (lines ++ take_through 10 rest ∷ []) (drop_through 10 rest)
 one_more octets [] rest same some = ((λ none. some (sym same ∙ none)), ap (take_through 10) (sym same), ap (drop_through 10) same)
 one_more octets (line ∷ lines) rest (left, is, begins) some = (left, is, one_more (drop_through 10 octets) lines rest begins some)
 
@@ -99,7 +102,8 @@ pub lasts_none : (a : Option (List ℕ)) → Lasts 0 a a
 lasts_none None = tt
 lasts_none (Some xs) = omega arith
 
-both_parts_from : (x : ℕ) (xs : List ℕ) (b : Bool) → length (take_through 10 xs) + length (drop_through 10 xs) ≡ length xs → length (cond b (x ∷ []) (x ∷ take_through 10 xs)) + length (cond b xs (drop_through 10 xs)) ≡ length (x ∷ xs)
+both_parts_from : (x : ℕ) (xs : List ℕ) (b : Bool) → length (take_through 10 xs) + length (drop_through 10 xs) ≡ length xs
+    → length (cond b (x ∷ []) (x ∷ take_through 10 xs)) + length (cond b xs (drop_through 10 xs)) ≡ length (x ∷ xs)
 both_parts_from x xs true e = omega arith
 both_parts_from x xs false e = omega (arith, e)
 
@@ -107,7 +111,8 @@ pub both_parts : (xs : List ℕ) → length (take_through 10 xs) + length (drop_
 both_parts [] = refl
 both_parts (x ∷ xs) = both_parts_from x xs (eqb x 10) (both_parts xs)
 
-pub lasts_more : (most count : ℕ) (a b c : Option (List ℕ)) (held : List ℕ) → Lasts count a b → IfSome b (λ xs. held ≡ take most (take_through 10 xs)) → DropsThrough b c 10 → 0 < length held → Lasts (count + 1) a c
+pub lasts_more : (most count : ℕ) (a b c : Option (List ℕ)) (held : List ℕ) → Lasts count a b → IfSome b (λ xs. held ≡ take most (take_through 10 xs))
+    → DropsThrough b c 10 → 0 < length held → Lasts (count + 1) a c
 lasts_more most count None b c held so is drops some = tt
 lasts_more most count (Some xs) None c held so is drops some = absurd so
 lasts_more most count (Some xs) (Some ys) None held so is drops some = absurd (subst is_known (sym drops) tt)

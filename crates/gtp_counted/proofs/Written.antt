@@ -38,7 +38,14 @@ front_kept a b c text (rest, so) kept = (rest, record { front = so.front; whole 
 
 -- one of a text after another text
 pub front_after : (a b c : Option (List ℕ)) (first text : List ℕ) → Appends a b first → WritesFront b c text → WritesFront a c (first ++ text)
-front_after a b c first text written (rest, so) = (rest, record { front = first ++ so.front; whole = append_assoc first so.front rest ∙ ap (λ l. first ++ l) so.whole; grown = Appends-trans a b c first so.front written so.grown })
+front_after a b c first text written (rest, so) = (
+  rest,
+  record {
+    front = first ++ so.front;
+    whole = append_assoc first so.front rest ∙ ap (λ l. first ++ l) so.whole;
+    grown = Appends-trans a b c first so.front written so.grown;
+  },
+)
 
 -- one of a text with more after it
 pub front_before : (a b : Option (List ℕ)) (text more : List ℕ) → WritesFront a b text → WritesFront a b (text ++ more)

@@ -71,7 +71,8 @@ goes_to : (j : Bool) (n m : ℕ) (line : List ℕ) → (j ≡ false → n ≡ m)
 goes_to true n m line same goes = goes
 goes_to false n m line same goes = subst (λ k. GoesOnAt false k line) (same refl) goes
 
-pub stands_more : (join : Bool) (start : ℕ) (kept after : Kept) (held : List (List ℕ)) (line : List ℕ) → Stands join start (Some kept) held → GoesOnAt kept.is_joined kept.octets line → after.is_joined ≡ kept.is_joined
+pub stands_more : (join : Bool) (start : ℕ) (kept after : Kept) (held : List (List ℕ)) (line : List ℕ) → Stands join start (Some kept) held
+    → GoesOnAt kept.is_joined kept.octets line → after.is_joined ≡ kept.is_joined
     → IsKept start after (held ++ line ∷ []) → Stands join start (Some after) (held ++ line ∷ [])
 stands_more join start kept after held line stands goes same is = (
   is,

@@ -29,7 +29,8 @@ lines_both es fs = flat_map-append (λ (e : List (List ℕ)). e) es fs
 tell_more : (asked : Asked) (a b c : Tally) (entries more : List (List (List ℕ))) (next o p e f : List ℕ)
     → TellAll asked a entries (first (lines_of more) next) b o e → TellAll asked b more next c p f → TellAll asked a (entries ++ more) next c (o ++ p) (e ++ f)
 tell_more asked a b c [] more next o p e f (same, none, still) tells =
-    subst (λ l. TellAll asked a more next c l (e ++ f)) (ap (λ l. l ++ p) (sym none)) (subst (λ l. TellAll asked a more next c p l) (ap (λ l. l ++ f) (sym still)) (subst (λ t. TellAll asked t more next c p f) same tells))
+    subst (λ l. TellAll asked a more next c l (e ++ f)) (ap (λ l. l ++ p) (sym none))
+    (subst (λ l. TellAll asked a more next c p l) (ap (λ l. l ++ f) (sym still)) (subst (λ t. TellAll asked t more next c p f) same tells))
 tell_more asked a b c (entry ∷ entries) more next o p e f (reading, told, o1, os, e1, es, is, tells, all, out, err) then = (
   reading,
   told,
@@ -90,7 +91,15 @@ parted xs ys lines [] b begins is = record { front = []; back = lines; rest = xs
 parted xs ys [] (x ∷ a) b begins is = cc
 parted xs ys (l ∷ lines) (x ∷ a) b (some, line, begins) is =
     let p = parted (drop_through 10 xs) ys lines a b begins (ap (drop 1) is) in
-    record { front = l ∷ p.front; back = p.back; rest = p.rest; begins = (some, line, p.begins); goes_on = p.goes_on; first = first_is l x (map seen lines) (a ++ b) p.front a is p.first; then = p.then }
+    record {
+      front = l ∷ p.front;
+      back = p.back;
+      rest = p.rest;
+      begins = (some, line, p.begins);
+      goes_on = p.goes_on;
+      first = first_is l x (map seen lines) (a ++ b) p.front a is p.first;
+      then = p.then;
+    }
   where
     first_is : (l x : List ℕ) (ls ms front a : List (List ℕ)) → seen l ∷ ls ≡ x ∷ ms → map seen front ≡ a → seen l ∷ map seen front ≡ x ∷ a
     first_is l x ls ms front a is same = cc
@@ -160,7 +169,9 @@ goes_end asked (Some xs) (Some ys) line before after a b c d e f so moves =
       held = m.left;
       text = so.text ++ m.text;
       errors = so.errors ++ m.errors;
-      told = moved asked xs ys ys before.tally after.tally so.held [] m.left [] Any (λ n. n ≡ line) so.text so.errors m.text m.errors so.told m.lines refl (λ ls is. subst (λ l. BeginsWithLines xs l ys) (sym (append-nil ls)) is) (λ next any. tt);
+      told =
+          moved asked xs ys ys before.tally after.tally so.held [] m.left [] Any (λ n. n ≡ line) so.text so.errors m.text m.errors so.told m.lines
+          refl (λ ls is. subst (λ l. BeginsWithLines xs l ys) (sym (append-nil ls)) is) (λ next any. tt);
       stands = m.stands;
       output = Appends-trans a b c so.text m.text so.output m.output;
       error = Appends-trans d e f so.errors m.errors so.error m.error;
@@ -182,14 +193,17 @@ goes_take asked (Some xs) (Some ys) (Some zs) line before after a b c d e f so i
       text = so.text ++ m.text;
       errors = so.errors ++ m.errors;
       told = moved asked xs ys zs before.tally after.tally so.held (line ∷ []) m.left (take_through 10 ys ∷ []) (λ n. n ≡ line) Any so.text so.errors m.text m.errors so.told m.lines
-          (ap (λ l. l ∷ []) (sym is)) (λ ls begins. subst (BeginsWithLines xs (ls ++ take_through 10 ys ∷ [])) (sym rest) (one_more xs ls ys begins (held_some 1048577 ys line is some))) (λ next any. refl);
+          (ap (λ l. l ∷ []) (sym is)) (λ ls begins.
+          subst (BeginsWithLines xs (ls ++ take_through 10 ys ∷ [])) (sym rest) (one_more xs ls ys begins (held_some 1048577 ys line is some)))
+          (λ next any. refl);
       stands = m.stands;
       output = Appends-trans a b c so.text m.text so.output m.output;
       error = Appends-trans d e f so.errors m.errors so.error m.error;
     }
 
 -- nothing is left, and nothing held
-pub ends : (asked : Asked) (from old : Option (List ℕ)) (line : List ℕ) (progress : Progress) (a b c d : Option (List ℕ)) → Goes asked from old (λ n. n ≡ line) progress a b c d → IfSome old (λ ys. line ≡ seen (take_through 10 ys))
+pub ends : (asked : Asked) (from old : Option (List ℕ)) (line : List ℕ) (progress : Progress) (a b c d : Option (List ℕ))
+    → Goes asked from old (λ n. n ≡ line) progress a b c d → IfSome old (λ ys. line ≡ seen (take_through 10 ys))
     → progress.kept ≡ None → IsAtEnd old → IfSome from (λ octets. AreTold asked octets [] progress.tally a b c d)
 ends asked None old line progress a b c d so is none over = tt
 ends asked (Some xs) None line progress a b c d so is none over = absurd so
@@ -218,7 +232,8 @@ else_written fault (inl is) memory = let wrong : faults.Write ≡ faults.Memory 
 else_written fault (inr is) memory = let wrong : faults.Closed ≡ faults.Memory = sym is ∙ memory in cc
 
 -- all of it is a beginning
-pub in_part : (from : Option (List ℕ)) (asked : Asked) (a b c d : Option (List ℕ)) → IfSome from (λ octets. AreFirstTold asked octets a b c d) → IfSome from (λ octets. AreToldInPart asked octets a b c d)
+pub in_part : (from : Option (List ℕ)) (asked : Asked) (a b c d : Option (List ℕ)) → IfSome from (λ octets. AreFirstTold asked octets a b c d)
+    → IfSome from (λ octets. AreToldInPart asked octets a b c d)
 in_part None asked a b c d told = tt
 in_part (Some xs) asked a b c d (rest, tally, told) = record {
   rest = rest;
@@ -232,15 +247,26 @@ in_part (Some xs) asked a b c d (rest, tally, told) = record {
 
 -- the lines that were held were told in part
 pub part_end : (asked : Asked) (from old : Option (List ℕ)) (line : List ℕ) (before : Progress) (a b c d e f : Option (List ℕ))
-    → Goes asked from old Any before a b d e → IfSome old (λ ys. line ≡ seen (take_through 10 ys)) → ((held : List (List ℕ)) → Stands asked.join before.tally.lines before.kept held → MovesInPart asked before held [] (λ n. n ≡ line) b c e f)
+    → Goes asked from old Any before a b d e → IfSome old (λ ys. line ≡ seen (take_through 10 ys))
+    → ((held : List (List ℕ)) → Stands asked.join before.tally.lines before.kept held → MovesInPart asked before held [] (λ n. n ≡ line) b c e f)
     → IfSome from (λ octets. AreToldInPart asked octets a c d f)
 part_end asked None old line before a b c d e f so is moves = tt
 part_end asked (Some xs) None line before a b c d e f so is moves = absurd so
 part_end asked (Some xs) (Some ys) line before a b c d e f so is moves =
     let m = moves so.held so.stands in
-    let told = moved asked xs ys ys before.tally m.after so.held [] m.left [] Any (λ n. n ≡ line) so.text so.errors m.text m.errors so.told m.lines refl (λ ls is. subst (λ l. BeginsWithLines xs l ys) (sym (append-nil ls)) is) (λ next any. tt) in
+    let told =
+    moved asked xs ys ys before.tally m.after so.held [] m.left [] Any (λ n. n ≡ line) so.text so.errors m.text m.errors so.told m.lines refl
+    (λ ls is. subst (λ l. BeginsWithLines xs l ys) (sym (append-nil ls)) is) (λ next any. tt) in
     let s = settled asked xs ys m.after m.left (λ n. n ≡ line) (so.text ++ m.text) (so.errors ++ m.errors) told (sym is) in
-    record { rest = s.0; tally = m.after; text = so.text ++ m.text; errors = so.errors ++ m.errors; tells = s.1; output = front_after a b c so.text m.text so.output m.output; error = front_after d e f so.errors m.errors so.error m.error }
+    record {
+      rest = s.0;
+      tally = m.after;
+      text = so.text ++ m.text;
+      errors = so.errors ++ m.errors;
+      tells = s.1;
+      output = front_after a b c so.text m.text so.output m.output;
+      error = front_after d e f so.errors m.errors so.error m.error;
+    }
 
 -- or one line more
 pub part_take : (asked : Asked) (from old new : Option (List ℕ)) (line : List ℕ) (before : Progress) (a b c d e f : Option (List ℕ))
@@ -254,9 +280,19 @@ part_take asked (Some xs) (Some ys) (Some zs) line before a b c d e f so is drop
     let m = moves so.held so.stands in
     let rest : zs ≡ drop_through 10 ys = ap content drops in
     let told = moved asked xs ys zs before.tally m.after so.held (line ∷ []) m.left (take_through 10 ys ∷ []) (λ n. n ≡ line) Any so.text so.errors m.text m.errors so.told m.lines
-    (ap (λ l. l ∷ []) (sym is)) (λ ls begins. subst (BeginsWithLines xs (ls ++ take_through 10 ys ∷ [])) (sym rest) (one_more xs ls ys begins (held_some 1048577 ys line is some))) (λ next any. refl) in
+    (ap (λ l. l ∷ []) (sym is))
+    (λ ls begins. subst (BeginsWithLines xs (ls ++ take_through 10 ys ∷ [])) (sym rest) (one_more xs ls ys begins (held_some 1048577 ys line is some)))
+    (λ next any. refl) in
     let s = settled asked xs zs m.after m.left Any (so.text ++ m.text) (so.errors ++ m.errors) told tt in
-    record { rest = s.0; tally = m.after; text = so.text ++ m.text; errors = so.errors ++ m.errors; tells = s.1; output = front_after a b c so.text m.text so.output m.output; error = front_after d e f so.errors m.errors so.error m.error }
+    record {
+      rest = s.0;
+      tally = m.after;
+      text = so.text ++ m.text;
+      errors = so.errors ++ m.errors;
+      tells = s.1;
+      output = front_after a b c so.text m.text so.output m.output;
+      error = front_after d e f so.errors m.errors so.error m.error;
+    }
 
 -- ---- which line is next
 

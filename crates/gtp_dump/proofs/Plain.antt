@@ -1,5 +1,6 @@
 -- Digits with nothing but blanks before and after them are the digits of the text.
-use Rattle.std.proofs.Common.{◌≡◌, ◌≢◌, ℕ, ◌+◌, ◌<◌, ◌≤◌, ◌==◌, Bool, true, false, List, [], ◌∷◌, ◌++◌, length, take, drop, slice_index, Ok, refl, sym, ap, subst, ◌∙◌, arith, rules, inl, inr, append-nil, get_or-take, length-take}
+use Rattle.std.proofs.Common.{◌≡◌, ◌≢◌, ℕ, ◌+◌, ◌<◌, ◌≤◌, ◌==◌, Bool, true, false, List, [], ◌∷◌, ◌++◌, length, take, drop, slice_index, Ok, refl}
+use Rattle.std.proofs.Common.{sym, ap, subst, ◌∙◌, arith, rules, inl, inr, append-nil, get_or-take, length-take}
 use Rattle.std.specs.List.{AllPass}
 use Rattle.std.specs.Char.{is_ascii_whitespace}
 use Rattle.std.specs.Str.{IsTrimAscii}
@@ -61,18 +62,25 @@ hex_before_blanks : (digits blanks : List ℕ) → AllPass is_hex_digit digits �
 hex_before_blanks [] blanks hex blank = ap digits_in (sym (append-nil blanks)) ∙ passes_blanks blanks [] blank ∙ none taken
 hex_before_blanks (a ∷ []) [] hex blank = takes_hex a [] (All-head IsHexAt a [] hex) refl ∙ ap (λ l. a ∷ l) (none taken)
 hex_before_blanks (a ∷ []) (b ∷ blanks) hex blank =
-    takes_hex a (b ∷ blanks) (All-head IsHexAt a [] hex) (no_prefix is_ascii_whitespace refl refl a b blanks (All-head IsBlankAt b blanks blank)) ∙ ap (λ l. a ∷ l) (hex_before_blanks [] (b ∷ blanks) (All-tail IsHexAt a [] hex) blank)
+    takes_hex a (b ∷ blanks) (All-head IsHexAt a [] hex) (no_prefix is_ascii_whitespace refl refl a b blanks (All-head IsBlankAt b blanks blank))
+    ∙ ap (λ l. a ∷ l) (hex_before_blanks [] (b ∷ blanks) (All-tail IsHexAt a [] hex) blank)
 hex_before_blanks (a ∷ b ∷ digits) blanks hex blank =
     let after = All-tail IsHexAt a (b ∷ digits) hex in
-    takes_hex a (b ∷ (digits ++ blanks)) (All-head IsHexAt a (b ∷ digits) hex) (no_prefix is_hex_digit refl refl a b (digits ++ blanks) (All-head IsHexAt b digits after)) ∙ ap (λ l. a ∷ l) (hex_before_blanks (b ∷ digits) blanks after blank)
+    takes_hex a (b ∷ (digits ++ blanks)) (All-head IsHexAt a (b ∷ digits) hex)
+    (no_prefix is_hex_digit refl refl a b (digits ++ blanks) (All-head IsHexAt b digits after))
+    ∙ ap (λ l. a ∷ l) (hex_before_blanks (b ∷ digits) blanks after blank)
 
 -- what is trimmed off the front
 front_is_blank : (text : List ℕ) (m : ℕ) → ((i : ℕ) → i < m → IsBlankAt (slice_index text i)) → AllPass is_ascii_whitespace (take m text)
-front_is_blank text m blank = All-from_get_or IsBlankAt (take m text) 0 (λ i low. let below : i < m = omega (arith, low, length-take m text) in subst IsBlankAt (sym (get_or-take m text i 0 below)) (blank i below))
+front_is_blank text m blank =
+    All-from_get_or IsBlankAt (take m text) 0
+    (λ i low. let below : i < m = omega (arith, low, length-take m text) in subst IsBlankAt (sym (get_or-take m text i 0 below)) (blank i below))
 
 -- what is trimmed off the back
 back_is_blank : (text : List ℕ) (n : ℕ) → ((i : ℕ) → n ≤ i → i < length text → IsBlankAt (slice_index text i)) → AllPass is_ascii_whitespace (drop n text)
-back_is_blank text n blank = All-from_get_or IsBlankAt (drop n text) 0 (λ i low. let within : n + i < length text = omega (arith, low, length-drop n text) in subst IsBlankAt (sym (get_or-drop n text i 0)) (blank (n + i) (omega arith) within))
+back_is_blank text n blank =
+    All-from_get_or IsBlankAt (drop n text) 0 (λ i low. let within : n + i < length text = omega (arith, low, length-drop n text) in
+    subst IsBlankAt (sym (get_or-drop n text i 0)) (blank (n + i) (omega arith) within))
 
 -- the digits of a text that is digits when its blanks at both ends are left out
 pub trimmed : (text digits octets : List ℕ) → IsTrimAscii text digits → length digits ≢ 0 → decode_of digits ≡ Ok octets → HasOctets text octets

@@ -52,12 +52,14 @@ at_digit found [] = []
 at_digit found (a ∷ after) = found a after (walked found after)
 
 by_character : (comment between : Bool) (found : ℕ → List ℕ → List ℕ → List ℕ) (a : ℕ) (after : List ℕ) → walked found after ≡ at_digit found (from_digit after)
-    → (if comment then [] else (if between then walked found after else found a after (walked found after))) ≡ at_digit found (if comment then [] else (if between then from_digit after else (a ∷ after)))
+    → (if comment then [] else (if between then walked found after else found a after (walked found after)))
+    ≡ at_digit found (if comment then [] else (if between then from_digit after else (a ∷ after)))
 by_character true between found a after so = refl
 by_character false true found a after so = so
 by_character false false found a after so = refl
 
-by_prefix : (prefix : Bool) (found : ℕ → List ℕ → List ℕ → List ℕ) (x y u v : List ℕ) → x ≡ at_digit found u → y ≡ at_digit found v → (if prefix then x else y) ≡ at_digit found (if prefix then u else v)
+by_prefix : (prefix : Bool) (found : ℕ → List ℕ → List ℕ → List ℕ) (x y u v : List ℕ) → x ≡ at_digit found u → y ≡ at_digit found v
+    → (if prefix then x else y) ≡ at_digit found (if prefix then u else v)
 by_prefix true found x y u v one other = one
 by_prefix false found x y u v one other = other
 

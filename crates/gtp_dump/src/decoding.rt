@@ -7,9 +7,9 @@ ghost use Rattle.gtp_dump.specs.Text.{IsBlank, IsBad};
 ghost use Rattle.gtp_dump.specs.Decoded.{nothing_read, bad_text, index_line, ShowsAs, ShowsWord, Shows, IsTold, IsToldInPart, AreTold, AreFirstTold, AreToldInPart, WriteFailed, WriteClosed};
 ghost use Rattle.gtp_dump.specs.Held.{reading_of, Stands, GoesOnAfter, lines_read, datagrams_begun, Moves, MovesInPart};
 
+use crate::bounded_line::next_line;
 use crate::entry::{Kept, Reading, goes_on, opening, read_alone};
 use crate::flaw::{Flaw, put_flaw};
-use crate::holding::next_line;
 use crate::text::{Dumped, LineFault, read_word};
 use gtp_counted::{Counted, Failed};
 use gtp_json::{Members, datagram_json};

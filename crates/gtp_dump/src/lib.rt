@@ -2,11 +2,11 @@
 //! are joined.
 #![tactic(auto)]
 
+mod bounded_line;
 mod decoding;
 mod entry;
 mod flaw;
 mod hint;
-mod holding;
 mod row;
 mod text;
 

@@ -48,22 +48,28 @@ module _ (only : Role) (s : GatewayState) (session : ℕ) (Rest : Effect → Ses
   reaches at e is rest = here only s.role s.node e _ is.role (inr (record { session = at; stands = is.stands }, inr (is.active, rest)))
 
   -- of an active session the other rules decide
-  pub goes_active : (at : Session) (r : Result Begun CommandFault) → IsActiveSession only s session at → (why : Refusal) → Told r why ↔ Rest (refused s.node why) at → Told r why ↔ Rules (refused s.node why)
+  pub goes_active : (at : Session) (r : Result Begun CommandFault) → IsActiveSession only s session at → (why : Refusal) → Told r why ↔ Rest (refused s.node why) at
+      → Told r why ↔ Rules (refused s.node why)
   goes_active at r is why rest =
       goes_here only s.role s.node (refused s.node why) _ _ is.role
       (goes_session s.node r _ session at NoSuchContext why is.stands
       (goes s.node r NotActive why is.active (λ _. rest)))
 
   -- the first rule that applies decides
-  one_reason_of : (reason why : Refusal) → OfActiveSession session s.node (refused s.node reason) (λ at. ⊥) → OfActiveSession session s.node (refused s.node why) (Rest (refused s.node why)) → why ≡ reason
+  one_reason_of : (reason why : Refusal) → OfActiveSession session s.node (refused s.node reason) (λ at. ⊥)
+      → OfActiveSession session s.node (refused s.node why) (Rest (refused s.node why)) → why ≡ reason
   one_reason_of reason why (inl none) (inl other) = same_reason s.node why reason (other.1 ∙ sym none.1)
   one_reason_of reason why (inl none) (inr at) = absurd (none.0 at.0)
   one_reason_of reason why (inr at) (inl none) = absurd (none.0 at.0)
   one_reason_of reason why (inr (at, inl idle)) (inr (also, inl other)) = same_reason s.node why reason (other.1 ∙ sym idle.1)
-  one_reason_of reason why (inr (at, inl idle)) (inr (also, inr active)) = absurd (idle.0 (ap (λ (x : Session). x.state) (one_value (get s.node.sessions session) at.session also.session at.stands also.stands) ∙ active.0))
+  one_reason_of reason why (inr (at, inl idle)) (inr (also, inr active)) =
+      absurd
+      (idle.0 (ap (λ (x : Session). x.state) (one_value (get s.node.sessions session) at.session also.session at.stands also.stands) ∙ active.0))
   one_reason_of reason why (inr (at, inr active)) also = absurd active.1
 
-  one_reason : (by role : Role) (reason why : Refusal) → OnlyAt by role s.node (refused s.node reason) (OfActiveSession session s.node (refused s.node reason) (λ at. ⊥)) → OnlyAt by role s.node (refused s.node why) (OfActiveSession session s.node (refused s.node why) (Rest (refused s.node why))) → why ≡ reason
+  one_reason : (by role : Role) (reason why : Refusal)
+      → OnlyAt by role s.node (refused s.node reason) (OfActiveSession session s.node (refused s.node reason) (λ at. ⊥))
+      → OnlyAt by role s.node (refused s.node why) (OfActiveSession session s.node (refused s.node why) (Rest (refused s.node why))) → why ≡ reason
   one_reason Serving Packet reason why first other = same_reason s.node why reason (other ∙ sym first)
   one_reason Packet Serving reason why first other = same_reason s.node why reason (other ∙ sym first)
   one_reason by role reason why first other = one_reason_of reason why first other
@@ -79,7 +85,8 @@ module _ (only : Role) (s : GatewayState) (session : ℕ) (Rest : Effect → Ses
   further by role e first = further_of e first
 
   -- what is refused first is what the command is refused for
-  pub refused_first : (fault : CommandFault) (r : Result Begun CommandFault) → IsErrAnd r (λ e. e ≡ fault) → IsRefusedFirst only s session fault → (why : Refusal) → Told r why ↔ Rules (refused s.node why)
+  pub refused_first : (fault : CommandFault) (r : Result Begun CommandFault) → IsErrAnd r (λ e. e ≡ fault) → IsRefusedFirst only s session fault → (why : Refusal)
+      → Told r why ↔ Rules (refused s.node why)
   refused_first fault (Ok x) is first why = absurd is
   refused_first fault (Err e) is first why = (
     λ told. let same : first.why ≡ why = (let one : e ≡ Refused why = cc in let two : e ≡ Refused first.why = is ∙ first.is in cc) in
@@ -94,5 +101,6 @@ module _ (only : Role) (s : GatewayState) (session : ℕ) (Asks : Session → Ef
   abbrev pub Asked : Effect → Session → Type 0
   Asked e at = WhereRoom s.node e (Asks at e)
 
-  pub last_refused : (at : Session) (r : Result Begun CommandFault) → IsActiveSession only s session at → IsLastRefused s r → (why : Refusal) → Told r why ↔ Rules only s session Asked (refused s.node why)
+  pub last_refused : (at : Session) (r : Result Begun CommandFault) → IsActiveSession only s session at → IsLastRefused s r → (why : Refusal)
+      → Told r why ↔ Rules only s session Asked (refused s.node why)
   last_refused at r active rule why = goes_active only s session Asked at r active why (last s r (Asks at) why rule (goes_on at why))

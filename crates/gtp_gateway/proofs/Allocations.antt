@@ -56,12 +56,15 @@ bearer_judged request r old active e rule =
     follows (sends_answer request old) (λ one. follows (sends_answer request old) (λ linked. follows (sends_answer request old) (λ free makes. sends (λ none. cc) makes.gives))))) rule
 
 -- so it is where the request is answered
-bearer_open : (request : Arrival) (r : CreateBearerRequest) (old : Node) (made : _) (m : Message) (cause : ℕ) (left : Node) → BearerJudged request r old (answering made request (m ∷ []) cause left) → IsOpen old r.header
+bearer_open : (request : Arrival) (r : CreateBearerRequest) (old : Node) (made : _) (m : Message) (cause : ℕ) (left : Node)
+    → BearerJudged request r old (answering made request (m ∷ []) cause left) → IsOpen old r.header
 bearer_open request r old made m cause left (inl f) at = absurd (f.0 at)
 bearer_open request r old made m cause left (inr (a, inl f)) at = absurd (let none : (record { destination = request.source; messages = m ∷ [] } ∷ []) ≡ [] = ap (λ (x : Effect). x.out.sent) f.1 in cc)
-bearer_open request r old made m cause left (inr (a, inr (active, rest))) at = subst (λ (s : Session). s.state ≡ Active) (one_value (get old.sessions r.header) a.session at.session a.stands at.stands) active
+bearer_open request r old made m cause left (inr (a, inr (active, rest))) at =
+    subst (λ (s : Session). s.state ≡ Active) (one_value (get old.sessions r.header) a.session at.session a.stands at.stands) active
 
-pub create_bearer_asked : (request : Arrival) (r : CreateBearerRequest) (old : Node) (made : _) (m : Message) (cause : ℕ) (left : Node) → HasHeldRoom old → BearerJudged request r old (answering made request (m ∷ []) cause left) → AlwaysSendsOrOpens (CreateBearerAsked request r) old
+pub create_bearer_asked : (request : Arrival) (r : CreateBearerRequest) (old : Node) (made : _) (m : Message) (cause : ℕ) (left : Node) → HasHeldRoom old
+    → BearerJudged request r old (answering made request (m ∷ []) cause left) → AlwaysSendsOrOpens (CreateBearerAsked request r) old
 create_bearer_asked request r old made m cause left room judged e rule =
     follows (λ full is. absurd (full room)) (λ few. bearer_judged request r old (bearer_open request r old made m cause left judged) e) rule
 
@@ -95,11 +98,14 @@ module _ (Takes : Node → Effect → Type 0) (old : Node) (counter : Counter) w
   judged_needs ages.Earlier e on needs is = absurd (on tt)
   judged_needs age e on needs is = needs e is
 
-  weighed_needs : (known : Option ℕ) (e : Effect) → (IsEarlier (weighed known counter) → ⊥) → AlwaysSendsOrOpens Takes (node_heard (weighed known counter) old) → Weighs Takes old counter.0 known e → SendsOrOpens e
+  weighed_needs : (known : Option ℕ) (e : Effect) → (IsEarlier (weighed known counter) → ⊥) → AlwaysSendsOrOpens Takes (node_heard (weighed known counter) old)
+      → Weighs Takes old counter.0 known e → SendsOrOpens e
   weighed_needs None e on needs is = needs e is
   weighed_needs (Some known) e on needs is = judged_needs (age_of known counter.0) e on needs is
 
-hears_needs : (Takes : Node → Effect → Type 0) (old : Node) (recovery : Option Counter) → (IsEarlier (weighed_by recovery old.known) → ⊥) → AlwaysSendsOrOpens Takes (node_heard (weighed_by recovery old.known) old) → AlwaysSendsOrOpens (λ n e. Hears Takes n (option_map (λ (c : Counter). c.0) recovery) e) old
+hears_needs : (Takes : Node → Effect → Type 0) (old : Node) (recovery : Option Counter) → (IsEarlier (weighed_by recovery old.known) → ⊥)
+    → AlwaysSendsOrOpens Takes (node_heard (weighed_by recovery old.known) old)
+    → AlwaysSendsOrOpens (λ n e. Hears Takes n (option_map (λ (c : Counter). c.0) recovery) e) old
 hears_needs Takes old None on needs e is = needs e is
 hears_needs Takes old (Some counter) on needs e (taken, weighs, is) = subst SendsOrOpens (sym is) (weighed_needs Takes old counter old.known taken on needs weighs)
 
@@ -111,11 +117,14 @@ module _ (request : Arrival) (reading : ControlReading) (old : GatewayState) (pe
   read_needs each e (inr (from, inr (new, reads))) = each new e reads
 
 -- a request that was answered before
-pub repeated_needs : (request : Arrival) (reading : ControlReading) (old : GatewayState) → request.source.ip ≡ old.node.config.peer.control → (pair : Held) → Among pair old.node.held → pair.request ≡ request → StepSendsOrOpens request reading old
+pub repeated_needs : (request : Arrival) (reading : ControlReading) (old : GatewayState) → request.source.ip ≡ old.node.config.peer.control → (pair : Held)
+    → Among pair old.node.held → pair.request ≡ request → StepSendsOrOpens request reading old
 repeated_needs request reading old peer pair stands same = read_needs request reading old peer (λ new. absurd (new pair stands same))
 
 -- a message that the gateway takes, whose counter is not of an earlier start
-pub message_needs : (request : Arrival) (old : GatewayState) (m : Message) (recovery : Option Counter) → request.source.ip ≡ old.node.config.peer.control → takes_message old.role m ≡ true → option_map (λ (c : Counter). c.0) recovery ≡ recovery_of m → (heard : Heard) → heard ≡ weighed_by recovery old.node.known → (IsEarlier heard → ⊥)
+pub message_needs : (request : Arrival) (old : GatewayState) (m : Message) (recovery : Option Counter) → request.source.ip ≡ old.node.config.peer.control
+    → takes_message old.role m ≡ true → option_map (λ (c : Counter). c.0) recovery ≡ recovery_of m → (heard : Heard)
+    → heard ≡ weighed_by recovery old.node.known → (IsEarlier heard → ⊥)
     → AlwaysSendsOrOpens (TakesBy old.role request m) (node_heard heard old.node) → StepSendsOrOpens request (Control_message m) old
 message_needs request old m recovery peer takes counter heard is on needs = read_needs request (Control_message m) old peer (λ new. by)
   where
@@ -123,8 +132,10 @@ message_needs request old m recovery peer takes counter heard is on needs = read
     by e (inl f) = absurd (f.0 takes)
     by e (inr (taken, hears)) =
         let known = subst (λ (h : Heard). AlwaysSendsOrOpens (TakesBy old.role request m) (node_heard h old.node)) is needs in
-        hears_needs (TakesBy old.role request m) old.node recovery (λ early. on (subst IsEarlier (sym is) early)) known e (subst (λ (o : Option ℕ). Hears (TakesBy old.role request m) old.node o e) (sym counter) hears)
+        hears_needs (TakesBy old.role request m) old.node recovery (λ early. on (subst IsEarlier (sym is) early)) known e
+        (subst (λ (o : Option ℕ). Hears (TakesBy old.role request m) old.node o e) (sym counter) hears)
 
 -- a request at fault that the gateway answers
-pub fault_needs : (request : Arrival) (f : FaultyRequest) (old : GatewayState) → request.source.ip ≡ old.node.config.peer.control → answers_type old.role f.kind ≡ true → StepSendsOrOpens request (Faulty f) old
+pub fault_needs : (request : Arrival) (f : FaultyRequest) (old : GatewayState) → request.source.ip ≡ old.node.config.peer.control
+    → answers_type old.role f.kind ≡ true → StepSendsOrOpens request (Faulty f) old
 fault_needs request f old peer is = read_needs request (Faulty f) old peer (λ new e reads. sends (λ none. cc) (subst (λ (b : Bool). Faulted b request f old.node e) is reads))

@@ -63,7 +63,8 @@ is_one (Some x) some = (x, refl)
 
 -- of what is finished the session is gone, and all others stay
 module _ (n : Node) (number : ℕ) where
-  pub finished_session : (session bearer : Option ℕ) → bearer ≡ None → (t : ℕ) (s : Session) → get (finished_about n number session bearer).sessions t ≡ Some s → (get n.sessions t ≡ Some s) × ((about : ℕ) → session ≡ Some about → t ≢ about)
+  pub finished_session : (session bearer : Option ℕ) → bearer ≡ None → (t : ℕ) (s : Session) → get (finished_about n number session bearer).sessions t ≡ Some s
+      → (get n.sessions t ≡ Some s) × ((about : ℕ) → session ≡ Some about → t ≢ about)
   finished_session session (Some b) none t s is = absurd cc
   finished_session None None none t s is = (is, λ about no. absurd cc)
   finished_session (Some gone) None none t s is =
@@ -126,7 +127,8 @@ module _ (n : Node) (number : ℕ) (t : ℕ) where
       by (Some s) is = sym (get-kept test n.sessions t s is (passes s))
       by None is = sym (none_where (get (kept test n.sessions) t) (λ s there. let both : None ≡ Some s = sym is ∙ (found-kept test n.sessions t s there).1 in cc))
 
-  finished_left : (session bearer : Option ℕ) → bearer ≡ None → (b : Bool) → goes_by session bearer ≡ b → (if b then None else get n.sessions t) ≡ get (finished_about n number session bearer).sessions t
+  finished_left : (session bearer : Option ℕ) → bearer ≡ None → (b : Bool) → goes_by session bearer ≡ b
+      → (if b then None else get n.sessions t) ≡ get (finished_about n number session bearer).sessions t
   finished_left session bearer none true goes = finished_gone session bearer none goes
   finished_left session bearer none false stays = finished_stays session bearer none stays
 
@@ -136,5 +138,6 @@ module _ (n : Node) (number : ℕ) (t : ℕ) where
   left_by (OpensSession session opened at bearer) of = opened_left session opened (session == t) refl
   left_by (OpensBearer at bearer) of = absurd of
 
-pub left_settled : (heard : Heard) (v : ResponseVerdict) (number : ℕ) (n : Node) (t : ℕ) (before result : Option Session) → IsOfSession v (node_heard heard n) → before ≡ get (node_heard heard n).sessions t → result ≡ session_left v t before → result ≡ get (node_after_first heard v number n).sessions t
+pub left_settled : (heard : Heard) (v : ResponseVerdict) (number : ℕ) (n : Node) (t : ℕ) (before result : Option Session) → IsOfSession v (node_heard heard n)
+    → before ≡ get (node_heard heard n).sessions t → result ≡ session_left v t before → result ≡ get (node_after_first heard v number n).sessions t
 left_settled heard v number n t before result of is left = left ∙ (ap (session_left v t) is ∙ left_by (node_heard heard n) number t v of)

@@ -41,23 +41,33 @@ is_taken role octets m t is at takes = ap (takes_some role) (type_read octets m 
 -- what is done with a message of a type that the gateway takes, once its counter was heard, by the rule of its type
 module _ (request : Arrival) (t u : MessageType) (m k : Message) (heard : Heard) (old : GatewayState) (takes : takes_type old.role t ≡ true) (same : t ≡ u) (is : m ≡ k) where
   -- a row, and what takes memory
-  pub row_by : (T : Node → Effect → Type 0) (there : Role) (left : Node) (step : ControlStep) (new : GatewayState) → there ≡ old.role → left ≡ node_heard heard old.node → ((n : Node) (e : Effect) → T n e → AtTakers (λ r. TakesBy r request k n e) (type_row u).taker) → IsRow T request there left step new → IsHeardRow request m heard old step new
+  pub row_by : (T : Node → Effect → Type 0) (there : Role) (left : Node) (step : ControlStep) (new : GatewayState) → there ≡ old.role
+      → left ≡ node_heard heard old.node → ((n : Node) (e : Effect) → T n e → AtTakers (λ r. TakesBy r request k n e) (type_row u).taker)
+      → IsRow T request there left step new → IsHeardRow request m heard old step new
   row_by T there left step new same_role same_node each =
-      as_row T (TakesBy old.role request m) request old.role there (node_heard heard old.node) left step new same_role same_node (λ n e row. at_taker (λ r x. TakesBy r request x n e) old.role t u m k takes same is (each n e row))
+      as_row T (TakesBy old.role request m) request old.role there (node_heard heard old.node) left step new same_role same_node
+      (λ n e row. at_taker (λ r x. TakesBy r request x n e) old.role t u m k takes same is (each n e row))
 
-  pub row_heard : (T : Node → Effect → Type 0) (step : ControlStep) (new : GatewayState) → ((n : Node) (e : Effect) → T n e → AtTakers (λ r. TakesBy r request k n e) (type_row u).taker) → IsRow T request old.role (node_heard heard old.node) step new → IsHeardRow request m heard old step new
+  pub row_heard : (T : Node → Effect → Type 0) (step : ControlStep) (new : GatewayState)
+      → ((n : Node) (e : Effect) → T n e → AtTakers (λ r. TakesBy r request k n e) (type_row u).taker)
+      → IsRow T request old.role (node_heard heard old.node) step new → IsHeardRow request m heard old step new
   row_heard T step new = row_by T old.role (node_heard heard old.node) step new refl refl
 
-  pub needs_heard : AtTakers (λ r. AlwaysSendsOrOpens (TakesBy r request k) (node_heard heard old.node)) (type_row u).taker → AlwaysSendsOrOpens (TakesBy old.role request m) (node_heard heard old.node)
+  pub needs_heard : AtTakers (λ r. AlwaysSendsOrOpens (TakesBy r request k) (node_heard heard old.node)) (type_row u).taker
+      → AlwaysSendsOrOpens (TakesBy old.role request m) (node_heard heard old.node)
   needs_heard needs = needs_by old.role request m (node_heard heard old.node) t u k takes same is needs
 
   -- the same of a message that tells no counter
   module _ (weighed : IsWeighed heard m old) (none : recovery_of k ≡ None) where
-    pub row_unheard : (T : Node → Effect → Type 0) (step : ControlStep) (new : GatewayState) → ((n : Node) (e : Effect) → T n e → AtTakers (λ r. TakesBy r request k n e) (type_row u).taker) → IsRow T request old.role old.node step new → IsHeardRow request m heard old step new
+    pub row_unheard : (T : Node → Effect → Type 0) (step : ControlStep) (new : GatewayState)
+        → ((n : Node) (e : Effect) → T n e → AtTakers (λ r. TakesBy r request k n e) (type_row u).taker) → IsRow T request old.role old.node step new
+        → IsHeardRow request m heard old step new
     row_unheard T step new = row_by T old.role old.node step new refl (unheard heard m old weighed (ap recovery_of is ∙ none))
 
     pub needs_unheard : AtTakers (λ r. AlwaysSendsOrOpens (TakesBy r request k) old.node) (type_row u).taker → AlwaysSendsOrOpens (TakesBy old.role request m) (node_heard heard old.node)
-    needs_unheard needs = subst (λ (n : Node). AlwaysSendsOrOpens (TakesBy old.role request m) n) (unheard heard m old weighed (ap recovery_of is ∙ none)) (needs_by old.role request m old.node t u k takes same is needs)
+    needs_unheard needs =
+        subst (λ (n : Node). AlwaysSendsOrOpens (TakesBy old.role request m) n) (unheard heard m old weighed (ap recovery_of is ∙ none))
+        (needs_by old.role request m old.node t u k takes same is needs)
 
 -- ---- the two messages of a pair
 

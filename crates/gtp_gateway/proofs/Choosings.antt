@@ -29,15 +29,18 @@ pub unmade : {A : Type 0} (made : Bool) → made ≡ false → made ≡ true →
 unmade made not is = absurd (let both : false ≡ true = sym not ∙ is in cc)
 
 -- what is given is the lowest of its version
-lowest_part : (sessions : FiniteMap Session) (pools : Pools) (asked : Asked) (version : IpVersion) (given : Option (List ℕ)) (part : List ℕ) → IsLowestPart sessions pools asked version given → given ≡ Some part → IsLowestFree version sessions pools part
+lowest_part : (sessions : FiniteMap Session) (pools : Pools) (asked : Asked) (version : IpVersion) (given : Option (List ℕ)) (part : List ℕ)
+    → IsLowestPart sessions pools asked version given → given ≡ Some part → IsLowestFree version sessions pools part
 lowest_part sessions pools asked version None part lowest is = absurd cc
 lowest_part sessions pools asked version (Some given) part lowest is = let same : given ≡ part = cc in subst (λ (k : List ℕ). IsLowestFree version sessions pools k) same lowest.1
 
-each_lowest : (sessions : FiniteMap Session) (pools : Pools) (asked : Asked) (address : PdnAddress) → IsLowestGiven sessions pools asked address → (version : IpVersion) (part : List ℕ) → part_in version address ≡ Some part → IsLowestFree version sessions pools part
+each_lowest : (sessions : FiniteMap Session) (pools : Pools) (asked : Asked) (address : PdnAddress) → IsLowestGiven sessions pools asked address
+    → (version : IpVersion) (part : List ℕ) → part_in version address ≡ Some part → IsLowestFree version sessions pools part
 each_lowest sessions pools asked address lowest V4 part is = lowest_part sessions pools asked V4 address.v4 part lowest.v4 is
 each_lowest sessions pools asked address lowest V6 part is = lowest_part sessions pools asked V6 address.v6 part lowest.v6 is
 
-pub lowest_session : (identity pdn : ℕ) (r : SessionRequest) (g : SessionGrant) (heard : Heard) (old new : Node) → ChoosesSession identity pdn g heard old → new.sessions ≡ insert (node_heard heard old).sessions g.drawn.control (session_granted r g) → MakesLowestSession old new
+pub lowest_session : (identity pdn : ℕ) (r : SessionRequest) (g : SessionGrant) (heard : Heard) (old new : Node) → ChoosesSession identity pdn g heard old
+    → new.sessions ≡ insert (node_heard heard old).sessions g.drawn.control (session_granted r g) → MakesLowestSession old new
 lowest_session identity pdn r g heard old new chosen is = record {
   teid = g.drawn.control;
   session = session_granted r g;
@@ -50,7 +53,8 @@ lowest_session identity pdn r g heard old new chosen is = record {
   lowest = each_lowest (node_heard heard old).sessions old.config.pools (asked_by pdn) g.address chosen.lowest;
 }
 
-pub lowest_bearer : (r : BearerRequest) (a : CreateBearerAnswer) (old new : Node) → IsChosen r.header a old → new.bearers ≡ (changed_by (change_for r a) old).bearers → is_granted a ≡ true → MakesLowestBearer old new
+pub lowest_bearer : (r : BearerRequest) (a : CreateBearerAnswer) (old new : Node) → IsChosen r.header a old → new.bearers ≡ (changed_by (change_for r a) old).bearers
+    → is_granted a ≡ true → MakesLowestBearer old new
 lowest_bearer r (Granted g) old new chosen is granted = record {
   teid = g.drawn.teid;
   bearer = granted_to r g.identity;

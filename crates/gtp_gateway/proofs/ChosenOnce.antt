@@ -46,7 +46,8 @@ same_beside {X} m n key x y absent missing same = same_map nat_cmp_total nat_cmp
     (cases_eq q key))
 
 -- what comes beside others comes there alone
-module _ {X : Type 0} (old new others mine : FiniteMap X) (t u : ℕ) (x y : X) (beside : ComesBeside old new others t x) (is : new ≡ insert mine u y) (lone : get mine u ≡ None) (before : get old u ≡ None) where
+module _ {X : Type 0} (old new others mine : FiniteMap X) (t u : ℕ) (x y : X) (beside : ComesBeside old new others t x)
+    (is : new ≡ insert mine u y) (lone : get mine u ≡ None) (before : get old u ≡ None) where
   same_entry : (u ≡ t) × (x ≡ y)
   same_entry =
       let here : get (insert others t x) u ≡ Some y = ap (λ (k : FiniteMap X). get k u) (sym beside.is ∙ is) ∙ get-insert_same mine u y in
@@ -60,21 +61,29 @@ module _ {X : Type 0} (old new others mine : FiniteMap X) (t u : ℕ) (x y : X) 
   same_others = same_beside mine others u y x lone (beside.stood u before) (sym is ∙ (beside.is ∙ ap (λ k. insert others k x) (sym same_entry.0)))
 
 -- each part of the address of a session that was made beside others
-pub lowest_address : (old new : Node) (others : FiniteMap Session) (t : ℕ) (a : Session) → MakesLowestSession old new → ComesBeside old.sessions new.sessions others t a → (version : IpVersion) (part : List ℕ) → part_of version a.address ≡ Some part → IsLowestFree version others old.config.pools part
+pub lowest_address : (old new : Node) (others : FiniteMap Session) (t : ℕ) (a : Session) → MakesLowestSession old new
+    → ComesBeside old.sessions new.sessions others t a → (version : IpVersion) (part : List ℕ) → part_of version a.address ≡ Some part
+    → IsLowestFree version others old.config.pools part
 lowest_address old new others t a l beside version part has =
     let entry = same_entry old.sessions new.sessions others l.others t l.teid a l.session beside l.sessions l.beside l.before in
     let same = same_others old.sessions new.sessions others l.others t l.teid a l.session beside l.sessions l.beside l.before in
     subst (λ k. IsLowestFree version k old.config.pools part) same (l.lowest version part (ap (λ (s : Session). part_of version s.address) (sym entry.1) ∙ has))
 
-pub lowest_identity : (old new : Node) (others : FiniteMap Bearer) (t : ℕ) (a : Bearer) → MakesLowestBearer old new → ComesBeside old.bearers new.bearers others t a → (identity : ℕ) × (a.identity ≡ Some identity) × IsLowestUnused others a.session identity
+pub lowest_identity : (old new : Node) (others : FiniteMap Bearer) (t : ℕ) (a : Bearer) → MakesLowestBearer old new → ComesBeside old.bearers new.bearers others t a
+    → (identity : ℕ) × (a.identity ≡ Some identity) × IsLowestUnused others a.session identity
 lowest_identity old new others t a l beside =
     let entry = same_entry old.bearers new.bearers others l.others t l.teid a l.bearer beside l.bearers l.beside l.before in
-    let same = same_others old.bearers new.bearers others l.others t l.teid a l.bearer beside l.bearers l.beside l.before in
-    (l.identity, ap (λ (b : Bearer). b.identity) entry.1 ∙ l.has, subst (λ k. IsLowestUnused others k l.identity) (sym (ap (λ (b : Bearer). b.session) entry.1)) (subst (λ k. IsLowestUnused k l.bearer.session l.identity) same l.lowest))
+    let same = same_others old.bearers new.bearers others l.others t l.teid a l.bearer beside l.bearers l.beside l.before in (
+      l.identity,
+      ap (λ (b : Bearer). b.identity) entry.1 ∙ l.has,
+      subst (λ k. IsLowestUnused others k l.identity) (sym (ap (λ (b : Bearer). b.session) entry.1))
+          (subst (λ k. IsLowestUnused k l.bearer.session l.identity) same l.lowest),
+    )
 
 -- ---- the next TEIDs are one
 
-pub one_drawn : (a b : Node) → a.drawn ≡ drawn_up_to a.counter (length a.drawn) → b.drawn ≡ drawn_up_to b.counter (length b.drawn) → a.counter ≡ b.counter → length a.drawn ≡ length b.drawn → a.drawn ≡ b.drawn
+pub one_drawn : (a b : Node) → a.drawn ≡ drawn_up_to a.counter (length a.drawn) → b.drawn ≡ drawn_up_to b.counter (length b.drawn) → a.counter ≡ b.counter
+    → length a.drawn ≡ length b.drawn → a.drawn ≡ b.drawn
 one_drawn a b a_is b_is counter draws = cc
 
 -- ---- the next free number is one

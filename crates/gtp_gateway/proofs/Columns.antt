@@ -84,14 +84,18 @@ module _ (old : Node) (r : Result Begun CommandFault) where
       back (inr next) = (rest next.0).1 next.1
 
   -- a bearer stands there, and the rules after it look at no more than the bearer
-  pub goes_bearer : (Rest : Bearer → Type 0) (t : ℕ) (b : Bearer) (reason why : Refusal) → get old.bearers t ≡ Some b → Told r why ↔ Rest b → Told r why ↔ Unless (HasBearer old t) (refused old why ≡ refused old reason) (λ at. Rest at.bearer)
+  pub goes_bearer : (Rest : Bearer → Type 0) (t : ℕ) (b : Bearer) (reason why : Refusal) → get old.bearers t ≡ Some b → Told r why ↔ Rest b
+      → Told r why ↔ Unless (HasBearer old t) (refused old why ≡ refused old reason) (λ at. Rest at.bearer)
   goes_bearer Rest t b reason why stands rest =
-      goes {P = HasBearer old t} {Next = λ at. Rest at.bearer} reason why (record { bearer = b; stands = stands }) (λ at. subst (λ (x : Bearer). Told r why ↔ Rest x) (one_value (get old.bearers t) b at.bearer stands at.stands) rest)
+      goes {P = HasBearer old t} {Next = λ at. Rest at.bearer} reason why (record { bearer = b; stands = stands })
+      (λ at. subst (λ (x : Bearer). Told r why ↔ Rest x) (one_value (get old.bearers t) b at.bearer stands at.stands) rest)
 
 -- a session stands there, and the rules after it look at no more than the session
-pub goes_session : (old : Node) (r : Result Begun CommandFault) (Rest : Session → Type 0) (t : ℕ) (s : Session) (reason why : Refusal) → get old.sessions t ≡ Some s → Told r why ↔ Rest s → Told r why ↔ Unless (HasSession old t) (refused old why ≡ refused old reason) (λ at. Rest at.session)
+pub goes_session : (old : Node) (r : Result Begun CommandFault) (Rest : Session → Type 0) (t : ℕ) (s : Session) (reason why : Refusal) → get old.sessions t ≡ Some s
+    → Told r why ↔ Rest s → Told r why ↔ Unless (HasSession old t) (refused old why ≡ refused old reason) (λ at. Rest at.session)
 goes_session old r Rest t s reason why stands rest =
-    goes old r {P = HasSession old t} {Next = λ at. Rest at.session} reason why (record { session = s; stands = stands }) (λ at. subst (λ (x : Session). Told r why ↔ Rest x) (one_value (get old.sessions t) s at.session stands at.stands) rest)
+    goes old r {P = HasSession old t} {Next = λ at. Rest at.session} reason why (record { session = s; stands = stands })
+    (λ at. subst (λ (x : Session). Told r why ↔ Rest x) (one_value (get old.sessions t) s at.session stands at.stands) rest)
 
 -- the session of a bearer of a sound gateway stands
 pub session_stands : (s : GatewayState) (t : ℕ) (b : Bearer) → IsSoundState s → get s.node.bearers t ≡ Some b → HasSession s.node b.session

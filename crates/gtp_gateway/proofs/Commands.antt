@@ -16,14 +16,17 @@ use Rattle.gtp_machine.specs.Step.{Step}
 use Rattle.gtp_gateway.specs.GatewayState.{GatewayState, IsSoundState}
 
 -- what a command leaves is sound: it was a step, or changed nothing
-pub command_sound : (command : Command) (r : Result Begun CommandFault) (old new : GatewayState) → IsWellFormed (Commanded command) → IfOk r (λ begun. IsCarriedOut command old begun new) → OnErr r (new ≡ old) → IsSoundState old → IsSoundState new
+pub command_sound : (command : Command) (r : Result Begun CommandFault) (old new : GatewayState) → IsWellFormed (Commanded command)
+    → IfOk r (λ begun. IsCarriedOut command old begun new) → OnErr r (new ≡ old) → IsSoundState old → IsSoundState new
 command_sound command (Ok begun) old new formed done same whole =
-    ∥∥₁_elim whole ∥∥₁_prop (λ before. merely (subst (λ r. IsSound r new.node) (sym done.role) (subst (IsSound old.role) (sym done.becomes) (stays_sound old.role old.node (Commanded command) done.effect before formed done.step))))
+    ∥∥₁_elim whole ∥∥₁_prop (λ before. merely (subst (λ r. IsSound r new.node) (sym done.role)
+    (subst (IsSound old.role) (sym done.becomes) (stays_sound old.role old.node (Commanded command) done.effect before formed done.step))))
 command_sound command (Err fault) old new formed done same whole = subst IsSoundState (sym same) whole
 
 -- a request that was sent by the last rule of its command was sent by the command
 pub done_by : (command : Command) (number : ℕ) (p q : Request) (r : Result Begun CommandFault) (old new : GatewayState) → p ≡ q → ((teid : Option ℕ) → outcomes.Begun teid ≡ outcome_by command teid)
-    → ((e : Effect) → HasPendingRoom old.node → AsksFor number q old.node e → Step old.role old.node (Commanded command) e) → IfOk r (λ begun. IsAskedFor number p old begun new) → IfOk r (λ begun. IsCarriedOut command old begun new)
+    → ((e : Effect) → HasPendingRoom old.node → AsksFor number q old.node e → Step old.role old.node (Commanded command) e)
+    → IfOk r (λ begun. IsAskedFor number p old begun new) → IfOk r (λ begun. IsCarriedOut command old begun new)
 done_by command number p q (Ok begun) old new is comes step done =
     let asked = subst (λ x. IsAskedFor number x old begun new) is done in
     record {

@@ -11,7 +11,8 @@ pub first_has : {X : Type 0} (P : X → Type 0) (xs : List X) (x : X) (rest : Li
 first_has P xs x rest all is = All-head P x rest (subst (All P) is all)
 
 -- the contexts of a message of this type, by the first of them and the rest
-pub first_read : (kind : ℕ) (m : MessageValue) (cs : List (List Element)) (c : List Element) (rest : List (List Element)) → m.kind ≡ kind → contexts_of m ≡ map (values_in (context_rows m.kind)) cs → cs ≡ c ∷ rest
+pub first_read : (kind : ℕ) (m : MessageValue) (cs : List (List Element)) (c : List Element) (rest : List (List Element)) → m.kind ≡ kind
+    → contexts_of m ≡ map (values_in (context_rows m.kind)) cs → cs ≡ c ∷ rest
     → contexts_of m ≡ values_in (context_rows kind) c ∷ map (values_in (context_rows kind)) rest
 first_read kind m cs c rest of are is = are ∙ (λ i. map (values_in (context_rows (of i))) (is i))
 

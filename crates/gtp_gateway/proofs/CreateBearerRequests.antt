@@ -16,7 +16,8 @@ use Rattle.gtp_gateway.specs.receive.CreateBearerRequest.{ReadsCreateBearer, Say
 use Rattle.gtp_machine.specs.MessageType.{type_at}
 
 -- no further item came
-pub none_further : {X : Type 0} (o : Option X) (left after : List X) (none : Bool) → is_some o ≡ not none → MatchOption o ((left ≡ []) × (after ≡ [])) (λ x. left ≡ x ∷ after) → IsTrue none ↔ (left ≡ [])
+pub none_further : {X : Type 0} (o : Option X) (left after : List X) (none : Bool) → is_some o ≡ not none
+    → MatchOption o ((left ≡ []) × (after ≡ [])) (λ x. left ≡ x ∷ after) → IsTrue none ↔ (left ≡ [])
 none_further None left after true is steps = (λ _. steps.0, λ _. refl)
 none_further (Some x) left after false is steps = (λ yes. absurd (let no : false ≡ true = yes in cc), λ empty. absurd (let some : x ∷ after ≡ [] = sym steps ∙ empty in cc))
 none_further o left after none is steps = absurd cc

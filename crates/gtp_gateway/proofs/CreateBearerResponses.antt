@@ -84,7 +84,8 @@ some_there : (o : Option Teid) (t : ℕ) → o ≡ Some t → IsSome o
 some_there None t is = absurd cc
 some_there (Some x) t is = refl
 
-bearer_here : (purpose : Purpose) (m : Message) (r : Response) (x : CreateBearerResponse) → is_for purpose m ≡ true → x.header ≡ r.header → x.cause ≡ r.cause → FitsCreateBearer (about purpose m) x → FitsCreateBearerOf purpose r
+bearer_here : (purpose : Purpose) (m : Message) (r : Response) (x : CreateBearerResponse) → is_for purpose m ≡ true → x.header ≡ r.header → x.cause ≡ r.cause
+    → FitsCreateBearer (about purpose m) x → FitsCreateBearerOf purpose r
 bearer_here purpose m r x meant at of fits =
     let is = by purpose.asked (asked_here purpose m (Create_bearer_request fits.request) fits.asked meant) in
     record {
@@ -119,7 +120,17 @@ module _ (n : Node) (r : BearerResponse) (x : CreateBearerResponse) (says : Says
       bearer_fits = record { request = bearer_request.request; asked = bearer_request.is; session = k.session; about = asked.session; bearer = k.bearer; about_bearer = asked.bearer; named = is_named }
 
       pub bearer_is_refused : (IsAccepting r.response.cause → ⊥) → BearerRow x n (effect_by (Finishes purpose (Rejected r.response.cause.value)) x.number n)
-      bearer_is_refused refused = inr (bearer_at, inr (bearer_fits, inl (λ accepts. refused (subst IsAccepting says.cause accepts), λ i. effect_by (Finishes purpose (Rejected (sym says.cause i).value)) x.number n)))
+      bearer_is_refused refused =
+          inr (
+            bearer_at,
+            inr (
+              bearer_fits,
+              inl (
+                λ accepts. refused (subst IsAccepting says.cause accepts),
+                λ i. effect_by (Finishes purpose (Rejected (sym says.cause i).value)) x.number n,
+              ),
+            ),
+          )
 
       module _ (accepts : IsAccepting r.response.cause) where
         bearer_accepting : IsAccepting x.cause
@@ -138,7 +149,23 @@ module _ (n : Node) (r : BearerResponse) (x : CreateBearerResponse) (says : Says
           bearer_new = record { context = bearer_only.0; alone = bearer_only.1 }
 
           pub bearer_refused : (IsAccepting c.cause → ⊥) → BearerRow x n (effect_by (Finishes purpose (Rejected c.cause.value)) x.number n)
-          bearer_refused refused = inr (bearer_at, inr (bearer_fits, inr (bearer_accepting, inr (bearer_new, inl (λ both. refused (subst IsAccepting bearer_only.2.cause both), λ i. effect_by (Finishes purpose (Rejected (sym bearer_only.2.cause i).value)) x.number n)))))
+          bearer_refused refused =
+              inr (
+                bearer_at,
+                inr (
+                  bearer_fits,
+                  inr (
+                    bearer_accepting,
+                    inr (
+                      bearer_new,
+                      inl (
+                        λ both. refused (subst IsAccepting bearer_only.2.cause both),
+                        λ i. effect_by (Finishes purpose (Rejected (sym bearer_only.2.cause i).value)) x.number n,
+                      ),
+                    ),
+                  ),
+                ),
+              )
 
           module _ (accept : IsAccepting c.cause) where
             both_accept : IsAccepting bearer_new.context.cause
@@ -153,23 +180,37 @@ module _ (n : Node) (r : BearerResponse) (x : CreateBearerResponse) (says : Says
 
               openable : CanOpenIn sessions bearers k.session c.identity → CanOpen n k.session bearer_new.context.identity
               openable can =
-                  let here = subst (λ (bs : FiniteMap Bearer). CanOpenIn n.sessions bs k.session c.identity) same_bearers (subst (λ (ss : FiniteMap Session). CanOpenIn ss bearers k.session c.identity) same can) in
+                  let here =
+                  subst (λ (bs : FiniteMap Bearer). CanOpenIn n.sessions bs k.session c.identity) same_bearers
+                  (subst (λ (ss : FiniteMap Session). CanOpenIn ss bearers k.session c.identity) same can) in
                   subst (λ (i : ℕ). CanOpen n k.session i) (sym bearer_only.2.identity)
-                  (record { range = record { low = here.range.least; high = here.range.most }; unused = here.unused; at = record { session = here.at; stands = here.stands }; not_closing = here.not_closing })
+                  (record {
+                    range = record { low = here.range.least; high = here.range.most };
+                    unused = here.unused;
+                    at = record { session = here.at; stands = here.stands };
+                    not_closing = here.not_closing;
+                  })
 
               not_openable : (CanOpenIn sessions bearers k.session c.identity → ⊥) → CanOpen n k.session bearer_new.context.identity → ⊥
               not_openable cannot can =
                   let here = subst (λ (i : ℕ). CanOpen n k.session i) bearer_only.2.identity can in
-                  cannot (subst (λ (bs : FiniteMap Bearer). CanOpenIn sessions bs k.session c.identity) (sym same_bearers) (subst (λ (ss : FiniteMap Session). CanOpenIn ss n.bearers k.session c.identity) (sym same)
+                  cannot (subst (λ (bs : FiniteMap Bearer). CanOpenIn sessions bs k.session c.identity) (sym same_bearers)
+                  (subst (λ (ss : FiniteMap Session). CanOpenIn ss n.bearers k.session c.identity) (sym same)
                   (record { range = record { least = here.range.low; most = here.range.high }; unused = here.unused; at = here.at.session; stands = here.at.stands; not_closing = here.not_closing })))
 
               pub clashes : (CanOpenIn sessions bearers k.session c.identity → ⊥) → BearerRow x n (effect_by (Finishes purpose Clash) x.number n)
               clashes cannot = inr (bearer_at, inr (bearer_fits, inr (bearer_accepting, inr (bearer_new, inr (both_accept, inr (is_returned, inl (not_openable cannot, refl)))))))
 
-              pub bearer_opens : CanOpenIn sessions bearers k.session c.identity → (b : Bearer) → get n.bearers k.bearer ≡ Some b → (identity : ℕ) → identity ≡ c.identity → (bearer : Bearer) → bearer ≡ record b { remote = c.user; identity = Some identity; state = Active } → BearerRow x n (effect_by (OpensBearer k.bearer bearer) x.number n)
+              pub bearer_opens : CanOpenIn sessions bearers k.session c.identity → (b : Bearer) → get n.bearers k.bearer ≡ Some b → (identity : ℕ)
+                  → identity ≡ c.identity → (bearer : Bearer) → bearer ≡ record b { remote = c.user; identity = Some identity; state = Active }
+                  → BearerRow x n (effect_by (OpensBearer k.bearer bearer) x.number n)
               bearer_opens can b stands identity is_identity bearer bearer_is =
                   let then : bearer ≡ opened_dedicated b x =
-                  bearer_is ∙ (λ i. record b { remote = (sym bearer_only.2.user ∙ sym (ap first_given bearer_only.1)) i; identity = (ap one (is_identity ∙ sym bearer_only.2.identity) ∙ sym (ap first_identity bearer_only.1)) i; state = Active }) in
+                  bearer_is ∙ (λ i. record b {
+                    remote = (sym bearer_only.2.user ∙ sym (ap first_given bearer_only.1)) i;
+                    identity = (ap one (is_identity ∙ sym bearer_only.2.identity) ∙ sym (ap first_identity bearer_only.1)) i;
+                    state = Active;
+                  }) in
                   meets bearer_at
                   (meets bearer_fits
                   (meets bearer_accepting
@@ -190,7 +231,8 @@ record IsBearerAsked (n : Node) (session bearer : ℕ) : Type 0 where
   pub stands : get n.bearers bearer ≡ Some at
   pub blank : (s : Session) → get n.sessions session ≡ Some s → s.state ≢ Closing → at.remote ≡ None
 
-create_bearer_asked : (role : Role) (n : Node) → IsSound role n → (number : ℕ) (purpose : Purpose) (w : IsWaiting n number purpose) (r : Response) (k : AskedBearer) → IsAskedBearer purpose r k → IsBearerAsked n k.session k.bearer
+create_bearer_asked : (role : Role) (n : Node) → IsSound role n → (number : ℕ) (purpose : Purpose) (w : IsWaiting n number purpose) (r : Response) (k : AskedBearer)
+    → IsAskedBearer purpose r k → IsBearerAsked n k.session k.bearer
 create_bearer_asked role n sound number purpose w r k asked =
     let q = asks_bearer purpose w.message k.bearer asked.asked asked.bearer w.meant in
     let is = is_bearer role n sound number (about purpose w.message) q.request w.waits q.is in
@@ -209,7 +251,8 @@ create_bearer_asked role n sound number purpose w r k asked =
       blank = λ o here opened. absurd (opened (ap (λ (y : Session). y.state) (one_value (get n.sessions k.session) o c here (ap (λ (i : ℕ). get n.sessions i) (sym session) ∙ closes)) ∙ closing));
     }
 
-module _ (role : Role) (heard : Heard) (old : Node) (whole : ∥ IsSound role old ∥₁) (number : ℕ) (purpose : Purpose) (w : IsWaiting (node_heard heard old) number purpose) (r : Response) (k : AskedBearer) (asked : IsAskedBearer purpose r k) where
+module _ (role : Role) (heard : Heard) (old : Node) (whole : ∥ IsSound role old ∥₁) (number : ℕ) (purpose : Purpose)
+    (w : IsWaiting (node_heard heard old) number purpose) (r : Response) (k : AskedBearer) (asked : IsAskedBearer purpose r k) where
   pub bearer_stands : get (node_heard heard old).bearers k.bearer ≡ None → ⊥
   bearer_stands = stands_there whole (node_heard heard old) k.bearer (λ sound. let d = by sound in (d.at, d.stands))
     where
@@ -220,4 +263,6 @@ module _ (role : Role) (heard : Heard) (old : Node) (whole : ∥ IsSound role ol
   bearer_blank s here opened = blank_there whole (node_heard heard old) k.bearer by
     where
       by : IsSound role old → IsBlank (node_heard heard old) k.bearer
-      by sound = let d = create_bearer_asked role (node_heard heard old) (heard_sound role heard old sound) number purpose w r k asked in record { at = d.at; stands = d.stands; blank = d.blank s here opened }
+      by sound =
+          let d = create_bearer_asked role (node_heard heard old) (heard_sound role heard old sound) number purpose w r k asked in
+          record { at = d.at; stands = d.stands; blank = d.blank s here opened }

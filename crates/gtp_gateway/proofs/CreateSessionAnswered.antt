@@ -27,10 +27,14 @@ use Rattle.gtp_gateway.specs.GatewayState.{GatewayState}
 use Rattle.gtp_gateway.proofs.Rows.{answers_made}
 use Rattle.gtp_gateway.proofs.RestartCounters.{counter_stays, config_stays}
 
-pub answered_so : (Takes : Node → Effect → Type 0) (arrival : Arrival) (answer : List Message) (cause : ℕ) (made : Bool) (left heard : Node) (old : GatewayState) (step : ControlStep) (new : GatewayState) → heard.config ≡ old.node.config → IsAnsweredSo arrival answer cause made left old step new → Takes heard (answering made arrival answer cause left)
+pub answered_so : (Takes : Node → Effect → Type 0) (arrival : Arrival) (answer : List Message) (cause : ℕ) (made : Bool) (left heard : Node) (old : GatewayState)
+    (step : ControlStep) (new : GatewayState) → heard.config ≡ old.node.config → IsAnsweredSo arrival answer cause made left old step new
+    → Takes heard (answering made arrival answer cause left)
     → IsRow Takes arrival old.role heard step new
 answered_so Takes arrival answer cause made left heard old step new config a takes =
-    answers_made Takes arrival (record old { node = heard }) new step a.sent answer cause made left a.is (a.goes ∙ ap (λ (c : Config). datagram_of c (record { destination = arrival.source; messages = answer })) (sym config)) a.read a.becomes a.role takes
+    answers_made Takes arrival (record old { node = heard }) new step a.sent answer cause made left a.is
+    (a.goes ∙ ap (λ (c : Config). datagram_of c (record { destination = arrival.source; messages = answer })) (sym config)) a.read a.becomes a.role
+    takes
 
 module _ (r : SessionRequest) (q : CreateSessionRequest) (says : SaysCreateSession r q) (heard : Heard) (node : Node) where
   abbrev left : Node
@@ -48,7 +52,14 @@ module _ (r : SessionRequest) (q : CreateSessionRequest) (says : SaysCreateSessi
       control = Some (tunnel_end 7 g.drawn.control (sym (config_stays heard node) i).own.control);
       address = Some (allocation 64 g.address);
       ambr = sym says.ambr i;
-      contexts = record { identity = (sym says.context i).identity; cause = cause_of 16; user = Some (tunnel_end 5 g.drawn.user (sym (config_stays heard node) i).own.user); qos = Some (sym says.context i).qos; charging = Some g.drawn.user } ∷ [];
+      contexts =
+          record {
+            identity = (sym says.context i).identity;
+            cause = cause_of 16;
+            user = Some (tunnel_end 5 g.drawn.user (sym (config_stays heard node) i).own.user);
+            qos = Some (sym says.context i).qos;
+            charging = Some g.drawn.user;
+          } ∷ [];
       recovery = Some (sym (counter_stays heard node) i);
     })
 
@@ -59,8 +70,22 @@ module _ (r : SessionRequest) (q : CreateSessionRequest) (says : SaysCreateSessi
     pub made_same : changed_by (change_of r g) left ≡ session_made left q g.drawn.control g.drawn.user g.address
     made_same = λ i. record left {
       drawn = g.drawn.user ∷ g.drawn.control ∷ left.drawn;
-      sessions = insert left.sessions g.drawn.control (record { remote = Some (sym says.control i).teid; subscriber = record { imsi = sym says.imsi i; access_point = sym says.access_point i; identity = chosen i }; address = Some g.address; state = Active });
-      bearers = insert left.bearers g.drawn.user (record { remote = Some (sym says.context i).user.teid; session = g.drawn.control; identity = Some (chosen i); kind = Default; state = Active; ended = false });
+      sessions =
+          insert left.sessions g.drawn.control (record {
+            remote = Some (sym says.control i).teid;
+            subscriber = record { imsi = sym says.imsi i; access_point = sym says.access_point i; identity = chosen i };
+            address = Some g.address;
+            state = Active;
+          });
+      bearers =
+          insert left.bearers g.drawn.user (record {
+            remote = Some (sym says.context i).user.teid;
+            session = g.drawn.control;
+            identity = Some (chosen i);
+            kind = Default;
+            state = Active;
+            ended = false;
+          });
     }
 
     -- the template's bearer is asked for in the same words
@@ -74,9 +99,12 @@ module _ (r : SessionRequest) (q : CreateSessionRequest) (says : SaysCreateSessi
       further = [];
     }
 
-    pub both_same : (a : AddedBearer) → grants_with r g a node ≡ Create_session_response (session_response left q g.drawn.control g.drawn.user g.address) ∷ Create_bearer_request (asked_with (made_session q g.address) a (session_made left q g.drawn.control g.drawn.user g.address)) ∷ []
+    pub both_same : (a : AddedBearer)
+        → grants_with r g a node ≡ Create_session_response (session_response left q g.drawn.control g.drawn.user g.address) ∷ Create_bearer_request
+        (asked_with (made_session q g.address) a (session_made left q g.drawn.control g.drawn.user g.address)) ∷ []
     both_same a = λ i. grant_same i ∷ Create_bearer_request (asked_same a i) ∷ []
 
     pub begun_same : (a : AddedBearer) → create_bearer_asked (changed_by (change_of r g) left) g.drawn.control (asked_with (session_granted r g) a node) a.drawn.teid
-        ≡ create_bearer_asked (session_made left q g.drawn.control g.drawn.user g.address) g.drawn.control (asked_with (made_session q g.address) a (session_made left q g.drawn.control g.drawn.user g.address)) a.drawn.teid
+        ≡ create_bearer_asked (session_made left q g.drawn.control g.drawn.user g.address) g.drawn.control
+        (asked_with (made_session q g.address) a (session_made left q g.drawn.control g.drawn.user g.address)) a.drawn.teid
     begun_same a = λ i. create_bearer_asked (made_same i) g.drawn.control (asked_same a i) a.drawn.teid

@@ -33,7 +33,8 @@ use Rattle.gtp_gateway.proofs.Rules.{follows}
 use Rattle.gtp_gateway.proofs.Allocations.{sends, sends_answer}
 
 -- with a template's bearer or without
-answered_with : (template : Option Template) (request : Arrival) (a : CreateSessionResponse) (cause session : ℕ) (s : Session) (made : Node) (e : Effect) → AnswersWith template request a cause session s made e → SendsOrOpens e
+answered_with : (template : Option Template) (request : Arrival) (a : CreateSessionResponse) (cause session : ℕ) (s : Session) (made : Node) (e : Effect)
+    → AnswersWith template request a cause session s made e → SendsOrOpens e
 answered_with None request a cause session s made e is = sends (λ none. cc) is
 answered_with (Some t) request a cause session s made e (inl alone) = sends (λ none. cc) alone.1
 answered_with (Some t) request a cause session s made e (inr (can, adds)) = sends (λ none. cc) adds.gives
@@ -112,7 +113,8 @@ module _ (n : Node) (sessions : FiniteMap Session) (pools : Pools) (same : sessi
   no_address version used has =
       let free = has.free in
       let at = used free.place (subst (λ (p : Pools). free.place < count_of p version) (sym of) free.in_pool) in
-      free.unused at.teid at.session (ap (λ (m : FiniteMap Session). get m at.teid) (sym same) ∙ at.stands) (at.has ∙ ap (λ (k : List ℕ). Some k) (ap (λ (p : Pools). address_at p version free.place) of ∙ sym free.is))
+      free.unused at.teid at.session (ap (λ (m : FiniteMap Session). get m at.teid) (sym same) ∙ at.stands)
+      (at.has ∙ ap (λ (k : List ℕ). Some k) (ap (λ (p : Pools). address_at p version free.place) of ∙ sym free.is))
 
   -- the lowest that is free is one that may be given, and so is none where there is none
   part_given : (pdn : ℕ) (version : IpVersion) (part : Option (List ℕ)) → IsLowestPart sessions pools (asked_by pdn) version part → IsPart n pdn version part

@@ -113,7 +113,8 @@ of_session n number purpose w r k asked = (asks_session purpose w.message k.bear
 abbrev pub one : ℕ → Option ℕ
 one n = Some n
 
-session_here : (purpose : Purpose) (m : Message) (r : Response) (a : CreateSessionResponse) → is_for purpose m ≡ true → a.header ≡ r.header → FitsCreateSession (about purpose m) a → FitsCreateSessionOf purpose r
+session_here : (purpose : Purpose) (m : Message) (r : Response) (a : CreateSessionResponse) → is_for purpose m ≡ true → a.header ≡ r.header
+    → FitsCreateSession (about purpose m) a → FitsCreateSessionOf purpose r
 session_here purpose m r a meant at fits = by purpose.asked refl (asked_here purpose m (Create_session_request fits.request) fits.asked meant)
   where
     named : (default : Teid) → purpose.asked ≡ CreateSession default → Named (about purpose m) a.header a.cause → session_of purpose ≡ Some r.header
@@ -191,9 +192,28 @@ module _ (n : Node) (r : SessionResponse) (a : CreateSessionResponse) (says : Sa
           only = (only_here n r a says d.context is.alone).2
 
           pub default_refused : (IsAccepting d.context.cause → ⊥) → SessionRow a n (effect_by (Finishes purpose (Rejected d.context.cause.value)) a.number n)
-          default_refused refused = inr (at, inr (fits, inr (accepting, inr (new, inl (λ both. refused (subst IsAccepting only.cause both), λ i. effect_by (Finishes purpose (Rejected (sym only.cause i).value)) a.number n)))))
+          default_refused refused =
+              inr (
+                at,
+                inr (
+                  fits,
+                  inr (
+                    accepting,
+                    inr (
+                      new,
+                      inl (
+                        λ both. refused (subst IsAccepting only.cause both),
+                        λ i. effect_by (Finishes purpose (Rejected (sym only.cause i).value)) a.number n,
+                      ),
+                    ),
+                  ),
+                ),
+              )
 
-          pub opens : IsAccepting d.context.cause → (b : Bearer) → get n.bearers k.bearer ≡ Some b → (session : Session) → session ≡ record d.session { remote = r.control; address = Some d.address; state = Active } → (bearer : Bearer) → bearer ≡ record b { remote = d.context.user; state = Active } → SessionRow a n (effect_by (OpensSession k.session session k.bearer bearer) a.number n)
+          pub opens : IsAccepting d.context.cause → (b : Bearer) → get n.bearers k.bearer ≡ Some b → (session : Session)
+              → session ≡ record d.session { remote = r.control; address = Some d.address; state = Active } → (bearer : Bearer)
+              → bearer ≡ record b { remote = d.context.user; state = Active }
+              → SessionRow a n (effect_by (OpensSession k.session session k.bearer bearer) a.number n)
           opens both b stands session session_is bearer bearer_is =
               let user : k.bearer ≡ request.request.context.user.teid = sym request.user in
               let now : session ≡ opened_session d.session a d.address = session_is ∙ (λ i. record d.session { remote = sym says.control i; address = Some d.address; state = Active }) in
@@ -215,7 +235,8 @@ module _ (n : Node) (r : SessionResponse) (a : CreateSessionResponse) (says : Sa
 -- ---- what stands, at a sound gateway
 
 -- the default bearer of a session that was asked for has no remote yet
-default_asked : (role : Role) (n : Node) → IsSound role n → (number : ℕ) (purpose : Purpose) (w : IsWaiting n number purpose) (r : Response) (k : AskedSession) → IsAskedSession purpose r k → IsBlank n k.bearer
+default_asked : (role : Role) (n : Node) → IsSound role n → (number : ℕ) (purpose : Purpose) (w : IsWaiting n number purpose) (r : Response) (k : AskedSession)
+    → IsAskedSession purpose r k → IsBlank n k.bearer
 default_asked role n sound number purpose w r k asked =
     let x = asks_session purpose w.message k.bearer asked.asked w.meant in
     let is = is_session role n sound number (about purpose w.message) x.request w.waits x.is in
@@ -223,7 +244,8 @@ default_asked role n sound number purpose w r k asked =
     let stands = ap (λ (t : ℕ). get n.bearers t) (sym user) ∙ is.0.default.1 in
     record { at = is.0.default.0; stands = stands; blank = (sound.contexts.each_bearer k.bearer is.0.default.0 stands).blank is.0.default.2.in_state }
 
-module _ (role : Role) (heard : Heard) (old : Node) (whole : ∥ IsSound role old ∥₁) (number : ℕ) (purpose : Purpose) (w : IsWaiting (node_heard heard old) number purpose) (r : Response) (k : AskedSession) (asked : IsAskedSession purpose r k) where
+module _ (role : Role) (heard : Heard) (old : Node) (whole : ∥ IsSound role old ∥₁) (number : ℕ) (purpose : Purpose)
+    (w : IsWaiting (node_heard heard old) number purpose) (r : Response) (k : AskedSession) (asked : IsAskedSession purpose r k) where
   pub default_stands : get (node_heard heard old).bearers k.bearer ≡ None → ⊥
   default_stands = stands_there whole (node_heard heard old) k.bearer (λ sound. let d = by sound in (d.at, d.stands))
     where

@@ -21,7 +21,8 @@ use Rattle.gtp_gateway.proofs.Columns.{Told, goes}
 
 module _ (s : GatewayState) (whole : IsSoundState s) (session identity : ℕ) where
   -- two bearers of the session with the identity stand under one TEID
-  pub one_named : (t k : ℕ) (b d : Bearer) → get s.node.bearers t ≡ Some b → b.session ≡ session → b.identity ≡ Some identity → get s.node.bearers k ≡ Some d → d.session ≡ session → d.identity ≡ Some identity → t ≡ k
+  pub one_named : (t k : ℕ) (b d : Bearer) → get s.node.bearers t ≡ Some b → b.session ≡ session → b.identity ≡ Some identity → get s.node.bearers k ≡ Some d
+      → d.session ≡ session → d.identity ≡ Some identity → t ≡ k
   one_named t k b d b_stands b_of b_has d_stands d_of d_has = by (t == k) refl
     where
       none : IsSound s.role s.node → (t == k) ≡ false → ⊥
@@ -39,7 +40,9 @@ module _ (s : GatewayState) (whole : IsSoundState s) (session identity : ℕ) wh
       not (ap (λ (x : Bearer). x.kind) one ∙ named.dedicated)
 
   -- the rules after the look-up look at no more than that bearer
-  pub goes_named : (r : Result Begun CommandFault) (Rest : ℕ → Bearer → Type 0) (d : Dedicated) (reason why : Refusal) → IsDedicated s.node session identity d → Told r why ↔ Rest d.teid d.bearer → Told r why ↔ Unless (NamesBearer s.node session identity) (refused s.node why ≡ refused s.node reason) (λ named. Rest named.key named.at.bearer)
+  pub goes_named : (r : Result Begun CommandFault) (Rest : ℕ → Bearer → Type 0) (d : Dedicated) (reason why : Refusal) → IsDedicated s.node session identity d
+      → Told r why ↔ Rest d.teid d.bearer → Told r why
+      ↔ Unless (NamesBearer s.node session identity) (refused s.node why ≡ refused s.node reason) (λ named. Rest named.key named.at.bearer)
   goes_named r Rest d reason why is rest =
       goes s.node r {P = NamesBearer s.node session identity} {Next = λ named. Rest named.key named.at.bearer} reason why
       (record { key = d.teid; at = record { bearer = d.bearer; stands = is.stands }; of = is.of; dedicated = is.dedicated; has = is.has })

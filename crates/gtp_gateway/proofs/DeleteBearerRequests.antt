@@ -27,7 +27,9 @@ use Rattle.gtp_gateway.specs.declared.receive.delete_request.DeleteRequest.{Dele
 use Rattle.gtp_gateway.specs.declared.receive.delete_bearer_request.identities.NamedBearer.{NamedBearer}
 use Rattle.gtp_machine.specs.declared.message_type.MessageType.TheVariants as types
 use Rattle.gtp_gateway.specs.declared.step.ControlStep.{ControlStep}
-use Rattle.gtp_gateway.specs.receive.DeleteBearerRequest.{is_at, goes_for, is_found, was_named, NamesOne, NamesEach, identity_named, cause_named, removed_by, without_named, without_each, delete_bearer_by, identities_of, IsForBearers, number_in, delete_bearer_effect}
+use Rattle.gtp_gateway.specs.receive.DeleteBearerRequest.{is_at, goes_for, is_found, was_named, NamesOne, NamesEach, identity_named, cause_named}
+use Rattle.gtp_gateway.specs.receive.DeleteBearerRequest.{removed_by, without_named, without_each, delete_bearer_by, identities_of, IsForBearers}
+use Rattle.gtp_gateway.specs.receive.DeleteBearerRequest.{number_in, delete_bearer_effect}
 use Rattle.gtp_gateway.specs.receive.DeleteRequest.{ReadsDelete}
 use Rattle.gtp_machine.specs.MessageType.{type_at}
 use Rattle.gtp_gateway.specs.receive.Row.{IsRow}
@@ -53,16 +55,20 @@ delete_bearer_judged request d old opened e r =
     follows (sends_answer request old) (λ at. follows (λ pending is. absurd (pending (opened at))) (λ was. delete_bearer_taken request d d.linked old at.session e)) r
 
 -- so it was where the request is answered
-pub delete_bearer_opened : (request : Arrival) (d : DeleteBearerRequest) (old : Node) (m : Message) (cause : ℕ) (left : Node) → DeleteBearerJudged request d old (answered request m cause left) → WasOpened old d.header
+pub delete_bearer_opened : (request : Arrival) (d : DeleteBearerRequest) (old : Node) (m : Message) (cause : ℕ) (left : Node)
+    → DeleteBearerJudged request d old (answered request m cause left) → WasOpened old d.header
 delete_bearer_opened request d old m cause left (inl f) at = absurd (f.0 at)
-delete_bearer_opened request d old m cause left (inr (a, inl f)) at = absurd (let none : (record { destination = request.source; messages = m ∷ [] } ∷ []) ≡ [] = ap (λ (x : Effect). x.out.sent) f.1 in cc)
-delete_bearer_opened request d old m cause left (inr (a, inr (opened, rest))) at = subst (λ (s : Session). s.state ≡ Pending → ⊥) (one_value (get old.sessions d.header) a.session at.session a.stands at.stands) opened
+delete_bearer_opened request d old m cause left (inr (a, inl f)) at =
+    absurd (let none : (record { destination = request.source; messages = m ∷ [] } ∷ []) ≡ [] = ap (λ (x : Effect). x.out.sent) f.1 in cc)
+delete_bearer_opened request d old m cause left (inr (a, inr (opened, rest))) at =
+    subst (λ (s : Session). s.state ≡ Pending → ⊥) (one_value (get old.sessions d.header) a.session at.session a.stands at.stands) opened
 
 pub delete_bearer_asked : (request : Arrival) (d : DeleteBearerRequest) (old : Node) → HasHeldRoom old → WasOpened old d.header → AlwaysSendsOrOpens (DeleteBearerAsked request d) old
 delete_bearer_asked request d old room opened e r = follows (λ full is. absurd (full room)) (λ few. delete_bearer_judged request d old opened e) r
 
 -- a row of one kind, as a row of another that holds of the same effects at this node
-pub row_as : (T U : Node → Effect → Type 0) (request : Arrival) (role : Role) (old : Node) (step : ControlStep) (new : GatewayState) → ((e : Effect) → T old e → U old e) → IsRow T request role old step new → IsRow U request role old step new
+pub row_as : (T U : Node → Effect → Type 0) (request : Arrival) (role : Role) (old : Node) (step : ControlStep) (new : GatewayState)
+    → ((e : Effect) → T old e → U old e) → IsRow T request role old step new → IsRow U request role old step new
 row_as T U request role old step new each row = record { effect = row.effect; takes = each row.effect row.takes; tells = row.tells; becomes = row.becomes; role_stays = row.role_stays }
 
 -- ---- the cause of the answer
@@ -85,9 +91,14 @@ cause_is ns all any at_all at_any = λ i. cond ((at_all ∙ all_is ns) i) 16 (co
 
 -- ---- the bearers that are named, one more
 
-pub names_push : (old : Node) (session : ℕ) (before ns : List NamedBearer) (n : NamedBearer) → NamesEach old session before ns → NamesOne old session (before ++ ns) n.identity.0 n.teid → NamesEach old session before (ns ++ n ∷ [])
+pub names_push : (old : Node) (session : ℕ) (before ns : List NamedBearer) (n : NamedBearer) → NamesEach old session before ns
+    → NamesOne old session (before ++ ns) n.identity.0 n.teid → NamesEach old session before (ns ++ n ∷ [])
 names_push old session before [] n each one = (subst (λ (b : List NamedBearer). NamesOne old session b n.identity.0 n.teid) (append-nil before) one, tt)
-names_push old session before (m ∷ ns) n each one = (each.0, names_push old session (before ++ m ∷ []) ns n each.1 (subst (λ (b : List NamedBearer). NamesOne old session b n.identity.0 n.teid) (sym (append_assoc before (m ∷ []) ns)) one))
+names_push old session before (m ∷ ns) n each one = (
+  each.0,
+  names_push old session (before ++ m ∷ []) ns n each.1
+      (subst (λ (b : List NamedBearer). NamesOne old session b n.identity.0 n.teid) (sym (append_assoc before (m ∷ []) ns)) one),
+)
 
 -- ---- how they go
 
@@ -137,14 +148,18 @@ left_more old node before n (Some teid) is left =
     }
 
 -- one of them goes as the machine says
-removes_one : (old node new : Node) (session identity : ℕ) (before : List NamedBearer) (o : Option Teid) (ids : List ℕ) (others : List RemovedBearer) → IsLeft old before node → NamesOne old session before identity o → RemovesEach session ids (without_named o node) others new
+removes_one : (old node new : Node) (session identity : ℕ) (before : List NamedBearer) (o : Option Teid) (ids : List ℕ) (others : List RemovedBearer)
+    → IsLeft old before node → NamesOne old session before identity o → RemovesEach session ids (without_named o node) others new
     → RemovesEach session (identity ∷ ids) node (record { identity = identity; cause = cause_of (cause_named o) } ∷ others) new
 removes_one old node new session identity before None ids others left names rest = (
   others,
   inl (
     λ named.
         let was = left.there named.key named.at.bearer named.at.stands in
-        let twice : true ≡ false = sym (names (record { key = named.key; at = record { bearer = named.at.bearer; stands = was.0 }; of = named.of; dedicated = named.dedicated; has = named.has })) ∙ was.1 in
+        let twice : true ≡ false =
+        sym (names (record
+        { key = named.key; at = record { bearer = named.at.bearer; stands = was.0 }; of = named.of; dedicated = named.dedicated; has = named.has }))
+        ∙ was.1 in
         cc,
     (refl, rest),
   ),
@@ -157,7 +172,8 @@ removes_one old node new session identity before (Some teid) ids others left nam
           ((refl, rest)),
     )
 
-each_goes : (old node : Node) (session : ℕ) (before ns : List NamedBearer) → IsLeft old before node → NamesEach old session before ns → RemovesEach session (map identity_named ns) node (map removed_by ns) (without_each ns node)
+each_goes : (old node : Node) (session : ℕ) (before ns : List NamedBearer) → IsLeft old before node → NamesEach old session before ns
+    → RemovesEach session (map identity_named ns) node (map removed_by ns) (without_each ns node)
 each_goes old node session before [] left each = (refl, refl)
 each_goes old node session before (n ∷ ns) left each =
     removes_one old node (without_each (n ∷ ns) node) session n.identity.0 before n.teid (map identity_named ns) (map removed_by ns) left each.0
@@ -170,12 +186,29 @@ removes_each old session ns each = each_goes old old session [] ns (record { the
 -- ---- the machine's column
 
 -- bearers that are named go
-pub ends_judged : (request : Arrival) (r : DeleteRequest) (old : Node) (header : ℕ) (ids : List EbiValue) (ns : List NamedBearer) → IsForBearers r header old → length ids ≤ 11 → map identity_named ns ≡ map number_in ids → NamesEach old r.header [] ns
-    → DeleteBearerJudged request (delete_bearer_by r (map number_in ids)) old (answered request (Delete_bearer_response (record { header = header; number = r.seq; cause = cause_of (delete_bearer_cause (map removed_by ns)); linked = None; contexts = map removed_by ns; recovery = Some old.counter })) (delete_bearer_cause (map removed_by ns)) (without_each ns old))
+pub ends_judged : (request : Arrival) (r : DeleteRequest) (old : Node) (header : ℕ) (ids : List EbiValue) (ns : List NamedBearer) → IsForBearers r header old
+    → length ids ≤ 11 → map identity_named ns ≡ map number_in ids → NamesEach old r.header [] ns
+    → DeleteBearerJudged request (delete_bearer_by r (map number_in ids)) old (answered request (Delete_bearer_response (record {
+      header = header;
+      number = r.seq;
+      cause = cause_of (delete_bearer_cause (map removed_by ns));
+      linked = None;
+      contexts = map removed_by ns;
+      recovery = Some old.counter;
+    })) (delete_bearer_cause (map removed_by ns)) (without_each ns old))
 ends_judged request r old header ids ns asked few same names =
     let contexts = map removed_by ns in
     let left = without_each ns old in
-    let effect : Effect = answered request (Delete_bearer_response (record { header = header; number = r.seq; cause = cause_of (delete_bearer_cause contexts); linked = None; contexts = contexts; recovery = Some old.counter })) (delete_bearer_cause contexts) left in
+    let effect : Effect =
+    answered request (Delete_bearer_response
+    (record {
+      header = header;
+      number = r.seq;
+      cause = cause_of (delete_bearer_cause contexts);
+      linked = None;
+      contexts = contexts;
+      recovery = Some old.counter;
+    })) (delete_bearer_cause contexts) left in
     meets (record { session = asked.session; stands = asked.stands })
     (meets asked.opened
     (subst (λ (o : Option ℕ). DeleteBearerTaken request (delete_bearer_by r (map number_in ids)) o old asked.session effect) (sym asked.unlinked)
@@ -185,7 +218,16 @@ ends_judged request r old header ids ns asked few same names =
         contexts = contexts;
         left = left;
         removes = subst (λ (l : List ℕ). RemovesEach r.header l old contexts left) same (removes_each old r.header ns names);
-        gives = λ i. answered request (Delete_bearer_response (record { header = asked.named i; number = r.seq; cause = cause_of (delete_bearer_cause contexts); linked = None; contexts = contexts; recovery = Some old.counter })) (delete_bearer_cause contexts) left;
+        gives =
+            λ i. answered request (Delete_bearer_response
+            (record {
+              header = asked.named i;
+              number = r.seq;
+              cause = cause_of (delete_bearer_cause contexts);
+              linked = None;
+              contexts = contexts;
+              recovery = Some old.counter;
+            })) (delete_bearer_cause contexts) left;
       },
     ))))
 
@@ -195,7 +237,8 @@ pub many_judged : (request : Arrival) (r : DeleteRequest) (old : Node) (header :
 many_judged request r old header identities asked many =
     meets (record { session = asked.session; stands = asked.stands })
     (meets asked.opened
-    (subst (λ (o : Option ℕ). DeleteBearerTaken request (delete_bearer_by r identities) o old asked.session (delete_bearer_effect request r.seq (record { header = header; cause = 94; linked = None; change = Stays }) old)) (sym asked.unlinked)
+    (subst (λ (o : Option ℕ). DeleteBearerTaken request (delete_bearer_by r identities) o old asked.session
+    (delete_bearer_effect request r.seq (record { header = header; cause = 94; linked = None; change = Stays }) old)) (sym asked.unlinked)
     (inl (
       λ few. omega (arith, few, many),
       λ i. answered request (Delete_bearer_response (record { header = asked.named i; number = r.seq; cause = cause_of 94; linked = None; contexts = []; recovery = Some old.counter })) 94 old,
@@ -207,8 +250,10 @@ pub numbers_read : (ids : List EbiValue) → map (λ (v : Value). unwrap_or (num
 numbers_read [] = refl
 numbers_read (i ∷ ids) = λ x. i.0 ∷ numbers_read ids x
 
-pub delete_bearer_is : (octets : List ℕ) (m : MessageValue) (r : DeleteRequest) → IsMessage octets m → type_at m.kind ≡ Some types.DeleteBearerRequest → ReadsDelete m r → message_of m ≡ Delete_bearer_request (delete_bearer_by r (identities_of m))
+pub delete_bearer_is : (octets : List ℕ) (m : MessageValue) (r : DeleteRequest) → IsMessage octets m → type_at m.kind ≡ Some types.DeleteBearerRequest → ReadsDelete m r
+    → message_of m ≡ Delete_bearer_request (delete_bearer_by r (identities_of m))
 unfolding row_in list_in
 delete_bearer_is octets m r is at reads =
     let linked = row_said OfEbi number_of (λ n. refl) (row_of 73 0 m) r.linked (reads.linked (ap (λ k. has_row k 73 0) (type_kind m.kind types.DeleteBearerRequest at))) in
-    reads_as types.DeleteBearerRequest octets m is at ∙ (λ i. Delete_bearer_request (record { header = sym reads.header i; number = sym reads.number i; linked = linked i; identities = identities_of m }))
+    reads_as types.DeleteBearerRequest octets m is at ∙ (λ i.
+    Delete_bearer_request (record { header = sym reads.header i; number = sym reads.number i; linked = linked i; identities = identities_of m }))

@@ -29,7 +29,8 @@ module _ (old : Parts) (number : ℕ) (asked : Asked) (response : Option Respons
       → IsRow (λ node. EndsRequest node number (λ at. Fits at.pending) outcome) request old.role (node_of old) step new
   ended step new (inl (none, (is, stays))) =
       subst (λ (s : GatewayState). IsRow (λ node. EndsRequest node number (λ at. Fits at.pending) outcome) request old.role (node_of old) step s) (sym stays)
-      (drops (λ node. EndsRequest node number (λ at. Fits at.pending) outcome) request (state_of old) step NoPending is (inl (λ here. by (purpose_of number old.pending.waiting) refl here.pending here.waits, refl)))
+      (drops (λ node. EndsRequest node number (λ at. Fits at.pending) outcome) request (state_of old) step NoPending is
+      (inl (λ here. by (purpose_of number old.pending.waiting) refl here.pending here.waits, refl)))
     where
       by : (o : Option Purpose) → purpose_of number old.pending.waiting ≡ o → (p : PendingRequest) → get (node_of old).pending number ≡ Some p → ⊥
       by None e p here = none_waits_at old.pending.waiting number p e here
@@ -41,5 +42,6 @@ module _ (old : Parts) (number : ℕ) (asked : Asked) (response : Option Respons
       (inr (record { pending = about at.purpose w.message; waits = w.stands }, inl (λ fits. unfit ((same at.purpose w.message w.meant).1 fits), refl))))
   ended step new (inr (at, inr (fits, (is, becomes, role)))) =
       let w = waits old.config.config.peer.control old.pending.waiting number at.purpose old.asked at.is in
-      ends (λ node. EndsRequest node number (λ at. Fits at.pending) outcome) request (state_of old) new step outcome (finished_about (node_of old) number (session_of at.purpose) (bearer_of at.purpose)) is becomes role
+      ends (λ node. EndsRequest node number (λ at. Fits at.pending) outcome) request (state_of old) new step outcome
+      (finished_about (node_of old) number (session_of at.purpose) (bearer_of at.purpose)) is becomes role
       (inr (record { pending = about at.purpose w.message; waits = w.stands }, inr ((same at.purpose w.message w.meant).0 fits, refl)))

@@ -60,7 +60,9 @@ kept_same {X} f g m each = same_map nat_cmp_total nat_cmp-IsAntisymmetric (kept 
 
 -- of what was kept by one test, what another keeps
 pub kept_after : {X : Type 0} (f g h : ℕ → X → Bool) (m : FiniteMap X) → ((q : ℕ) (x : X) → get m q ≡ Some x → (g q x && f q x) ≡ h q x) → kept f (kept g m) ≡ kept h m
-kept_after {X} f g h m each = same_map nat_cmp_total nat_cmp-IsAntisymmetric (kept f (kept g m)) (kept h m) (λ q. get_kept f (kept g m) q ∙ (ap (passing f q) (get_kept g m q) ∙ (by q (get m q) refl ∙ sym (get_kept h m q))))
+kept_after {X} f g h m each =
+    same_map nat_cmp_total nat_cmp-IsAntisymmetric (kept f (kept g m)) (kept h m)
+    (λ q. get_kept f (kept g m) q ∙ (ap (passing f q) (get_kept g m q) ∙ (by q (get m q) refl ∙ sym (get_kept h m q))))
   where
     twice : (a b : Bool) (q : ℕ) (x : X) → g q x ≡ a → f q x ≡ b → passing f q (cond (g q x) (Some x) None) ≡ cond (a && b) (Some x) None
     twice true true q x is also = rw (is, also) refl
@@ -142,7 +144,8 @@ module _ (m : FiniteMap Bearer) (remote : ℕ) where
       → (t : ℕ) (b : Bearer) → get m t ≡ Some b → (is_passed t next && is_number remote b.remote) ≡ false
   unpassed next lowest none t b stands = by next (is_passed t next) (is_number remote b.remote) refl refl lowest none
     where
-      by : (o : Option Teid) (p n : Bool) → is_passed t o ≡ p → is_number remote b.remote ≡ n → IfSome o (λ teid. (k : ℕ) → HasRemote m remote k → teid ≤ k) → IfNone o (IsUnnamed m remote) → (p && n) ≡ false
+      by : (o : Option Teid) (p n : Bool) → is_passed t o ≡ p → is_number remote b.remote ≡ n
+          → IfSome o (λ teid. (k : ℕ) → HasRemote m remote k → teid ≤ k) → IfNone o (IsUnnamed m remote) → (p && n) ≡ false
       by o false n passed named lowest none = refl
       by o true false passed named lowest none = refl
       by None true true passed named lowest none = absurd (none t b stands (number_is remote b.remote named))
@@ -169,7 +172,8 @@ module _ (m : FiniteMap Bearer) (remote : ℕ) where
       let unnamed = unpassed next lowest none in
       all_kept (λ t b. true) m (λ t b. refl) ∙ sym (kept_same (λ t b. not (is_gone m remote next t b)) (λ t b. true) m (λ t b stands. rw (unnamed t b stands, none_gone next unnamed b.session) refl))
 
-  pub sessions_all_left : (next : Option Teid) (sessions : FiniteMap Session) → IfSome next (λ teid. (t : ℕ) → HasRemote m remote t → teid ≤ t) → IfNone next (IsUnnamed m remote) → sessions ≡ sessions_left m sessions remote next
+  pub sessions_all_left : (next : Option Teid) (sessions : FiniteMap Session) → IfSome next (λ teid. (t : ℕ) → HasRemote m remote t → teid ≤ t)
+      → IfNone next (IsUnnamed m remote) → sessions ≡ sessions_left m sessions remote next
   sessions_all_left next sessions lowest none = all_kept (λ t _. not (has_gone m remote next t)) sessions (λ t s. ap not (none_gone next (unpassed next lowest none) t))
 
   -- ---- at the end
@@ -230,7 +234,14 @@ module _ (m : FiniteMap Bearer) (remote : ℕ) where
               goes_so_far next session (record { key = p.key; bearer = p.bearer; stands = p.stands; passed = upto_it p.key upto; is = p.is })
           by false before_it here =
               let parts = both (is_default at.kind) (nat_eq at.session session) here in
-              goes_so_far next session (record { key = teid; bearer = at; stands = stands; passed = upto_it teid (omega arith); is = and_from (is_default at.kind && is_number remote at.remote) (at.session == session) (and_from (is_default at.kind) (is_number remote at.remote) parts.left named) parts.right })
+              goes_so_far next session (record {
+                key = teid;
+                bearer = at;
+                stands = stands;
+                passed = upto_it teid (omega arith);
+                is = and_from (is_default at.kind && is_number remote at.remote) (at.session == session)
+                    (and_from (is_default at.kind) (is_number remote at.remote) parts.left named) parts.right;
+              })
 
       gone_then : (session : ℕ) → has_gone m remote next session ≡ then_gone session
       gone_then session = alike (has_gone m remote next session) (then_gone session) (goes_on session) (goes_back session)
@@ -243,8 +254,11 @@ module _ (m : FiniteMap Bearer) (remote : ℕ) where
       bearer_gone t b there = by (nat_lt t teid) (nat_eq teid t) refl refl ∙ ap (λ (g : Bool). not ((is_passed t next && is_number remote b.remote) || g)) (sym (gone_then b.session))
         where
           by : (l e : Bool) → nat_lt t teid ≡ l → nat_eq teid t ≡ e
-              → (not ((nat_lt t teid && is_number remote b.remote) || has_gone m remote (Some teid) b.session) && not (nat_eq teid t || default_of b.session (Some at))) ≡ not ((is_passed t next && is_number remote b.remote) || then_gone b.session)
-          by true true less here = let under : t < teid = (let lt : nat_lt t teid ≡ true = less in grind (arith, nat_tests)) in let it : teid ≡ t = same_number teid t here in absurd (omega (arith, under, it))
+              → (not ((nat_lt t teid && is_number remote b.remote) || has_gone m remote (Some teid) b.session) && not
+              (nat_eq teid t || default_of b.session (Some at))) ≡ not ((is_passed t next && is_number remote b.remote) || then_gone b.session)
+          by true true less here =
+              let under : t < teid = (let lt : nat_lt t teid ≡ true = less in grind (arith, nat_tests)) in
+              let it : teid ≡ t = same_number teid t here in absurd (omega (arith, under, it))
           by true false less here =
               let p : is_passed t next ≡ true = upto_it t (let lt : nat_lt t teid ≡ true = less in grind (arith, nat_tests)) in
               rw (less, here, p) (first_of_three (is_number remote b.remote) (has_gone m remote (Some teid) b.session) (default_of b.session (Some at)))
@@ -254,7 +268,8 @@ module _ (m : FiniteMap Bearer) (remote : ℕ) where
               let n : is_number remote b.remote ≡ true = ap (names remote) (it_is t b there here) ∙ named in
               rw (less, here, p, n) (and_right (not (has_gone m remote (Some teid) b.session)) false refl)
           by false false less here =
-              rw (less, here) (neither (has_gone m remote (Some teid) b.session) (default_of b.session (Some at)) ∙ ap not (sym (absorbed (is_passed t next && is_number remote b.remote) (then_gone b.session) (λ is.
+              rw (less, here) (neither (has_gone m remote (Some teid) b.session) (default_of b.session (Some at)) ∙ ap not
+              (sym (absorbed (is_passed t next && is_number remote b.remote) (then_gone b.session) (λ is.
               let parts = both (is_passed t next) (is_number remote b.remote) is in
               let more : teid < t = grind (arith, nat_tests) in
               ended t b there more parts.left parts.right))))
@@ -286,7 +301,9 @@ module _ (m : FiniteMap Bearer) (remote : ℕ) where
               let kept_now : not (nat_eq teid t || default_of b.session (Some at)) ≡ true = rw (other, parts.1) refl in
               absurd (not_next t more passed (record {
                 bearer = b;
-                stands = get-kept (λ k (x : Bearer). not (nat_eq teid k || default_of x.session (Some at))) (bearers_left m remote (Some teid)) t b (get-kept (λ k (x : Bearer). not (is_gone m remote (Some teid) k x)) m t b there kept_before) kept_now;
+                stands =
+                    get-kept (λ k (x : Bearer). not (nat_eq teid k || default_of x.session (Some at))) (bearers_left m remote (Some teid)) t b
+                    (get-kept (λ k (x : Bearer). not (is_gone m remote (Some teid) k x)) m t b there kept_before) kept_now;
                 has = number_is remote b.remote is;
               }))
 
@@ -295,8 +312,10 @@ pub stood : (m : FiniteMap Bearer) (remote : ℕ) (next : Option Teid) (t : ℕ)
 stood m remote next t b stands = (found-kept (λ k (x : Bearer). not (is_gone m remote next k x)) m t b stands).1
 
 -- what is left once one more bearer of the remote has gone
-module _ (m : FiniteMap Bearer) (sessions : FiniteMap Session) (remote : ℕ) (teid : Teid) (now : FiniteMap Bearer) (left : now ≡ bearers_left m remote (Some teid)) (has : HasRemote now remote teid) (next : Option Teid) (after : IfSome next (λ n. teid < n))
-    (lowest : IfSome next (λ n. (t : ℕ) → teid < t → HasRemote (without_bearers_of teid (get now teid) now) remote t → n ≤ t)) (none : IfNone next ((t : ℕ) → teid < t → HasRemote (without_bearers_of teid (get now teid) now) remote t → ⊥)) where
+module _ (m : FiniteMap Bearer) (sessions : FiniteMap Session) (remote : ℕ) (teid : Teid) (now : FiniteMap Bearer)
+    (left : now ≡ bearers_left m remote (Some teid)) (has : HasRemote now remote teid) (next : Option Teid) (after : IfSome next (λ n. teid < n))
+    (lowest : IfSome next (λ n. (t : ℕ) → teid < t → HasRemote (without_bearers_of teid (get now teid) now) remote t → n ≤ t))
+    (none : IfNone next ((t : ℕ) → teid < t → HasRemote (without_bearers_of teid (get now teid) now) remote t → ⊥)) where
   there : get m teid ≡ Some has.bearer
   there = stood m remote (Some teid) teid has.bearer (ap (λ (x : FiniteMap Bearer). get x teid) (sym left) ∙ has.stands)
 
@@ -306,7 +325,8 @@ module _ (m : FiniteMap Bearer) (sessions : FiniteMap Session) (remote : ℕ) (t
   same_left : without_bearers_of teid (get now teid) now ≡ without_bearers_of teid (Some has.bearer) (bearers_left m remote (Some teid))
   same_left = ap (λ (o : Option Bearer). without_bearers_of teid o now) has.stands ∙ ap (without_bearers_of teid (Some has.bearer)) left
 
-  ended : (t : ℕ) (b : Bearer) → get m t ≡ Some b → teid < t → is_passed t next ≡ true → is_number remote b.remote ≡ true → (has_gone m remote (Some teid) b.session || default_of b.session (Some has.bearer)) ≡ true
+  ended : (t : ℕ) (b : Bearer) → get m t ≡ Some b → teid < t → is_passed t next ≡ true → is_number remote b.remote ≡ true
+      → (has_gone m remote (Some teid) b.session || default_of b.session (Some has.bearer)) ≡ true
   ended = has_ended m remote teid has.bearer there named_so next after
       (subst (λ (x : FiniteMap Bearer). IfSome next (λ n. (t : ℕ) → teid < t → HasRemote x remote t → n ≤ t)) same_left lowest)
       (subst (λ (x : FiniteMap Bearer). IfNone next ((t : ℕ) → teid < t → HasRemote x remote t → ⊥)) same_left none)
@@ -314,8 +334,11 @@ module _ (m : FiniteMap Bearer) (sessions : FiniteMap Session) (remote : ℕ) (t
   pub bearers_after : without_bearers_of teid (get now teid) now ≡ bearers_left m remote next
   bearers_after = same_left ∙ next_bearers m remote teid has.bearer there named_so next after ended
 
-  pub sessions_after : (now_sessions : FiniteMap Session) → now_sessions ≡ sessions_left m sessions remote (Some teid) → without_sessions_of (get now teid) now_sessions ≡ sessions_left m sessions remote next
-  sessions_after now_sessions is = ap (λ (o : Option Bearer). without_sessions_of o now_sessions) has.stands ∙ (ap (without_sessions_of (Some has.bearer)) is ∙ next_sessions m remote teid has.bearer there named_so next after ended sessions)
+  pub sessions_after : (now_sessions : FiniteMap Session) → now_sessions ≡ sessions_left m sessions remote (Some teid)
+      → without_sessions_of (get now teid) now_sessions ≡ sessions_left m sessions remote next
+  sessions_after now_sessions is =
+      ap (λ (o : Option Bearer). without_sessions_of o now_sessions) has.stands
+      ∙ (ap (without_sessions_of (Some has.bearer)) is ∙ next_sessions m remote teid has.bearer there named_so next after ended sessions)
 
 -- ---- what goes with one bearer
 
@@ -332,13 +355,17 @@ module _ (teid : ℕ) (b : Bearer) where
       its q = ap (λ (k : Kind). is_default k && nat_eq b.session q) is
 
   pub bearers_of_default : (m : FiniteMap Bearer) → get m teid ≡ Some b → b.kind ≡ Default → kept (λ _ x. not (nat_eq x.session b.session)) m ≡ without_bearers_of teid (Some b) m
-  bearers_of_default m stands is = kept_same (λ _ x. not (nat_eq x.session b.session)) (λ t x. not (nat_eq teid t || default_of x.session (Some b))) m (λ t x there. ap not (by t x there (nat_eq teid t) refl))
+  bearers_of_default m stands is =
+      kept_same (λ _ x. not (nat_eq x.session b.session)) (λ t x. not (nat_eq teid t || default_of x.session (Some b))) m
+      (λ t x there. ap not (by t x there (nat_eq teid t) refl))
     where
       its : (x : Bearer) → default_of x.session (Some b) ≡ nat_eq x.session b.session
       its x = ap (λ (k : Kind). is_default k && nat_eq b.session x.session) is ∙ turned b.session x.session
 
       same : (t : ℕ) (x : Bearer) → get m t ≡ Some x → nat_eq teid t ≡ true → nat_eq x.session b.session ≡ true
-      same t x there here = let one : Some x ≡ Some b = sym there ∙ (ap (get m) (sym (same_number teid t here)) ∙ stands) in let it : x ≡ b = cc in ap (λ (y : Bearer). nat_eq y.session b.session) it ∙ itself b.session
+      same t x there here =
+          let one : Some x ≡ Some b = sym there ∙ (ap (get m) (sym (same_number teid t here)) ∙ stands) in
+          let it : x ≡ b = cc in ap (λ (y : Bearer). nat_eq y.session b.session) it ∙ itself b.session
 
       by : (t : ℕ) (x : Bearer) → get m t ≡ Some x → (e : Bool) → nat_eq teid t ≡ e → nat_eq x.session b.session ≡ (nat_eq teid t || default_of x.session (Some b))
       by t x there true here = same t x there here ∙ sym (or_left (nat_eq teid t) (default_of x.session (Some b)) here)

@@ -43,7 +43,9 @@ was_held : (hold : ℕ) (ps : List HeldPair) (source : Endpoint) (request : List
 was_held hold [] source request among = among
 was_held hold (p ∷ ps) source request among = by (nat_lt (p.age + 1) hold) (was_held hold ps source request) among
   where
-    by : (b : Bool) → (Among (arrival_of source request) (gone_in hold ps) → IsHeld source request ps) → Among (arrival_of source request) (map asked_by (cons_option (cond b None (Some (record { source = p.source; octets = p.request }))) (filter_map (forgotten hold) ps))) → IsHeld source request (p ∷ ps)
+    by : (b : Bool) → (Among (arrival_of source request) (gone_in hold ps) → IsHeld source request ps) → Among (arrival_of source request)
+        (map asked_by (cons_option (cond b None (Some (record { source = p.source; octets = p.request }))) (filter_map (forgotten hold) ps)))
+        → IsHeld source request (p ∷ ps)
     by true later among = inr (later among)
     by false later (inl is) = inl (ap (λ (a : Arrival). a.source) (sym is), ap (λ (a : Arrival). a.octets) (sym is))
     by false later (inr there) = inr (later there)
@@ -52,7 +54,9 @@ forgets_each : (hold : ℕ) (ps : List HeldPair) → AreApart ps → ForgetsEach
 forgets_each hold [] apart = refl
 forgets_each hold (p ∷ ps) apart = by (nat_lt (p.age + 1) hold) (forgets_each hold ps apart.1)
   where
-    by : (b : Bool) → ForgetsEach (gone_in hold ps) (map held_of ps) (left_in hold ps) → ForgetsEach (map asked_by (cons_option (cond b None (Some (record { source = p.source; octets = p.request }))) (filter_map (forgotten hold) ps))) (held_of p ∷ map held_of ps)
+    by : (b : Bool) → ForgetsEach (gone_in hold ps) (map held_of ps) (left_in hold ps) → ForgetsEach
+        (map asked_by (cons_option (cond b None (Some (record { source = p.source; octets = p.request }))) (filter_map (forgotten hold) ps)))
+        (held_of p ∷ map held_of ps)
         (map held_of (cons_option (cond b (Some (record p { age = p.age + 1 })) None) (filter_map (after_tick hold) ps)))
     by true later = under (held_of p) (gone_in hold ps) (map held_of ps) (left_in hold ps) (λ among. apart.0 (was_held hold ps p.source p.request among)) later
     by false later = (held_of p, inl refl, refl, (map held_of ps, inl (refl, all_left (arrival_of p.source p.request) (map held_of ps) (none_held ps p.source p.request apart.0)), later))
@@ -61,7 +65,8 @@ forgets_each hold (p ∷ ps) apart = by (nat_lt (p.age + 1) hold) (forgets_each 
 abbrev pub forgot : List Arrival → Out
 forgot requests = record nothing { forgot = requests }
 
-moves_each : (requests : List Arrival) (node : Node) (held new : List Held) → ForgetsEach requests held new → TickStep (record node { held = held }) (map Forget requests) (forgot requests) (record node { held = new })
+moves_each : (requests : List Arrival) (node : Node) (held new : List Held) → ForgetsEach requests held new
+    → TickStep (record node { held = held }) (map Forget requests) (forgot requests) (record node { held = new })
 moves_each [] node held new is = (refl, ap (λ (l : List Held). record node { held = l }) is)
 moves_each (request ∷ requests) node held new (h, among, same, (rest, left, later)) = (
   record { out = forgot (request ∷ []); outcome = Ticked; node = record node { held = rest } },
@@ -72,7 +77,9 @@ moves_each (request ∷ requests) node held new (h, among, same, (rest, left, la
 )
 
 -- the moves that forget, in order of keeping
-pub forgetting : (node : Node) (hold : ℕ) (ps : List HeldPair) → AreApart ps → TickStep (record node { held = map held_of ps }) (map Forget (gone_in hold ps)) (forgot (gone_in hold ps)) (record node { held = left_in hold ps })
+pub forgetting : (node : Node) (hold : ℕ) (ps : List HeldPair) → AreApart ps
+    → TickStep (record node { held = map held_of ps }) (map Forget (gone_in hold ps)) (forgot (gone_in hold ps))
+    (record node { held = left_in hold ps })
 forgetting node hold ps apart = moves_each (gone_in hold ps) node (map held_of ps) (left_in hold ps) (forgets_each hold ps apart)
 
 -- what is left is kept as it is spelled
@@ -80,7 +87,8 @@ spelled_left : (hold : ℕ) (ps : List HeldPair) → AllByRecursion IsKept ps �
 spelled_left hold [] each = each
 spelled_left hold (p ∷ ps) each = by (nat_lt (p.age + 1) hold) (spelled_left hold ps each.1)
   where
-    by : (b : Bool) → AllByRecursion IsKept (filter_map (after_tick hold) ps) → AllByRecursion IsKept (cons_option (cond b (Some (record p { age = p.age + 1 })) None) (filter_map (after_tick hold) ps))
+    by : (b : Bool) → AllByRecursion IsKept (filter_map (after_tick hold) ps)
+        → AllByRecursion IsKept (cons_option (cond b (Some (record p { age = p.age + 1 })) None) (filter_map (after_tick hold) ps))
     by true later = (record { answer = each.0.answer; alone = each.0.alone }, later)
     by false later = later
 

@@ -59,7 +59,8 @@ pub ends : (old : Node) → GivesUpEach old [] [] old
 ends old = (refl, refl)
 
 -- the first of them, and then the others
-pub goes_on : (number : ℕ) (numbers : List ℕ) (b : Bool) (old mid : Node) (others : List ℕ) (new : Node) → GivesUpOne old number b mid → GivesUpEach mid numbers others new → GivesUpEach old (number ∷ numbers) (cond b (number ∷ []) [] ++ others) new
+pub goes_on : (number : ℕ) (numbers : List ℕ) (b : Bool) (old mid : Node) (others : List ℕ) (new : Node) → GivesUpOne old number b mid
+    → GivesUpEach mid numbers others new → GivesUpEach old (number ∷ numbers) (cond b (number ∷ []) [] ++ others) new
 goes_on number numbers true old mid others new (at, is) each = inr (at, (others, subst (λ (n : Node). GivesUpEach n numbers others new) is each, refl))
 goes_on number numbers false old mid others new (absent, is) each = inl (absent, subst (λ (n : Node). GivesUpEach n numbers others new) is each)
 
@@ -73,7 +74,8 @@ not_second : (a b : Bool) → b ≡ true → not (a || b) ≡ true → ⊥
 not_second false true is h = cc
 not_second a b is h = cc
 
-gone_about : (node : Node) (number : ℕ) (session bearer : Option ℕ) (p : PendingRequest) → p.session ≡ session → p.bearer ≡ bearer → get node.pending number ≡ Some p → (q : PendingRequest) → get (finished_about node number session bearer).pending number ≡ Some q → ⊥
+gone_about : (node : Node) (number : ℕ) (session bearer : Option ℕ) (p : PendingRequest) → p.session ≡ session → p.bearer ≡ bearer
+    → get node.pending number ≡ Some p → (q : PendingRequest) → get (finished_about node number session bearer).pending number ≡ Some q → ⊥
 gone_about node number session (Some t) p s b waits q still =
     let found = found-kept (λ n (x : PendingRequest). not (on (λ k. false) x.session || on (λ k. k == t) x.bearer)) node.pending number q still in
     let same = one_value (get node.pending number) q p found.1 waits in
@@ -88,11 +90,14 @@ gone_about node number None None p s b waits q still = (found-remove node.pendin
 still_waits : (numbers : List ℕ) (old : Node) (told : List ℕ) (new : Node) → GivesUpEach old numbers told new → (n : ℕ) (p : PendingRequest) → get new.pending n ≡ Some p → get old.pending n ≡ Some p
 still_waits [] old told new each n p waits = ap (λ (x : Node). get x.pending n) (sym each.1) ∙ waits
 still_waits (number ∷ numbers) old told new (inl (absent, each)) n p waits = still_waits numbers old told new each n p waits
-still_waits (number ∷ numbers) old told new (inr (at, (others, each, is))) n p waits = (Shrunk-finished old number at.pending.session at.pending.bearer).pending n p (still_waits numbers (finished old number at.pending) others new each n p waits)
+still_waits (number ∷ numbers) old told new (inr (at, (others, each, is))) n p waits =
+    (Shrunk-finished old number at.pending.session at.pending.bearer).pending n p
+    (still_waits numbers (finished old number at.pending) others new each n p waits)
 
 pub none_waits : (numbers : List ℕ) (old : Node) (told : List ℕ) (new : Node) → GivesUpEach old numbers told new → (n : ℕ) → Among n numbers → (p : PendingRequest) → get new.pending n ≡ Some p → ⊥
 none_waits [] old told new each n among p waits = among
-none_waits (number ∷ numbers) old told new (inl (absent, each)) n (inl is) p waits = absent (record { pending = p; waits = still_waits numbers old told new each number p (ap (λ (k : ℕ). get new.pending k) (sym is) ∙ waits) })
+none_waits (number ∷ numbers) old told new (inl (absent, each)) n (inl is) p waits =
+    absent (record { pending = p; waits = still_waits numbers old told new each number p (ap (λ (k : ℕ). get new.pending k) (sym is) ∙ waits) })
 none_waits (number ∷ numbers) old told new (inl (absent, each)) n (inr there) p waits = none_waits numbers old told new each n there p waits
 none_waits (number ∷ numbers) old told new (inr (at, (others, each, told_is))) n (inl is) p waits =
     gone_about old number at.pending.session at.pending.bearer at.pending refl refl at.waits p
@@ -117,7 +122,8 @@ give_ups_in t3 n3 ws = map (λ (g : ℕ × Purpose). g.0) (filter_map (given_up 
 is_due : (t3 n3 : ℕ) (ws : List (Waiting Purpose)) (w : Waiting Purpose) → Among w ws → next_tick t3 n3 w ≡ GivenUp → Among w.seq (give_ups_in t3 n3 ws)
 is_due t3 n3 [] w among up = among
 is_due t3 n3 (v ∷ ws) w (inl is) up =
-    subst (λ (t : NextTick). Among w.seq (map (λ (g : ℕ × Purpose). g.0) (cons_option (given_up_by t v) (filter_map (given_up t3 n3) ws)))) (sym (ap (next_tick t3 n3) (sym is) ∙ up)) (inl (ap (λ (x : Waiting Purpose). x.seq) is))
+    subst (λ (t : NextTick). Among w.seq (map (λ (g : ℕ × Purpose). g.0) (cons_option (given_up_by t v) (filter_map (given_up t3 n3) ws))))
+    (sym (ap (next_tick t3 n3) (sym is) ∙ up)) (inl (ap (λ (x : Waiting Purpose). x.seq) is))
 is_due t3 n3 (v ∷ ws) w (inr there) up = by (next_tick t3 n3 v) (is_due t3 n3 ws w there up)
   where
     by : (t : NextTick) → Among w.seq (give_ups_in t3 n3 ws) → Among w.seq (map (λ (g : ℕ × Purpose). g.0) (cons_option (given_up_by t v) (filter_map (given_up t3 n3) ws)))
@@ -125,22 +131,29 @@ is_due t3 n3 (v ∷ ws) w (inr there) up = by (next_tick t3 n3 v) (is_due t3 n3 
     by t later = later
 
 -- nothing more is given up of what waits on
-none_due : (t3 n3 : ℕ) (ws : List (Waiting Purpose)) → AreDistinct ws → (stays : Waiting Purpose → Bool) (old : Node) (told : List ℕ) (new : Node) → GivesUpEach old (give_ups_in t3 n3 ws) told new → new.pending ≡ pending_in (filter stays ws) → (w : Waiting Purpose) → Among w (filter stays ws) → next_tick t3 n3 w ≡ GivenUp → ⊥
+none_due : (t3 n3 : ℕ) (ws : List (Waiting Purpose)) → AreDistinct ws → (stays : Waiting Purpose → Bool) (old : Node) (told : List ℕ) (new : Node)
+    → GivesUpEach old (give_ups_in t3 n3 ws) told new → new.pending ≡ pending_in (filter stays ws) → (w : Waiting Purpose) → Among w (filter stays ws)
+    → next_tick t3 n3 w ≡ GivenUp → ⊥
 none_due t3 n3 ws distinct stays old told new each pending w among up =
     none_waits (give_ups_in t3 n3 ws) old told new each w.seq (is_due t3 n3 ws w (filtered stays ws w among) up) (pending_of w).1
     ((λ i. get (pending i) w.seq) ∙ stands_there (filter stays ws) w (distinct_filter stays ws distinct) among)
 
-same_pending : (t3 n3 : ℕ) (ws : List (Waiting Purpose)) → ((w : Waiting Purpose) → Among w ws → next_tick t3 n3 w ≡ GivenUp → ⊥) → map pending_of ws ≡ map pending_of (filter_map (after_tick t3 n3) ws)
+same_pending : (t3 n3 : ℕ) (ws : List (Waiting Purpose)) → ((w : Waiting Purpose) → Among w ws → next_tick t3 n3 w ≡ GivenUp → ⊥)
+    → map pending_of ws ≡ map pending_of (filter_map (after_tick t3 n3) ws)
 same_pending t3 n3 [] none = refl
 same_pending t3 n3 (w ∷ ws) none = by (next_tick t3 n3 w) refl (same_pending t3 n3 ws (λ v among. none v (inr among)))
   where
-    by : (t : NextTick) → next_tick t3 n3 w ≡ t → map pending_of ws ≡ map pending_of (filter_map (after_tick t3 n3) ws) → pending_of w ∷ map pending_of ws ≡ map pending_of (cons_option (after_tick_by t w) (filter_map (after_tick t3 n3) ws))
+    by : (t : NextTick) → next_tick t3 n3 w ≡ t → map pending_of ws ≡ map pending_of (filter_map (after_tick t3 n3) ws)
+        → pending_of w ∷ map pending_of ws ≡ map pending_of (cons_option (after_tick_by t w) (filter_map (after_tick t3 n3) ws))
     by GivenUp is later = absurd (none w (inl refl) is)
     by t is later = λ i. pending_of w ∷ later i
 
 -- what waits on is pending as it was, once the tick has been counted
-pub pending_stays : (t3 n3 : ℕ) (ws : List (Waiting Purpose)) → AreDistinct ws → (stays : Waiting Purpose → Bool) (old : Node) (told : List ℕ) (new : Node) → GivesUpEach old (give_ups_in t3 n3 ws) told new → new.pending ≡ pending_in (filter stays ws) → pending_in (filter stays ws) ≡ pending_in (filter_map (after_tick t3 n3) (filter stays ws))
-pending_stays t3 n3 ws distinct stays old told new each pending = ap (λ es. from_entries {R = nat_cmp} es) (same_pending t3 n3 (filter stays ws) (none_due t3 n3 ws distinct stays old told new each pending))
+pub pending_stays : (t3 n3 : ℕ) (ws : List (Waiting Purpose)) → AreDistinct ws → (stays : Waiting Purpose → Bool) (old : Node) (told : List ℕ) (new : Node)
+    → GivesUpEach old (give_ups_in t3 n3 ws) told new → new.pending ≡ pending_in (filter stays ws)
+    → pending_in (filter stays ws) ≡ pending_in (filter_map (after_tick t3 n3) (filter stays ws))
+pending_stays t3 n3 ws distinct stays old told new each pending =
+    ap (λ es. from_entries {R = nat_cmp} es) (same_pending t3 n3 (filter stays ws) (none_due t3 n3 ws distinct stays old told new each pending))
 
 asked_each : (peer : Ip) (t3 n3 : ℕ) (ws : List (Waiting Purpose)) → AllByRecursion (IsAsked peer) ws → AllByRecursion (IsAsked peer) (filter_map (after_tick t3 n3) ws)
 asked_each peer t3 n3 [] each = each
@@ -160,7 +173,9 @@ pub wait_on : (a b c : GatewayState) → RequestsWaitOn a b → RequestsWaitOn b
 wait_on a b c first second =
     record {
       stays = λ w. first.stays w && second.stays w;
-      queues = second.queues ∙ ((λ i. record (first.queues i) { waiting = filter second.stays (first.queues i).waiting }) ∙ (λ i. record a.queues { waiting = filter_twice second.stays first.stays a.queues.waiting i }));
+      queues =
+          second.queues ∙ ((λ i. record (first.queues i) { waiting = filter second.stays (first.queues i).waiting })
+          ∙ (λ i. record a.queues { waiting = filter_twice second.stays first.stays a.queues.waiting i }));
       pending = second.pending;
     }
 

@@ -43,12 +43,16 @@ pub counter_read : (octets : List ℕ) (m : MessageValue) (p : MessageType) (r :
 unfolding row_in contexts_in
 counter_read octets m p r is at tells reads = by p at tells (reads (ap (λ k. has_row k 3 0) (type_kind m.kind p at) ∙ counter_row p ∙ tells))
   where
-    echo : (p : MessageType) → type_at m.kind ≡ Some p → always_has (type_row p).kind 3 0 ≡ true → option_map (λ (x : Recovery). OfRecovery x.0.0) r ≡ front_value (row_of 3 0 m) → option_map (λ (x : Recovery). x.0.0) r ≡ Some (number_at (row_of 3 0 m))
+    echo : (p : MessageType) → type_at m.kind ≡ Some p → always_has (type_row p).kind 3 0 ≡ true
+        → option_map (λ (x : Recovery). OfRecovery x.0.0) r ≡ front_value (row_of 3 0 m)
+        → option_map (λ (x : Recovery). x.0.0) r ≡ Some (number_at (row_of 3 0 m))
     echo p at always read =
         let v = has_value 3 0 octets m is (ap (λ k. always_has k 3 0) (type_kind m.kind p at) ∙ always) in
         needed v.0 r (read ∙ ap front_value v.1) ∙ ap (λ (vs : List Value). Some (number_at vs)) (sym v.1)
 
-    by : (p : MessageType) → type_at m.kind ≡ Some p → (type_row p).has_counter ≡ true → option_map (λ (x : Recovery). OfRecovery x.0.0) r ≡ front_value (row_of 3 0 m) → option_map (λ (x : Recovery). x.0.0) r ≡ recovery_of (message_of m)
+    by : (p : MessageType) → type_at m.kind ≡ Some p → (type_row p).has_counter ≡ true
+        → option_map (λ (x : Recovery). OfRecovery x.0.0) r ≡ front_value (row_of 3 0 m)
+        → option_map (λ (x : Recovery). x.0.0) r ≡ recovery_of (message_of m)
     by types.EchoRequest at tells read = echo types.EchoRequest at refl read ∙ sym (ap recovery_of (reads_as types.EchoRequest octets m is at))
     by types.EchoResponse at tells read = echo types.EchoResponse at refl read ∙ sym (ap recovery_of (reads_as types.EchoResponse octets m is at))
     by types.CreateSessionRequest at tells read = if_there (row_of 3 0 m) r read ∙ sym (ap recovery_of (create_session_request_read octets m is at).2)

@@ -19,14 +19,18 @@ use Rattle.gtp_gateway.proofs.SentBack.{none_sent}
 use Rattle.gtp_gateway.proofs.TwoMessages.{reads_fault}
 
 module _ (old : Node) (request : Arrival) (f : inputs.FaultyRequest) where
-  pub fault_answered : (role : Role) → answers_type role f.kind ≡ true → request.source.ip ≡ old.config.peer.control → IsNew old request → MachineStep role old (Control_came request (inputs.Faulty f)) (faulted request f old)
+  pub fault_answered : (role : Role) → answers_type role f.kind ≡ true → request.source.ip ≡ old.config.peer.control → IsNew old request
+      → MachineStep role old (Control_came request (inputs.Faulty f)) (faulted request f old)
   fault_answered role is peer new = inr (peer, inr (new, subst (λ (b : Bool). Faulted b request f old (faulted request f old)) (sym is) refl))
 
-  pub fault_unanswered : (role : Role) → answers_type role f.kind ≡ false → request.source.ip ≡ old.config.peer.control → IsNew old request → MachineStep role old (Control_came request (inputs.Faulty f)) (dropped old (undecodable Control (fault_number f.defect)))
+  pub fault_unanswered : (role : Role) → answers_type role f.kind ≡ false → request.source.ip ≡ old.config.peer.control → IsNew old request
+      → MachineStep role old (Control_came request (inputs.Faulty f)) (dropped old (undecodable Control (fault_number f.defect)))
   fault_unanswered role is peer new = inr (peer, inr (new, subst (λ (b : Bool). Faulted b request f old (dropped old (undecodable Control (fault_number f.defect)))) (sym is) refl))
 
 -- a fault for which the datagram is dropped
-pub drops_for : (request : Arrival) (reading : inputs.ControlReading) (s : GatewayState) (number : ℕ) → MachineStep s.role s.node (Control_came request reading) (dropped s.node (undecodable Control number)) → IsFaultEffect request reading s (dropped_for number)
+pub drops_for : (request : Arrival) (reading : inputs.ControlReading) (s : GatewayState) (number : ℕ)
+    → MachineStep s.role s.node (Control_came request reading) (dropped s.node (undecodable Control number))
+    → IsFaultEffect request reading s (dropped_for number)
 drops_for request reading s number takes = record {
   effect = dropped s.node (undecodable Control number);
   takes = takes;
@@ -35,11 +39,14 @@ drops_for request reading s number takes = record {
 }
 
 -- both gateways drop a datagram whose fault is not answered
-pub fault_dropped : (role : Role) (old : Node) (request : Arrival) (number : ℕ) → request.source.ip ≡ old.config.peer.control → IsNew old request → MachineStep role old (Control_came request (inputs.Control_fault number)) (dropped old (undecodable Control number))
+pub fault_dropped : (role : Role) (old : Node) (request : Arrival) (number : ℕ) → request.source.ip ≡ old.config.peer.control → IsNew old request
+    → MachineStep role old (Control_came request (inputs.Control_fault number)) (dropped old (undecodable Control number))
 fault_dropped role old request number peer new = inr (peer, inr (new, refl))
 
 -- what was done with a datagram at fault is a step on what its octets read as
-pub fault_received : (arrival : Arrival) (old : GatewayState) (f : V2Fault) (reading : inputs.ControlReading) (step : ControlStep) → arrival.source.ip ≡ old.node.config.peer.control → IsNew old.node arrival → IsDatagramFault arrival.octets f → reading ≡ datagram_fault (announces arrival.octets) f → IsFaultTaken arrival reading old step → IsTaken arrival old step old
+pub fault_received : (arrival : Arrival) (old : GatewayState) (f : V2Fault) (reading : inputs.ControlReading) (step : ControlStep)
+    → arrival.source.ip ≡ old.node.config.peer.control → IsNew old.node arrival → IsDatagramFault arrival.octets f
+    → reading ≡ datagram_fault (announces arrival.octets) f → IsFaultTaken arrival reading old step → IsTaken arrival old step old
 fault_received arrival old f reading step peer new fails is taken =
     let done = taken peer new in
     let reads : reading ≡ taken_as (datagram_reading arrival.octets) = is ∙ reads_fault arrival.octets f fails in

@@ -48,5 +48,6 @@ pub mod QueuesAfter
 pub mod Allocations
 pub mod Choosings
 pub mod ChosenOnce
+pub mod Left
 pub mod LeftAlike
 pub mod Determined

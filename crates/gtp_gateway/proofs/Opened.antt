@@ -49,7 +49,9 @@ abbrev bearer_stays : Node → ℕ → Bearer → Bool
 bearer_stays n t b = not (is_opened (get n.sessions b.session))
 
 -- what stands in a table once the counter was heard stood before, where a restart leaves what passes a test
-stood : {X : Type 0} (table : Node → FiniteMap X) (stays : Node → ℕ → X → Bool) → ((n : Node) (known : Option ℕ) → table (record n { known = known }) ≡ table n) → ((n : Node) (counter : ℕ) → table (peer_restarted n counter) ≡ kept (stays n) (table n))
+stood : {X : Type 0} (table : Node → FiniteMap X) (stays : Node → ℕ → X → Bool)
+    → ((n : Node) (known : Option ℕ) → table (record n { known = known }) ≡ table n)
+    → ((n : Node) (counter : ℕ) → table (peer_restarted n counter) ≡ kept (stays n) (table n))
     → (heard : Heard) (n : Node) (key : ℕ) (x : X) → get (table (node_heard heard n)) key ≡ Some x → get (table n) key ≡ Some x
 stood table stays heeds restarts (First counter) n key x is = ap (λ (m : FiniteMap _). get m key) (sym (heeds n (Some counter.0))) ∙ is
 stood table stays heeds restarts (Later counter) n key x is = (found-kept (stays n) (table n) key x (ap (λ (m : FiniteMap _). get m key) (sym (restarts n counter.0)) ∙ is)).1
@@ -64,11 +66,13 @@ bearer_stood = stood (λ n. n.bearers) bearer_stays (λ n known. refl) (λ n cou
 pub session_stood : (heard : Heard) (n : Node) (t : ℕ) (s : Session) → get (node_heard heard n).sessions t ≡ Some s → get n.sessions t ≡ Some s
 session_stood = stood (λ n. n.sessions) (λ n t s. not (is_opened (get n.sessions t))) (λ n known. refl) (λ n counter. refl)
 
-pub waits_on : (heard : Heard) (n : Node) (number : ℕ) (purpose : Purpose) (m : Message) → get n.pending number ≡ Some (about purpose m) → goes_after heard n.sessions purpose ≡ false → get (node_heard heard n).pending number ≡ Some (about purpose m)
+pub waits_on : (heard : Heard) (n : Node) (number : ℕ) (purpose : Purpose) (m : Message) → get n.pending number ≡ Some (about purpose m)
+    → goes_after heard n.sessions purpose ≡ false → get (node_heard heard n).pending number ≡ Some (about purpose m)
 waits_on (Later counter) n number purpose m is goes = get-kept (request_stays n) n.pending number (about purpose m) is (ap not goes)
 waits_on heard n number purpose m is goes = is
 
-pub waits_no_more : (heard : Heard) (n : Node) (number : ℕ) (purpose : Purpose) (m : Message) → get n.pending number ≡ Some (about purpose m) → goes_after heard n.sessions purpose ≡ true → HasPending (node_heard heard n) number → ⊥
+pub waits_no_more : (heard : Heard) (n : Node) (number : ℕ) (purpose : Purpose) (m : Message) → get n.pending number ≡ Some (about purpose m)
+    → goes_after heard n.sessions purpose ≡ true → HasPending (node_heard heard n) number → ⊥
 waits_no_more (Later counter) n number purpose m is goes at =
     let found = found-kept (request_stays n) n.pending number at.pending at.waits in
     let one : at.pending ≡ about purpose m = one_value (get n.pending number) at.pending (about purpose m) found.1 is in
@@ -90,7 +94,8 @@ kept_insert {X} test m k x passes = same_map nat_cmp_total nat_cmp-IsAntisymmetr
     at q false is = refl
 
 -- a bearer that stands once the counter was heard may be opened before or after
-pub heard_opened : (heard : Heard) (n : Node) (teid : Teid) (b : Bearer) → IsOpenedAt (node_heard heard n).bearers teid b → node_heard heard (with_bearer teid b n) ≡ with_bearer teid b (node_heard heard n)
+pub heard_opened : (heard : Heard) (n : Node) (teid : Teid) (b : Bearer) → IsOpenedAt (node_heard heard n).bearers teid b
+    → node_heard heard (with_bearer teid b n) ≡ with_bearer teid b (node_heard heard n)
 heard_opened (Later counter) n teid b at =
     let stays : bearer_stays n teid b ≡ true = ap (λ (s : ℕ). not (is_opened (get n.sessions s))) at.of ∙ (found-kept (bearer_stays n) n.bearers teid at.bearer at.stands).0 in
     let same : kept (bearer_stays n) (insert n.bearers teid b) ≡ insert (kept (bearer_stays n) n.bearers) teid b = kept_insert (bearer_stays n) n.bearers teid b stays in
@@ -104,9 +109,14 @@ heard_sound role (Later counter) n sound = restarted_sound n role sound counter.
 heard_sound role heard n sound = sound
 
 -- a verdict that was carried out, as a row of the machine
-pub settled : (Takes : Node → Effect → Type 0) (request : Arrival) (heard : Heard) (old new : GatewayState) (v : ResponseVerdict) (number : ℕ) (step : ControlStep) → step ≡ record { out = None; report = plain_report (outcome_by v) } → new.node ≡ node_by v number (node_heard heard old.node) → new.role ≡ old.role → Takes (node_heard heard old.node) (effect_by v number (node_heard heard old.node))
+pub settled : (Takes : Node → Effect → Type 0) (request : Arrival) (heard : Heard) (old new : GatewayState) (v : ResponseVerdict) (number : ℕ)
+    (step : ControlStep) → step ≡ record { out = None; report = plain_report (outcome_by v) }
+    → new.node ≡ node_by v number (node_heard heard old.node) → new.role ≡ old.role
+    → Takes (node_heard heard old.node) (effect_by v number (node_heard heard old.node))
     → IsRow Takes request old.role (node_heard heard old.node) step new
-settled Takes request heard old new v number step is becomes role takes = ends Takes request (record old { node = node_heard heard old.node }) new step (outcome_by v) (node_by v number (node_heard heard old.node)) is becomes role takes
+settled Takes request heard old new v number step is becomes role takes =
+    ends Takes request (record old { node = node_heard heard old.node }) new step (outcome_by v) (node_by v number (node_heard heard old.node)) is
+    becomes role takes
 
 -- what is so of each step that there may be is so of what there is
 -- what holds where a call succeeded, since it did
@@ -124,6 +134,7 @@ pub then_ok : {T E : Type 0} (P Q : T → Type 0) → ((x : T) → P x → Q x) 
 then_ok P Q each (Ok x) is = each x is
 then_ok P Q each (Err e) is = tt
 
-pub if_ok : {Is : ControlStep → Type 0} {Becomes : Type 0} {Taken : ControlStep → Type 0} → ((step : ControlStep) → Is step → Becomes → Taken step) → (o : Result ControlStep Memory) → IfOk o Is → OnOk o Becomes → IfOk o Taken
+pub if_ok : {Is : ControlStep → Type 0} {Becomes : Type 0} {Taken : ControlStep → Type 0} → ((step : ControlStep) → Is step → Becomes → Taken step)
+    → (o : Result ControlStep Memory) → IfOk o Is → OnOk o Becomes → IfOk o Taken
 if_ok each (Ok step) is becomes = each step is becomes
 if_ok each (Err e) is becomes = tt

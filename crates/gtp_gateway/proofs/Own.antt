@@ -37,8 +37,11 @@ own_read octets m is = ap message_read (sym (decoded_reads octets m is))
 -- octets that are written of the message read as it, and can be kept
 pub own_back : (octets : List ℕ) (m : decoded.Message) → IsOwn m → octets ≡ canonical_encoding (message_value m) → IsMessage octets (message_value m) → ReadsBack (control_message m ∷ [])
 own_back octets m own written is =
-    subst (λ (p : Plane). ReadsBackOn p (control_message m ∷ [])) (sym own.control)
-    (subst (λ (o : List ℕ). DatagramReads o (Alone (Control_message (control_message m)))) (written ∙ own_spelled m own) (message_reads_alone octets (control_message m) (decoded_reads octets m is)), refl)
+    subst (λ (p : Plane). ReadsBackOn p (control_message m ∷ [])) (sym own.control) (
+      subst (λ (o : List ℕ). DatagramReads o (Alone (Control_message (control_message m)))) (written ∙ own_spelled m own)
+          (message_reads_alone octets (control_message m) (decoded_reads octets m is)),
+      refl,
+    )
 
 pub own_kept : (octets : List ℕ) (m : decoded.Message) → IsOwn m → octets ≡ canonical_encoding (message_value m) → IsMessage octets (message_value m) → AreSpelled octets
 own_kept octets m own written is =
@@ -55,19 +58,25 @@ stated_length front back (flags, kind, high, low, following, begins, long, text)
     omega (arith, stated, long, own)
 
 -- two messages in one datagram, from what is written of each
-module _ (front back : List ℕ) (m n : decoded.Message) (own : IsOwn m) (first : IsMessage front (message_value m)) (second : IsMessage back (message_value n)) (front_is : front ≡ spelled (control_message m)) (back_is : back ≡ spelled (control_message n)) where
+module _ (front back : List ℕ) (m n : decoded.Message) (own : IsOwn m) (first : IsMessage front (message_value m))
+    (second : IsMessage back (message_value n)) (front_is : front ≡ spelled (control_message m)) (back_is : back ≡ spelled (control_message n)) where
   pub pair_spelled : paired front back ≡ spelled_all (control_message m ∷ control_message n ∷ [])
   pair_spelled = λ i. paired (front_is i) (back_is i)
 
   pub pair_reads : DatagramReads (paired front back) (Both (control_message m) (control_message n))
-  pair_reads = (datagram_by_grammar (paired front back) (Both (control_message m) (control_message n))).1 (inl (both (message_value m) (message_value n), read_again front back (message_value m) (message_value n) first second, refl))
+  pair_reads =
+      (datagram_by_grammar (paired front back) (Both (control_message m) (control_message n))).1
+      (inl (both (message_value m) (message_value n), read_again front back (message_value m) (message_value n) first second, refl))
 
   pub pair_in : messages_in (paired front back) ≡ control_message m ∷ control_message n ∷ []
   unfolding messages_in
   pair_in = ap those_read (sym pair_reads)
 
   pair_apart : LieApart (control_message m ∷ control_message n ∷ [])
-  pair_apart = subst (λ (f : List ℕ). first_length (paired f (spelled (control_message n))) ≡ length f) front_is (subst (λ (b : List ℕ). first_length (paired front b) ≡ length front) back_is (stated_length front back (announces front back (message_value m) first)))
+  pair_apart =
+      subst (λ (f : List ℕ). first_length (paired f (spelled (control_message n))) ≡ length f) front_is
+      (subst (λ (b : List ℕ). first_length (paired front b) ≡ length front) back_is
+      (stated_length front back (announces front back (message_value m) first)))
 
   pub pair_kept : AreSpelledAll (paired front back)
   pair_kept = record {
@@ -84,13 +93,15 @@ module _ (front back : List ℕ) (m n : decoded.Message) (own : IsOwn m) (first 
 pub user_own_spelled : (m : UserMessage) → IsUserOwn m → encoding (user_messages.message_value m) ≡ spelled (user_message m)
 user_own_spelled m own = ap encoding own.says ∙ sym (ap (λ p. spelled_on p (user_message m)) own.user)
 
-pub user_own_back : (octets : List ℕ) (m : UserMessage) → IsUserOwn m → octets ≡ encoding (user_messages.message_value m) → IsUserMessage octets (user_messages.message_value m) → ReadsBack (user_message m ∷ [])
+pub user_own_back : (octets : List ℕ) (m : UserMessage) → IsUserOwn m → octets ≡ encoding (user_messages.message_value m)
+    → IsUserMessage octets (user_messages.message_value m) → ReadsBack (user_message m ∷ [])
 user_own_back octets m own written is =
     subst (λ (p : Plane). ReadsBackOn p (user_message m ∷ [])) (sym own.user)
     (subst (λ (o : List ℕ). UserReads o (User_message (user_message m))) (written ∙ user_own_spelled m own) (user_decoded_reads octets m is))
 
 -- the messages of the user plane that a gateway sends, with no extension header
-pub packet_own : (teid : Teid) (payload : Bor (List ℕ)) (extensions : List Extension) → extensions ≡ [] → length payload.now ≤ 65000 → IsUserOwn (of_parts None None extensions (bodies.Packet teid payload))
+pub packet_own : (teid : Teid) (payload : Bor (List ℕ)) (extensions : List Extension) → extensions ≡ [] → length payload.now ≤ 65000
+    → IsUserOwn (of_parts None None extensions (bodies.Packet teid payload))
 unfolding options_encoding content_encoding
 packet_own teid payload extensions none few = rw none (record { encodable = tt; short = omega (arith, few); user = refl; says = refl })
 
@@ -98,7 +109,8 @@ pub marker_own : (teid : Teid) (extensions : List Extension) → extensions ≡ 
 unfolding options_encoding content_encoding
 marker_own teid extensions none = rw none (record { encodable = tt; short = omega arith; user = refl; says = refl })
 
-pub indication_own : (teid : Teid) (peer : Ip) (extensions : List Extension) → extensions ≡ [] → length (octets_of peer) ≤ 16 → IsUserOwn (of_parts (Some 0) None extensions (bodies.ErrorIndication peer teid))
+pub indication_own : (teid : Teid) (peer : Ip) (extensions : List Extension) → extensions ≡ [] → length (octets_of peer) ≤ 16
+    → IsUserOwn (of_parts (Some 0) None extensions (bodies.ErrorIndication peer teid))
 unfolding options_encoding content_encoding
 indication_own teid peer extensions none few = rw none (record { encodable = search rules; short = omega (arith, few); user = refl; says = refl })
 

@@ -101,13 +101,17 @@ module _ (Takes : Node → Effect → Type 0) (one : (n : Node) (e f : Effect) �
   one_weighed None e f r s = one (record old { known = Some counter }) e f r s
   one_weighed (Some known) e f r s = one_judged (age_of known counter) e f r s
 
-one_heard : (Takes : Node → Effect → Type 0) → ((n : Node) (e f : Effect) → Takes n e → Takes n f → e.node ≡ f.node) → (old : Node) (recovery : Option ℕ) (e f : Effect) → Hears Takes old recovery e → Hears Takes old recovery f → e.node ≡ f.node
+one_heard : (Takes : Node → Effect → Type 0) → ((n : Node) (e f : Effect) → Takes n e → Takes n f → e.node ≡ f.node)
+    → (old : Node) (recovery : Option ℕ) (e f : Effect) → Hears Takes old recovery e → Hears Takes old recovery f → e.node ≡ f.node
 one_heard Takes one old None e f r s = one old e f r s
-one_heard Takes one old (Some counter) e f (x, weighs_x, is_x) (y, weighs_y, is_y) = ap (λ (k : Effect). k.node) is_x ∙ (one_weighed Takes one old counter old.known x y weighs_x weighs_y ∙ sym (ap (λ (k : Effect). k.node) is_y))
+one_heard Takes one old (Some counter) e f (x, weighs_x, is_x) (y, weighs_y, is_y) =
+    ap (λ (k : Effect). k.node) is_x ∙ (one_weighed Takes one old counter old.known x y weighs_x weighs_y ∙ sym (ap (λ (k : Effect). k.node) is_y))
 
 -- ---- its step
 
-module _ (arrival : Arrival) (old : GatewayState) (serving : old.role ≡ Serving) (peer : arrival.source.ip ≡ old.node.config.peer.control) (fresh : IsNew old.node arrival) (a : CreateSessionResponse) (recovery : Option Counter) (counted : option_map (λ (c : Counter). c.0) recovery ≡ a.recovery)
+module _ (arrival : Arrival) (old : GatewayState) (serving : old.role ≡ Serving) (peer : arrival.source.ip ≡ old.node.config.peer.control)
+    (fresh : IsNew old.node arrival) (a : CreateSessionResponse) (recovery : Option Counter)
+    (counted : option_map (λ (c : Counter). c.0) recovery ≡ a.recovery)
     (r : SessionResponse) (v : ResponseVerdict) (j : JudgesAnswer r (weighed_by recovery old.node.known) old.node v) (says : SaysCreateSessionResponse r a) where
   abbrev message : Message
   message = Create_session_response a
@@ -131,8 +135,10 @@ module _ (arrival : Arrival) (old : GatewayState) (serving : old.role ≡ Servin
   by_counter (inr on) = hears (CreateSessionAnswered a) old.node recovery (effect_by v a.number left) on (j.judged on a says)
   by_counter (inl early) =
       let is : effect_by v a.number left ≡ dropped old.node OldCounter =
-      ap (λ (w : ResponseVerdict). effect_by w a.number left) (j.early early) ∙ (λ i. record { out = nothing; outcome = Came_to (Dropped OldCounter); node = earlier_changes_none heard old.node early i }) in
-      subst (λ (e : Effect). Hears (CreateSessionAnswered a) old.node (option_map (λ (c : Counter). c.0) recovery) (told recovery old.node.known e)) (sym is) (hears_early (CreateSessionAnswered a) old.node recovery early)
+      ap (λ (w : ResponseVerdict). effect_by w a.number left) (j.early early)
+      ∙ (λ i. record { out = nothing; outcome = Came_to (Dropped OldCounter); node = earlier_changes_none heard old.node early i }) in
+      subst (λ (e : Effect). Hears (CreateSessionAnswered a) old.node (option_map (λ (c : Counter). c.0) recovery) (told recovery old.node.known e))
+      (sym is) (hears_early (CreateSessionAnswered a) old.node recovery early)
 
   heard_first : Hears (TakesBy old.role arrival message) old.node (recovery_of message) first_effect
   heard_first =
@@ -157,19 +163,26 @@ module _ (arrival : Arrival) (old : GatewayState) (serving : old.role ≡ Servin
       by (inr (from, inl repeats)) = absurd (fresh repeats.held repeats.stands repeats.same)
       by (inr (from, inr (none, inl f))) = absurd (f.0 refl)
       by (inr (from, inr (none, inr (takes, hears)))) =
-          one_heard (CreateSessionAnswered a) (λ n x y. one_answered a n x y) old.node a.recovery e first_effect hears (subst (λ (o : Option ℕ). Hears (CreateSessionAnswered a) old.node o first_effect) counted (by_counter (earlier_or_not heard)))
+          one_heard (CreateSessionAnswered a) (λ n x y. one_answered a n x y) old.node a.recovery e first_effect hears
+          (subst (λ (o : Option ℕ). Hears (CreateSessionAnswered a) old.node o first_effect) counted (by_counter (earlier_or_not heard)))
 
   -- where a session is opened, it is so by whatever step
   pub first_needs : outcome_by v ≡ Opened → StepSendsOrOpens arrival (Control_message message) old
   first_needs opened =
       let on = λ (early : IsEarlier heard). (let is : Dropped OldCounter ≡ Opened = sym (ap outcome_by (j.early early)) ∙ opened in let never : ⊥ = cc is in never) in
       message_needs arrival old message recovery peer takes_it counted heard refl on
-      (needs_by old.role arrival message left types.CreateSessionResponse types.CreateSessionResponse message has_it refl refl (needing.create_session_answered a left (effect_by v a.number left) (ap (λ o. Came_to o) opened) (j.judged on a says)))
+      (needs_by old.role arrival message left types.CreateSessionResponse types.CreateSessionResponse message has_it refl refl
+      (needing.create_session_answered a left (effect_by v a.number left) (ap (λ o. Came_to o) opened) (j.judged on a says)))
 
 -- ---- the step of both
 
-module _ (source : Endpoint) (octets front back : List ℕ) (announced : Announces octets front back) (old : GatewayState) (serving : old.role ≡ Serving) (peer : source.ip ≡ old.node.config.peer.control) (pairs : List HeldPair) (held : old.node.held ≡ map held_of pairs) (kept : AreAnswered pairs)
-    (a : CreateSessionResponse) (q : CreateBearerRequest) (recovery : Option Counter) (counted : option_map (λ (c : Counter). c.0) recovery ≡ a.recovery) (r : SessionResponse) (says : SaysCreateSessionResponse r a) (request : BearerRequest) (asks : SaysCreateBearer request q) (v : ResponseVerdict) (j : JudgesAnswer r (weighed_by recovery old.node.known) old.node v) where
+module _ (source : Endpoint) (octets front back : List ℕ) (announced : Announces octets front back) (old : GatewayState)
+    (serving : old.role ≡ Serving) (peer : source.ip ≡ old.node.config.peer.control) (pairs : List HeldPair)
+    (held : old.node.held ≡ map held_of pairs) (kept : AreAnswered pairs)
+    (a : CreateSessionResponse) (q : CreateBearerRequest) (recovery : Option Counter)
+    (counted : option_map (λ (c : Counter). c.0) recovery ≡ a.recovery) (r : SessionResponse) (says : SaysCreateSessionResponse r a)
+    (request : BearerRequest) (asks : SaysCreateBearer request q) (v : ResponseVerdict)
+    (j : JudgesAnswer r (weighed_by recovery old.node.known) old.node v) where
   abbrev settled : GatewayState
   settled = state_after_first (weighed_by recovery old.node.known) v r.response.seq old
 
@@ -180,15 +193,22 @@ module _ (source : Endpoint) (octets front back : List ℕ) (announced : Announc
   first = first_effect (arrival_of source (first_part octets)) old serving peer fresh a recovery counted r v j says
 
   node_is : first.node ≡ settled.node
-  node_is = first_node (arrival_of source (first_part octets)) old serving peer fresh a recovery counted r v j says ∙ (λ i. node_after_first (weighed_by recovery old.node.known) v (says.number i) old.node)
+  node_is =
+      first_node (arrival_of source (first_part octets)) old serving peer fresh a recovery counted r v j says
+      ∙ (λ i. node_after_first (weighed_by recovery old.node.known) v (says.number i) old.node)
 
   -- the second message, at the node that the first leaves
-  second_there : (n : Node) (e : Effect) → n ≡ settled.node → MachineStep old.role settled.node (Control_came (arrival_of source back) (Control_message (Create_bearer_request q))) e → MachineStep old.role n (second_comes (arrival_of source octets) q) e
+  second_there : (n : Node) (e : Effect) → n ≡ settled.node
+      → MachineStep old.role settled.node (Control_came (arrival_of source back) (Control_message (Create_bearer_request q))) e
+      → MachineStep old.role n (second_comes (arrival_of source octets) q) e
   second_there n e same step =
       subst (λ (k : Node). MachineStep old.role k (second_comes (arrival_of source octets) q) e) (sym same)
-      (subst (λ (o : List ℕ). MachineStep old.role settled.node (Control_came (arrival_of source o) (Control_message (Create_bearer_request q))) e) (sym (parts_of octets front back announced).second) step)
+      (subst (λ (o : List ℕ). MachineStep old.role settled.node (Control_came (arrival_of source o) (Control_message (Create_bearer_request q))) e)
+      (sym (parts_of octets front back announced).second) step)
 
-  pub pair_received : (given second : ControlStep) (new : GatewayState) → given ≡ followed_by (record { out = None; report = report_heard (weighed_by recovery old.node.known) (plain_report (outcome_by v)) }) second → (second.report.heard ≡ None) × (second.report.restart ≡ None)
+  pub pair_received : (given second : ControlStep) (new : GatewayState)
+      → given ≡ followed_by (record { out = None; report = report_heard (weighed_by recovery old.node.known) (plain_report (outcome_by v)) }) second
+      → (second.report.heard ≡ None) × (second.report.restart ≡ None)
       → IsSecondTaken (arrival_of source back) request settled second new → AreReceived (arrival_of source octets) a q old (of_control given) new
   pair_received given second new is unheard takes =
       let taken = takes q asks in
@@ -224,7 +244,8 @@ module _ (source : Endpoint) (octets front back : List ℕ) (announced : Announc
       let same : one.node ≡ settled.node = one_first (arrival_of source (first_part octets)) old serving peer fresh a recovery counted r v j says one first_is ∙ node_is in
       inr (needs q asks two (back_there one.node same second_is))
     where
-      back_there : (n : Node) → n ≡ settled.node → MachineStep old.role n (second_comes (arrival_of source octets) q) two → MachineStep old.role settled.node (Control_came (arrival_of source back) (Control_message (Create_bearer_request q))) two
+      back_there : (n : Node) → n ≡ settled.node → MachineStep old.role n (second_comes (arrival_of source octets) q) two
+          → MachineStep old.role settled.node (Control_came (arrival_of source back) (Control_message (Create_bearer_request q))) two
       back_there n same step =
           subst (λ (o : List ℕ). MachineStep old.role settled.node (Control_came (arrival_of source o) (Control_message (Create_bearer_request q))) two) (parts_of octets front back announced).second
           (subst (λ (k : Node). MachineStep old.role k (second_comes (arrival_of source octets) q) two) same step)

@@ -62,7 +62,8 @@ unfolding purpose_of
 missing [] n is = refl
 missing (w ∷ ws) n is = by (w.seq == n) refl is (missing ws n)
   where
-    by : (b : Bool) → (w.seq == n) ≡ b → cond b (Some w.purpose) (purpose_of n ws) ≡ None → (purpose_of n ws ≡ None → find nat_cmp n (map pending_of ws) ≡ None) → find nat_cmp n (map pending_of (w ∷ ws)) ≡ None
+    by : (b : Bool) → (w.seq == n) ≡ b → cond b (Some w.purpose) (purpose_of n ws) ≡ None
+        → (purpose_of n ws ≡ None → find nat_cmp n (map pending_of ws) ≡ None) → find nat_cmp n (map pending_of (w ∷ ws)) ≡ None
     by true same is later = absurd cc
     by false same is later = ap (λ (b : Bool). cond b (Some (pending_of w).1) (find nat_cmp n (map pending_of ws))) (turned n w.seq ∙ same) ∙ later is
 

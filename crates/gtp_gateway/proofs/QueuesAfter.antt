@@ -36,10 +36,14 @@ module _ (arrival : Arrival) where
   then_goes a b g first second = on_goes a (state_of g) (wait_on a b (state_of g) first second) (tied_of g)
 
   pub same_goes : (a b : GatewayState) → b ≡ a → NodeMatchesQueues a → QueuesAfterMessage arrival a b
-  same_goes a b same tied = on_goes a b (all_wait a b (ap (λ (s : GatewayState). s.queues) same) (subst (λ (s : GatewayState). s.node.pending ≡ pending_in s.queues.waiting) (sym same) tied.pending)) (subst NodeMatchesQueues (sym same) tied)
+  same_goes a b same tied =
+      on_goes a b (all_wait a b (ap (λ (s : GatewayState). s.queues) same)
+      (subst (λ (s : GatewayState). s.node.pending ≡ pending_in s.queues.waiting) (sym same) tied.pending)) (subst NodeMatchesQueues (sym same) tied)
 
   -- some requests no longer wait, and then an answer was given
-  pub answered_goes : (a b c : GatewayState) (answer : List ℕ) → RequestsWaitOn a b → c.queues ≡ record b.queues { held = after_held arrival.source arrival.octets answer b.queues.held } → NodeMatchesQueues c → QueuesAfterMessage arrival a c
+  pub answered_goes : (a b c : GatewayState) (answer : List ℕ) → RequestsWaitOn a b
+      → c.queues ≡ record b.queues { held = after_held arrival.source arrival.octets answer b.queues.held } → NodeMatchesQueues c
+      → QueuesAfterMessage arrival a c
   answered_goes a b c answer first queues tied = record {
     stays = first.stays;
     begun = None;
@@ -51,17 +55,22 @@ module _ (arrival : Arrival) where
   }
 
   -- an answer was made ready, which changed nothing, and was given after that
-  pub readied_goes : (old readied mid : GatewayState) (g : Parts) (answer : List ℕ) → readied ≡ old → RequestsWaitOn readied mid → (state_of g).queues ≡ record mid.queues { held = after_held arrival.source arrival.octets answer mid.queues.held } → QueuesAfterMessage arrival old (state_of g)
+  pub readied_goes : (old readied mid : GatewayState) (g : Parts) (answer : List ℕ) → readied ≡ old → RequestsWaitOn readied mid
+      → (state_of g).queues ≡ record mid.queues { held = after_held arrival.source arrival.octets answer mid.queues.held }
+      → QueuesAfterMessage arrival old (state_of g)
   readied_goes old readied mid g answer same waits gives = answered_goes old mid (state_of g) answer (subst (λ (s : GatewayState). RequestsWaitOn s mid) same waits) gives (tied_of g)
 
   -- an answer was given
-  pub given_goes : (a b : GatewayState) (answer : List ℕ) → b.queues ≡ record a.queues { held = after_held arrival.source arrival.octets answer a.queues.held } → NodeMatchesQueues b → QueuesAfterMessage arrival a b
+  pub given_goes : (a b : GatewayState) (answer : List ℕ) → b.queues ≡ record a.queues { held = after_held arrival.source arrival.octets answer a.queues.held }
+      → NodeMatchesQueues b → QueuesAfterMessage arrival a b
   given_goes a b answer queues tied =
       let same = record a { node = record a.node { pending = pending_in a.queues.waiting } } in
       answered_goes a same b answer (all_wait a same refl refl) queues tied
 
   -- a request was begun, and then an answer given
-  pub begun_goes : (a b c d : GatewayState) (number : ℕ) (purpose : Purpose) (to : Endpoint) (kept answer : List ℕ) → RequestsWaitOn a b → IsNextFree b.queues.next b.queues.waiting number → IsNewFor (record { number = number; purpose = purpose; to = to; octets = kept }) a → c.queues ≡ after_begun number purpose to kept b.queues
+  pub begun_goes : (a b c d : GatewayState) (number : ℕ) (purpose : Purpose) (to : Endpoint) (kept answer : List ℕ) → RequestsWaitOn a b
+      → IsNextFree b.queues.next b.queues.waiting number → IsNewFor (record { number = number; purpose = purpose; to = to; octets = kept }) a
+      → c.queues ≡ after_begun number purpose to kept b.queues
       → d.queues ≡ record c.queues { held = after_held arrival.source arrival.octets answer c.queues.held } → NodeMatchesQueues d → QueuesAfterMessage arrival a d
   begun_goes a b c d number purpose to kept answer first free is_new begins gives tied =
       record {
@@ -70,7 +79,10 @@ module _ (arrival : Arrival) where
         next = subst (λ (t : Queues). IsNextFree t.next t.waiting number) first.queues free;
         new_one = is_new;
         answer = Some answer;
-        queues = gives ∙ (λ i. record (begins i) { held = after_held arrival.source arrival.octets answer (begins i).held }) ∙ (λ i. record (after_begun number purpose to kept (first.queues i)) { held = after_held arrival.source arrival.octets answer (first.queues i).held });
+        queues =
+            gives ∙ (λ i. record (begins i) { held = after_held arrival.source arrival.octets answer (begins i).held })
+            ∙ (λ i. record (after_begun number purpose to kept (first.queues i))
+            { held = after_held arrival.source arrival.octets answer (first.queues i).held });
         tied = tied;
       }
 

@@ -36,7 +36,8 @@ pair : (r : Result DatagramValue V2Fault) → datagram_plane (kept.those_read (p
 pair (Ok d) = both d.first d.second
 pair (Err fault) = refl
 
-datagram : (announced : Bool) (r : Result DatagramValue V2Fault) (one : Result MessageValue V2Fault) → datagram_plane (kept.those_read (if announced then pair_reading_of r else Alone (control_reading_of one))) ≡ Control
+datagram : (announced : Bool) (r : Result DatagramValue V2Fault) (one : Result MessageValue V2Fault)
+    → datagram_plane (kept.those_read (if announced then pair_reading_of r else Alone (control_reading_of one))) ≡ Control
 datagram true r one = pair r
 datagram false r one = outcome one
 

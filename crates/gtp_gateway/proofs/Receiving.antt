@@ -61,18 +61,36 @@ accepted_stays source octets old step new taken some =
     let queues = taken.same (λ broken. broken_not (ap (λ o. Came_to o) (sym broken ∙ accepted))) in
     λ i. record { role = taken.role i; node = node i; queues = queues i }
 
-once_received : (arrival : Arrival) (old : GatewayState) (step : ControlStep) (new : GatewayState) → IsTaken arrival old step new → IsReceivedOnce Control arrival.source arrival.octets old (of_control step) new
+once_received : (arrival : Arrival) (old : GatewayState) (step : ControlStep) (new : GatewayState) → IsTaken arrival old step new
+    → IsReceivedOnce Control arrival.source arrival.octets old (of_control step) new
 once_received arrival old step new taken =
     let t = taken.tells in
     record {
       effect = taken.effect;
       takes = taken.takes;
-      tells = record { sent = t.sent; outcome = t.outcome; alone = t.alone; heard = t.heard; restart = t.restart; made = t.made; accepted = ap (λ (o : Out). o.accepted) t.all; all = t.all ∙ (λ i. record nothing { sent = taken.effect.out.sent; heard = taken.effect.out.heard; learned = taken.effect.out.learned; made = taken.effect.out.made; accepted = ap (λ (o : Out). o.accepted) (sym t.all) i }) };
+      tells =
+          record {
+            sent = t.sent;
+            outcome = t.outcome;
+            alone = t.alone;
+            heard = t.heard;
+            restart = t.restart;
+            made = t.made;
+            accepted = ap (λ (o : Out). o.accepted) t.all;
+            all = t.all ∙ (λ i. record nothing {
+              sent = taken.effect.out.sent;
+              heard = taken.effect.out.heard;
+              learned = taken.effect.out.learned;
+              made = taken.effect.out.made;
+              accepted = ap (λ (o : Out). o.accepted) (sym t.all) i;
+            });
+          };
       becomes = taken.becomes;
       role = taken.role;
     }
 
-pub control_received : (arrival : Arrival) (old : GatewayState) (step : ControlStep) (new : GatewayState) → IsControlTaken arrival old step new → IsReceived Control arrival.source arrival.octets old (of_control step) new
+pub control_received : (arrival : Arrival) (old : GatewayState) (step : ControlStep) (new : GatewayState) → IsControlTaken arrival old step new
+    → IsReceived Control arrival.source arrival.octets old (of_control step) new
 control_received arrival old step new (inl (none, taken)) = inl (none, once_received arrival old step new taken)
 control_received arrival old step new (inr both) = inr both
 
@@ -91,14 +109,22 @@ user_received source octets old step new taken =
         restart = ap (λ (r : Report). option_map (λ c. c.0) r.restart) t.report ∙ sym (ap (λ (o : Out). o.learned) t.all);
         made = ap (λ (r : Report). made_for (arrival_of source octets) r.made) t.report ∙ sym (ap (λ (o : Out). o.made) t.all);
         accepted = t.accepted;
-        all = t.all ∙ (λ i. record nothing { sent = e.out.sent; heard = ap (λ (o : Out). o.heard) (sym t.all) i; learned = ap (λ (o : Out). o.learned) (sym t.all) i; made = ap (λ (o : Out). o.made) (sym t.all) i; accepted = e.out.accepted });
+        all =
+            t.all ∙ (λ i. record nothing {
+              sent = e.out.sent;
+              heard = ap (λ (o : Out). o.heard) (sym t.all) i;
+              learned = ap (λ (o : Out). o.learned) (sym t.all) i;
+              made = ap (λ (o : Out). o.made) (sym t.all) i;
+              accepted = e.out.accepted;
+            });
       };
       becomes = taken.becomes;
       role = taken.role;
     }
 
 -- what is promised of a step that tells what this one tells, on the plane that is the user plane
-module _ (plane : Plane) (source : Endpoint) (octets : List ℕ) (old new : GatewayState) (step given : Step) (is : plane ≡ User) (same : step ≡ given) (taken : IsUserTaken source octets old given new) where
+module _ (plane : Plane) (source : Endpoint) (octets : List ℕ) (old new : GatewayState) (step given : Step) (is : plane ≡ User)
+    (same : step ≡ given) (taken : IsUserTaken source octets old given new) where
   as_taken : IsUserTaken source octets old step new
   as_taken = subst (λ (s : Step). IsUserTaken source octets old s new) (sym same) taken
 
@@ -116,25 +142,31 @@ formed Control source octets = taken_whole (arrival_of source octets) (datagram_
 formed User source octets = tt
 
 -- a step of the machine leaves a sound node
-step_sound : (old new : GatewayState) (input : Input) (e : Effect) → IsWellFormed input → MachineStep old.role old.node input e → new.node ≡ e.node → new.role ≡ old.role → IsSound old.role old.node → IsSound new.role new.node
-step_sound old new input e is_formed takes becomes role before = subst (λ r. IsSound r new.node) (sym role) (subst (IsSound old.role) (sym becomes) (stays_sound old.role old.node input e before is_formed takes))
+step_sound : (old new : GatewayState) (input : Input) (e : Effect) → IsWellFormed input → MachineStep old.role old.node input e → new.node ≡ e.node
+    → new.role ≡ old.role → IsSound old.role old.node → IsSound new.role new.node
+step_sound old new input e is_formed takes becomes role before =
+    subst (λ r. IsSound r new.node) (sym role) (subst (IsSound old.role) (sym becomes) (stays_sound old.role old.node input e before is_formed takes))
 
-once_sound : (plane : Plane) (source : Endpoint) (octets : List ℕ) (step : Step) (old new : GatewayState) → IsReceivedOnce plane source octets old step new → IsSound old.role old.node → IsSound new.role new.node
+once_sound : (plane : Plane) (source : Endpoint) (octets : List ℕ) (step : Step) (old new : GatewayState) → IsReceivedOnce plane source octets old step new
+    → IsSound old.role old.node → IsSound new.role new.node
 once_sound plane source octets step old new taken = step_sound old new (coming plane source octets) taken.effect (formed plane source octets) taken.takes taken.becomes taken.role
 
 -- so do two
-both_sound : (arrival : Arrival) (step : Step) (old new : GatewayState) (pair : TakesPair old.role old.node.config arrival (datagram_reading arrival.octets)) → AreReceived arrival pair.answer pair.asked old step new → IsSound old.role old.node → IsSound new.role new.node
+both_sound : (arrival : Arrival) (step : Step) (old new : GatewayState) (pair : TakesPair old.role old.node.config arrival (datagram_reading arrival.octets))
+    → AreReceived arrival pair.answer pair.asked old step new → IsSound old.role old.node → IsSound new.role new.node
 both_sound arrival step old new pair taken before =
     let whole = pair_reads_whole arrival.octets (Create_session_response pair.answer) (Create_bearer_request pair.asked) (sym pair.is) in
     let between = stays_sound old.role old.node (first_comes arrival pair.answer) taken.first before whole.0 taken.takes in
     step_sound (record old { node = taken.first.node }) new (second_comes arrival pair.asked) taken.second whole.1 taken.follows taken.becomes taken.role between
 
-leaves_sound : (plane : Plane) (source : Endpoint) (octets : List ℕ) (step : Step) (old new : GatewayState) → IsReceived plane source octets old step new → IsSound old.role old.node → IsSound new.role new.node
+leaves_sound : (plane : Plane) (source : Endpoint) (octets : List ℕ) (step : Step) (old new : GatewayState) → IsReceived plane source octets old step new
+    → IsSound old.role old.node → IsSound new.role new.node
 leaves_sound Control source octets step old new (inl (none, taken)) = once_sound Control source octets step old new taken
 leaves_sound Control source octets step old new (inr (pair, taken)) = both_sound (arrival_of source octets) step old new pair taken
 leaves_sound User source octets step old new taken = once_sound User source octets step old new taken
 
 -- what a datagram leaves is sound: it was one step or two, or changed nothing
-pub received_sound : {E : Type 0} (plane : Plane) (source : Endpoint) (octets : List ℕ) (r : Result Step E) (old new : GatewayState) → IfOk r (λ step. IsReceived plane source octets old step new) → OnErr r (new ≡ old) → IsSoundState old → IsSoundState new
+pub received_sound : {E : Type 0} (plane : Plane) (source : Endpoint) (octets : List ℕ) (r : Result Step E) (old new : GatewayState)
+    → IfOk r (λ step. IsReceived plane source octets old step new) → OnErr r (new ≡ old) → IsSoundState old → IsSoundState new
 received_sound plane source octets (Ok step) old new taken same whole = ∥∥₁_elim whole ∥∥₁_prop (λ before. merely (leaves_sound plane source octets step old new taken before))
 received_sound plane source octets (Err fault) old new taken same whole = subst IsSoundState (sym same) whole

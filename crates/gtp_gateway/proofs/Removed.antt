@@ -40,7 +40,8 @@ other_key : (a b : ℕ) → eq_by_cmp nat_cmp a b ≡ false → (a == b) ≡ fal
 other_key a b h = grind (arith, nat_tests)
 
 -- what stands under one key goes, by a test that looks at the key alone
-pub one_removed : {X : Type 0} (test : ℕ → X → Bool) (m : FiniteMap X) (k : ℕ) → ((q : ℕ) (x : X) → (q == k) ≡ true → test q x ≡ false) → ((q : ℕ) (x : X) → (q == k) ≡ false → test q x ≡ true) → remove m k ≡ kept test m
+pub one_removed : {X : Type 0} (test : ℕ → X → Bool) (m : FiniteMap X) (k : ℕ) → ((q : ℕ) (x : X) → (q == k) ≡ true → test q x ≡ false)
+    → ((q : ℕ) (x : X) → (q == k) ≡ false → test q x ≡ true) → remove m k ≡ kept test m
 one_removed {X} test m k goes stay = same_map nat_cmp_total nat_cmp-IsAntisymmetric _ _ (λ q. at q (eq_by_cmp nat_cmp q k) refl ∙ sym (get_kept test m q))
   where
     at : (q : ℕ) (b : Bool) → eq_by_cmp nat_cmp q k ≡ b → get (remove m k) q ≡ passing test q (get m q)
@@ -64,7 +65,8 @@ module _ (test : PendingRequest → Bool) where
   found [] q d = refl
   found (w ∷ ws) q d = by (eq_by_cmp nat_cmp q w.seq) (test (pending_of w).1) refl refl (found ws q d.1)
     where
-      by : (same keeps : Bool) → eq_by_cmp nat_cmp q w.seq ≡ same → test (pending_of w).1 ≡ keeps → find nat_cmp q (map pending_of (passed ws)) ≡ passing (λ _ p. test p) q (find nat_cmp q (map pending_of ws))
+      by : (same keeps : Bool) → eq_by_cmp nat_cmp q w.seq ≡ same → test (pending_of w).1 ≡ keeps
+          → find nat_cmp q (map pending_of (passed ws)) ≡ passing (λ _ p. test p) q (find nat_cmp q (map pending_of ws))
           → find nat_cmp q (map pending_of (cond keeps (w ∷ passed ws) (passed ws))) ≡ passing (λ _ p. test p) q (cond same (Some (pending_of w).1) (find nat_cmp q (map pending_of ws)))
       by true true is keep rest = rw (is, keep) refl
       by true false is keep rest =
@@ -102,7 +104,8 @@ found_without [] n q = by (eq_by_cmp nat_cmp q n)
     by false = refl
 found_without (w ∷ ws) n q = by (w.seq == n) (eq_by_cmp nat_cmp q w.seq) (eq_by_cmp nat_cmp q n) refl refl refl (found_without ws n q)
   where
-    by : (goes same is : Bool) → (w.seq == n) ≡ goes → eq_by_cmp nat_cmp q w.seq ≡ same → eq_by_cmp nat_cmp q n ≡ is → find nat_cmp q (map pending_of (without n ws)) ≡ cond is None (find nat_cmp q (map pending_of ws))
+    by : (goes same is : Bool) → (w.seq == n) ≡ goes → eq_by_cmp nat_cmp q w.seq ≡ same → eq_by_cmp nat_cmp q n ≡ is
+        → find nat_cmp q (map pending_of (without n ws)) ≡ cond is None (find nat_cmp q (map pending_of ws))
         → find nat_cmp q (map pending_of (cond (not goes) (w ∷ without n ws) (without n ws))) ≡ cond is None (cond same (Some (pending_of w).1) (find nat_cmp q (map pending_of ws)))
     by true true false a b c rest = absurd (let t : true ≡ false = sym (both q n w.seq b a) ∙ c in cc)
     by true same is a b c rest = rest

@@ -1,7 +1,7 @@
 -- Requests that wait, as the machine's finite map.
 use Rattle.std.proofs.Common.{◌≡◌, inl, inr, ℕ, ◌≤◌, Bool, true, false, cond, filter, List, [], ◌∷◌, ◌++◌, length, map, Option, Some, None, refl, sym, ◌∙◌, ap, subst, arith}
 use Rattle.std.specs.Prelude.{◌==◌, All}
-use Rattle.std.specs.List.{list_any, AllByRecursion, filter_map, cons_option}
+use Rattle.std.specs.List.{list_any, AllByRecursion}
 use Rattle.std.proofs.lemmas.List.Elements.{All-from_recursion, recursion_from_All}
 use Rattle.std.proofs.lemmas.List.{map_push}
 use Rattle.std.proofs.lemmas.Bool.Decides.{nat_tests}
@@ -9,7 +9,7 @@ use Rattle.std.specs.FinMap.{find, get, insert, len, from_entries, from_entries_
 use Rattle.std.specs.Ordering.{nat_cmp}
 use Rattle.std.specs.Cmp.{nat_cmp_total}
 use Rattle.std.proofs.lemmas.Bool.{or_parts}
-use Rattle.gtp_values.specs.FiniteMap.{Among, FiniteMap}
+use Rattle.gtp_values.specs.FiniteMap.{Among}
 use Rattle.gtp_values.proofs.Outcomes.{none_some}
 use Rattle.gtp_values.proofs.Tests.{itself, same_number}
 use Rattle.gtp_tables.proofs.Rows.{turned}
@@ -18,8 +18,6 @@ use Rattle.gtp_reliable.specs.Pending.{is_pending, AreDistinct, IsNextFree}
 use Rattle.gtp_machine.specs.Node.{PendingRequest}
 use Rattle.gtp_gateway.specs.declared.command.purpose.Purpose.{Purpose}
 use Rattle.gtp_gateway.specs.Parts.{pending_of, pending_in}
-use Rattle.gtp_machine.proofs.Basics.FiniteMaps.{get-insert_same}
-use Rattle.gtp_gateway.proofs.ChosenOnce.{same_beside}
 
 pub not_found : (ws : List (Waiting Purpose)) (n : ℕ) → is_pending n ws ≡ false → find nat_cmp n (map pending_of ws) ≡ None
 unfolding is_pending
@@ -36,35 +34,47 @@ none_pending ws n free = get-from_entries nat_cmp_total (map pending_of ws) n �
 first_found : (w : Waiting Purpose) (ws : List (Waiting Purpose)) (n : ℕ) → find nat_cmp n (map pending_of (w ∷ ws)) ≡ cond (w.seq == n) (Some (pending_of w).1) (find nat_cmp n (map pending_of ws))
 first_found w ws n = ap (λ (b : Bool). cond b (Some (pending_of w).1) (find nat_cmp n (map pending_of ws))) (turned n w.seq)
 
-later_found : (w : Waiting Purpose) (ws : List (Waiting Purpose)) (n : ℕ) (p : PendingRequest) → is_pending w.seq ws ≡ false → find nat_cmp n (map pending_of ws) ≡ Some p → find nat_cmp n (map pending_of (w ∷ ws)) ≡ Some p
+later_found : (w : Waiting Purpose) (ws : List (Waiting Purpose)) (n : ℕ) (p : PendingRequest) → is_pending w.seq ws ≡ false
+    → find nat_cmp n (map pending_of ws) ≡ Some p → find nat_cmp n (map pending_of (w ∷ ws)) ≡ Some p
 later_found w ws n p apart found = first_found w ws n ∙ by (w.seq == n) refl
   where
     by : (here : Bool) → (w.seq == n) ≡ here → cond here (Some (pending_of w).1) (find nat_cmp n (map pending_of ws)) ≡ Some p
     by true is = absurd (none_some p (sym (subst (λ (k : ℕ). find nat_cmp k (map pending_of ws) ≡ None) (same_number w.seq n is) (not_found ws w.seq apart)) ∙ found))
     by false is = found
 
-kept_found : (stays : Waiting Purpose → Bool) (ws : List (Waiting Purpose)) (n : ℕ) (p : PendingRequest) → AreDistinct ws → find nat_cmp n (map pending_of (filter stays ws)) ≡ Some p → find nat_cmp n (map pending_of ws) ≡ Some p
+kept_found : (stays : Waiting Purpose → Bool) (ws : List (Waiting Purpose)) (n : ℕ) (p : PendingRequest) → AreDistinct ws
+    → find nat_cmp n (map pending_of (filter stays ws)) ≡ Some p → find nat_cmp n (map pending_of ws) ≡ Some p
 kept_found stays [] n p distinct found = found
 kept_found stays (w ∷ ws) n p distinct found = by (stays w) (λ e. later_found w ws n p distinct.0 (kept_found stays ws n p distinct.1 e)) found
   where
-    first : (here : Bool) → (find nat_cmp n (map pending_of (filter stays ws)) ≡ Some p → find nat_cmp n (map pending_of (w ∷ ws)) ≡ Some p) → (w.seq == n) ≡ here → cond here (Some (pending_of w).1) (find nat_cmp n (map pending_of (filter stays ws))) ≡ Some p → find nat_cmp n (map pending_of (w ∷ ws)) ≡ Some p
+    first : (here : Bool) → (find nat_cmp n (map pending_of (filter stays ws)) ≡ Some p → find nat_cmp n (map pending_of (w ∷ ws)) ≡ Some p)
+        → (w.seq == n) ≡ here → cond here (Some (pending_of w).1) (find nat_cmp n (map pending_of (filter stays ws))) ≡ Some p
+        → find nat_cmp n (map pending_of (w ∷ ws)) ≡ Some p
     first true later is e = first_found w ws n ∙ (ap (λ (b : Bool). cond b (Some (pending_of w).1) (find nat_cmp n (map pending_of ws))) is ∙ e)
     first false later is e = later e
 
-    by : (b : Bool) → (find nat_cmp n (map pending_of (filter stays ws)) ≡ Some p → find nat_cmp n (map pending_of (w ∷ ws)) ≡ Some p) → find nat_cmp n (map pending_of (cond b (w ∷ filter stays ws) (filter stays ws))) ≡ Some p → find nat_cmp n (map pending_of (w ∷ ws)) ≡ Some p
+    by : (b : Bool) → (find nat_cmp n (map pending_of (filter stays ws)) ≡ Some p → find nat_cmp n (map pending_of (w ∷ ws)) ≡ Some p)
+        → find nat_cmp n (map pending_of (cond b (w ∷ filter stays ws) (filter stays ws))) ≡ Some p
+        → find nat_cmp n (map pending_of (w ∷ ws)) ≡ Some p
     by true later e = first (w.seq == n) later refl (sym (first_found w (filter stays ws) n) ∙ e)
     by false later e = later e
 
 -- what stands among those that stay stood there
-pub found_before : (stays : Waiting Purpose → Bool) (ws : List (Waiting Purpose)) (n : ℕ) (p : PendingRequest) → AreDistinct ws → get (pending_in (filter stays ws)) n ≡ Some p → get (pending_in ws) n ≡ Some p
-found_before stays ws n p distinct found = get-from_entries nat_cmp_total (map pending_of ws) n ∙ kept_found stays ws n p distinct (sym (get-from_entries nat_cmp_total (map pending_of (filter stays ws)) n) ∙ found)
+pub found_before : (stays : Waiting Purpose → Bool) (ws : List (Waiting Purpose)) (n : ℕ) (p : PendingRequest) → AreDistinct ws
+    → get (pending_in (filter stays ws)) n ≡ Some p → get (pending_in ws) n ≡ Some p
+found_before stays ws n p distinct found =
+    get-from_entries nat_cmp_total (map pending_of ws) n
+    ∙ kept_found stays ws n p distinct (sym (get-from_entries nat_cmp_total (map pending_of (filter stays ws)) n) ∙ found)
 
 -- each that waits stands under its number
-each_by_recursion : {P : Waiting Purpose → Type 0} (ws : List (Waiting Purpose)) → AreDistinct ws → ((w : Waiting Purpose) → get (pending_in ws) w.seq ≡ Some (pending_of w).1 → P w) → AllByRecursion P ws
+each_by_recursion : {P : Waiting Purpose → Type 0} (ws : List (Waiting Purpose)) → AreDistinct ws
+    → ((w : Waiting Purpose) → get (pending_in ws) w.seq ≡ Some (pending_of w).1 → P w) → AllByRecursion P ws
 each_by_recursion [] distinct holds = tt
 each_by_recursion (w ∷ ws) distinct holds = (
-  holds w (get-from_entries nat_cmp_total (map pending_of (w ∷ ws)) w.seq ∙ (first_found w ws w.seq ∙ ap (λ (b : Bool). cond b (Some (pending_of w).1) (find nat_cmp w.seq (map pending_of ws))) (itself w.seq))),
-  each_by_recursion ws distinct.1 (λ v found. holds v (get-from_entries nat_cmp_total (map pending_of (w ∷ ws)) v.seq ∙ later_found w ws v.seq (pending_of v).1 distinct.0 (sym (get-from_entries nat_cmp_total (map pending_of ws) v.seq) ∙ found))),
+  holds w (get-from_entries nat_cmp_total (map pending_of (w ∷ ws)) w.seq
+      ∙ (first_found w ws w.seq ∙ ap (λ (b : Bool). cond b (Some (pending_of w).1) (find nat_cmp w.seq (map pending_of ws))) (itself w.seq))),
+  each_by_recursion ws distinct.1 (λ v found. holds v (get-from_entries nat_cmp_total (map pending_of (w ∷ ws)) v.seq
+      ∙ later_found w ws v.seq (pending_of v).1 distinct.0 (sym (get-from_entries nat_cmp_total (map pending_of ws) v.seq) ∙ found))),
 )
 
 pub each_found : {P : Waiting Purpose → Type 0} (ws : List (Waiting Purpose)) → AreDistinct ws → ((w : Waiting Purpose) → get (pending_in ws) w.seq ≡ Some (pending_of w).1 → P w) → All P ws
@@ -83,9 +93,12 @@ of_first : (P : PendingRequest → Type 0) (x p : PendingRequest) (here : Bool) 
 of_first P x p true rest is first later = let same : x ≡ p = cc in subst P same first
 of_first P x p false rest is first later = later is
 
-found_by_recursion : (P : PendingRequest → Type 0) (ws : List (Waiting Purpose)) (n : ℕ) (p : PendingRequest) → AllByRecursion (λ (w : Waiting Purpose). P (pending_of w).1) ws → find nat_cmp n (map pending_of ws) ≡ Some p → P p
+found_by_recursion : (P : PendingRequest → Type 0) (ws : List (Waiting Purpose)) (n : ℕ) (p : PendingRequest)
+    → AllByRecursion (λ (w : Waiting Purpose). P (pending_of w).1) ws → find nat_cmp n (map pending_of ws) ≡ Some p → P p
 found_by_recursion P [] n p all found = absurd (none_some p found)
-found_by_recursion P (w ∷ ws) n p all found = of_first P (pending_of w).1 p (w.seq == n) (find nat_cmp n (map pending_of ws)) (sym (first_found w ws n) ∙ found) all.0 (found_by_recursion P ws n p all.1)
+found_by_recursion P (w ∷ ws) n p all found =
+    of_first P (pending_of w).1 p (w.seq == n) (find nat_cmp n (map pending_of ws)) (sym (first_found w ws n) ∙ found) all.0
+    (found_by_recursion P ws n p all.1)
 
 -- what holds of each that waits holds of what stands under a number
 pub of_found : (P : PendingRequest → Type 0) (ws : List (Waiting Purpose)) (n : ℕ) (p : PendingRequest) → All (λ (w : Waiting Purpose). P (pending_of w).1) ws → get (pending_in ws) n ≡ Some p → P p
@@ -100,7 +113,8 @@ len_pending (w ∷ ws) d =
     grind (arith, gets, nat_tests, none, rest)
 
 -- one more request
-pub pending_push : (ws : List (Waiting Purpose)) (w : Waiting Purpose) (p : PendingRequest) → is_pending w.seq ws ≡ false → (pending_of w).1 ≡ p → pending_in (ws ++ w ∷ []) ≡ insert (pending_in ws) w.seq p
+pub pending_push : (ws : List (Waiting Purpose)) (w : Waiting Purpose) (p : PendingRequest) → is_pending w.seq ws ≡ false → (pending_of w).1 ≡ p
+    → pending_in (ws ++ w ∷ []) ≡ insert (pending_in ws) w.seq p
 pending_push ws w p free is =
     ap (from_entries {R = nat_cmp}) (map_push pending_of ws w)
     ∙ from_entries_push nat_cmp_total nat_cmp-IsAntisymmetric (map pending_of ws) w.seq (pending_of w).1 (not_found ws w.seq free)
@@ -109,68 +123,3 @@ pending_push ws w p free is =
 -- a number that is free for a request is small
 pub small_number : (start : ℕ) (ws : List (Waiting Purpose)) (n : ℕ) → IsNextFree start ws n → n ≤ 8388607
 small_number start ws n next = let place = next.place in omega arith
-
--- ---- requests that wait, of which some stay
-
--- a list with what an option holds before it, where a test is true
-abbrev taken : Bool → Option (Waiting Purpose) → List (Waiting Purpose) → List (Waiting Purpose)
-taken true o ws = cons_option o ws
-taken false o ws = ws
-
-none_taken : (n : ℕ) (b : Bool) (o : Option (Waiting Purpose)) (ws : List (Waiting Purpose)) → ((v : Waiting Purpose) → o ≡ Some v → (v.seq == n) ≡ false) → is_pending n ws ≡ false → is_pending n (taken b o ws) ≡ false
-unfolding is_pending
-none_taken n true (Some v) ws other none = rw (other v refl) none
-none_taken n b o ws other none = none
-
-module _ (o : Option (Waiting Purpose)) (ws vs : List (Waiting Purpose)) (absent : (w : Waiting Purpose) → o ≡ Some w → get (pending_in ws) w.seq ≡ None) (missing : (w : Waiting Purpose) → o ≡ Some w → get (pending_in vs) w.seq ≡ None) (rest : pending_in ws ≡ pending_in vs → ws ≡ vs) where
-  same_taken : (a b : Bool) → pending_in (taken a o ws) ≡ pending_in (taken b o vs) → taken a o ws ≡ taken b o vs
-  same_taken a b = by_option a b o refl
-    where
-      never : (m n : FiniteMap PendingRequest) (key : ℕ) (x : PendingRequest) → insert m key x ≡ n → get n key ≡ None → ⊥
-      never m n key x is gone = let there : get n key ≡ Some x = ap (λ (k : FiniteMap PendingRequest). get k key) (sym is) ∙ get-insert_same m key x in cc
-
-      by_option : (a b : Bool) (p : Option (Waiting Purpose)) → o ≡ p → pending_in (taken a p ws) ≡ pending_in (taken b p vs) → taken a p ws ≡ taken b p vs
-      by_option false true (Some w) is e = absurd (never (pending_in vs) (pending_in ws) w.seq (pending_of w).1 (sym e) (absent w is))
-      by_option true false (Some w) is e = absurd (never (pending_in ws) (pending_in vs) w.seq (pending_of w).1 e (missing w is))
-      by_option true true (Some w) is e = ap (λ k. w ∷ k) (rest (same_beside (pending_in ws) (pending_in vs) w.seq (pending_of w).1 (pending_of w).1 (absent w is) (missing w is) e))
-      by_option a b p is e = rest e
-
--- of requests, those that stay, each as a tick leaves it
-module _ (later : Waiting Purpose → Option (Waiting Purpose)) (numbered : (w v : Waiting Purpose) → later w ≡ Some v → v.seq ≡ w.seq) where
-  abbrev staying : (Waiting Purpose → Bool) → List (Waiting Purpose) → List (Waiting Purpose)
-  staying stays ws = filter_map later (filter stays ws)
-
-  first_taken : (w : Waiting Purpose) (b : Bool) (ws : List (Waiting Purpose)) → filter_map later (cond b (w ∷ ws) ws) ≡ taken b (later w) (filter_map later ws)
-  first_taken w true ws = refl
-  first_taken w false ws = refl
-
-  none_stays : (stays : Waiting Purpose → Bool) (n : ℕ) (ws : List (Waiting Purpose)) → is_pending n ws ≡ false → is_pending n (staying stays ws) ≡ false
-  unfolding is_pending
-  none_stays stays n [] none = refl
-  none_stays stays n (w ∷ ws) none =
-      let both = or_parts (w.seq == n) (list_any (λ (x : Waiting Purpose). x.seq == n) ws) none in
-      ap (λ k. is_pending n k) (first_taken w (stays w) (filter stays ws)) ∙ none_taken n (stays w) (later w) (staying stays ws) (λ v is. ap (λ (k : ℕ). k == n) (numbered w v is) ∙ both.0) (none_stays stays n ws both.1)
-
-  pub same_staying : (stays keeps : Waiting Purpose → Bool) (ws : List (Waiting Purpose)) → AreDistinct ws → pending_in (staying stays ws) ≡ pending_in (staying keeps ws) → staying stays ws ≡ staying keeps ws
-  same_staying stays keeps [] apart same = refl
-  same_staying stays keeps (w ∷ ws) apart same =
-      let first = first_taken w (stays w) (filter stays ws) in
-      let second = first_taken w (keeps w) (filter keeps ws) in
-      first ∙ (same_taken (later w) (staying stays ws) (staying keeps ws) (gone stays) (gone keeps) (same_staying stays keeps ws apart.1) (stays w) (keeps w) (ap pending_in (sym first) ∙ (same ∙ ap pending_in second)) ∙ sym second)
-    where
-      gone : (test : Waiting Purpose → Bool) (v : Waiting Purpose) → later w ≡ Some v → get (pending_in (staying test ws)) v.seq ≡ None
-      gone test v is = none_pending (staying test ws) v.seq (subst (λ k. is_pending k (staying test ws) ≡ false) (sym (numbered w v is)) (none_stays test w.seq ws apart.0))
-
--- requests that stay, as they are
-all_there : (ws : List (Waiting Purpose)) → filter_map (λ (w : Waiting Purpose). Some w) ws ≡ ws
-all_there [] = refl
-all_there (w ∷ ws) = ap (λ k. w ∷ k) (all_there ws)
-
-pub same_filter : (stays keeps : Waiting Purpose → Bool) (ws : List (Waiting Purpose)) → AreDistinct ws → pending_in (filter stays ws) ≡ pending_in (filter keeps ws) → filter stays ws ≡ filter keeps ws
-same_filter stays keeps ws apart same =
-    sym (all_there (filter stays ws))
-    ∙ (same_staying (λ w. Some w) (λ w v is. numbered w v is) stays keeps ws apart (ap pending_in (all_there (filter stays ws)) ∙ (same ∙ ap pending_in (sym (all_there (filter keeps ws)))))
-    ∙ all_there (filter keeps ws))
-  where
-    numbered : (w v : Waiting Purpose) → ◌≡◌ {A = Option (Waiting Purpose)} (Some w) (Some v) → v.seq ≡ w.seq
-    numbered w v is = let same : w ≡ v = cc in ap (λ (k : Waiting Purpose). k.seq) (sym same)

@@ -97,13 +97,17 @@ on_control purpose m is = by purpose.asked m is
     by a m is = absurd cc
 
 -- the octets that are kept are the machine's datagram
-same_datagram : (config : Config) (ws : List (Waiting Purpose)) (m : reliable.Message) → AreAsked config.peer.control ws → IsOf ws m → datagram_again config m ≡ datagram_of config (sending_again config m)
+same_datagram : (config : Config) (ws : List (Waiting Purpose)) (m : reliable.Message) → AreAsked config.peer.control ws → IsOf ws m
+    → datagram_again config m ≡ datagram_of config (sending_again config m)
 same_datagram config ws m each of =
     let w = of.waiting in
     let asked = of_among (IsAsked config.peer.control) ws w (recursion_from_All (IsAsked config.peer.control) ws each) of.among in
     let plane = on_control w.purpose (message_in w.octets) asked.purpose in
-    let kept : datagram_again config (record { seq = w.seq; to = w.to; octets = w.octets }) ≡ record { plane = Control; from = control_end config.own.control; to = control_end config.peer.control; octets = spelled (message_in w.octets) } = λ i. record { plane = Control; from = control_end config.own.control; to = asked.to i; octets = asked.octets.is i } in
-    let made : datagram_of config (sending_again config (record { seq = w.seq; to = w.to; octets = w.octets })) ≡ record { plane = Control; from = control_end config.own.control; to = control_end config.peer.control; octets = spelled (message_in w.octets) } =
+    let kept : datagram_again config (record { seq = w.seq; to = w.to; octets = w.octets }) ≡ record
+    { plane = Control; from = control_end config.own.control; to = control_end config.peer.control; octets = spelled (message_in w.octets) } = λ i.
+    record { plane = Control; from = control_end config.own.control; to = asked.to i; octets = asked.octets.is i } in
+    let made : datagram_of config (sending_again config (record { seq = w.seq; to = w.to; octets = w.octets })) ≡ record
+    { plane = Control; from = control_end config.own.control; to = control_end config.peer.control; octets = spelled (message_in w.octets) } =
     ap (λ (p : Plane). record { plane = p; from = own_end config p; to = control_end config.peer.control; octets = spelled (message_in w.octets) }) plane in
     ap (datagram_again config) of.is ∙ (kept ∙ (sym made ∙ ap (λ (x : reliable.Message). datagram_of config (sending_again config x)) (sym of.is)))
 
@@ -112,8 +116,11 @@ same_each f g [] same = refl
 same_each f g (x ∷ xs) same = λ i. same x (inl refl) i ∷ same_each f g xs (λ y among. same y (inr among)) i
 
 -- what is sent again is what the machine sends
-pub resent : (config : Config) (t3 n3 : ℕ) (ws : List (Waiting Purpose)) → AreAsked config.peer.control ws → map (datagram_again config) (again_in t3 n3 ws) ≡ map (datagram_of config) (map (sending_again config) (again_in t3 n3 ws))
-resent config t3 n3 ws each = same_each (datagram_again config) (λ m. datagram_of config (sending_again config m)) (again_in t3 n3 ws) (λ m among. same_datagram config ws m each (of_waiting t3 n3 ws m among)) ∙ twice (again_in t3 n3 ws)
+pub resent : (config : Config) (t3 n3 : ℕ) (ws : List (Waiting Purpose)) → AreAsked config.peer.control ws
+    → map (datagram_again config) (again_in t3 n3 ws) ≡ map (datagram_of config) (map (sending_again config) (again_in t3 n3 ws))
+resent config t3 n3 ws each =
+    same_each (datagram_again config) (λ m. datagram_of config (sending_again config m)) (again_in t3 n3 ws)
+    (λ m among. same_datagram config ws m each (of_waiting t3 n3 ws m among)) ∙ twice (again_in t3 n3 ws)
   where
     twice : (ms : List reliable.Message) → map (λ m. datagram_of config (sending_again config m)) ms ≡ map (datagram_of config) (map (sending_again config) ms)
     twice [] = refl

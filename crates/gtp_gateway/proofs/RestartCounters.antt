@@ -59,7 +59,8 @@ module _ (Takes : Node → Effect → Type 0) (old : Node) (counter : Counter) w
   weighs None taken on takes = takes
   weighs (Some known) taken on takes = judged (age_of known counter.0) taken on takes
 
-  pub hears_on : (taken : Effect) → (IsEarlier (weighed old.known counter) → ⊥) → Takes (node_heard (weighed old.known counter) old) taken → Hears Takes old (Some counter.0) (effect_heard counter.0 old.known taken)
+  pub hears_on : (taken : Effect) → (IsEarlier (weighed old.known counter) → ⊥) → Takes (node_heard (weighed old.known counter) old) taken
+      → Hears Takes old (Some counter.0) (effect_heard counter.0 old.known taken)
   hears_on taken on takes = (taken, weighs old.known taken on takes, refl)
 
   judged_old : (age : Age) → IsEarlier (aged age counter) → Judges Takes old counter.0 age (dropped old OldCounter)

@@ -49,9 +49,14 @@ module _ (n : Node) (t : ℕ) (b : Bearer) where
   heard_more heard spared = refl
 
   swapped : (at : ℕ) (bearer : Bearer) → t ≢ at → insert (insert n.bearers t b) at bearer ≡ insert (insert n.bearers at bearer) t b
-  swapped at bearer other = same_map nat_cmp_total nat_cmp-IsAntisymmetric _ _ (λ q. let it : get (insert (insert n.bearers t b) at bearer) q ≡ get (insert (insert n.bearers at bearer) t b) q = grind (arith, gets, nat_tests, other) in it)
+  swapped at bearer other =
+      same_map nat_cmp_total nat_cmp-IsAntisymmetric _ _ (λ q.
+      let it : get (insert (insert n.bearers t b) at bearer) q ≡ get (insert (insert n.bearers at bearer) t b) q = grind (arith, gets, nat_tests, other) in
+      it)
 
-  finished_more : (number : ℕ) (session bearer : Option ℕ) → bearer ≡ None → ((about : ℕ) → session ≡ Some about → b.session ≢ about) → finished_about more number session bearer ≡ record (finished_about n number session bearer) { bearers = insert (finished_about n number session bearer).bearers t b }
+  finished_more : (number : ℕ) (session bearer : Option ℕ) → bearer ≡ None → ((about : ℕ) → session ≡ Some about → b.session ≢ about)
+      → finished_about more number session bearer
+      ≡ record (finished_about n number session bearer) { bearers = insert (finished_about n number session bearer).bearers t b }
   finished_more number session (Some at) none other = absurd cc
   finished_more number None None none other = refl
   finished_more number (Some gone) None none other =
@@ -82,7 +87,8 @@ pub settled_more : (heard : Heard) (v : ResponseVerdict) (number : ℕ) (n : Nod
     → node_after_first heard v number (record n { bearers = insert n.bearers t b }) ≡ record (node_after_first heard v number n) { bearers = insert (node_after_first heard v number n).bearers t b }
 settled_more heard v number n t b may = ap (node_by v number) (heard_more n t b heard may.spared) ∙ by_more (node_heard heard n) t b v number may.beside
 
-pub can_settle_more : (heard : Heard) (v : ResponseVerdict) (n : Node) (t : ℕ) (b : Bearer) → MayStand heard v t b n → CanApply v (node_heard heard n) → CanApply v (node_heard heard (record n { bearers = insert n.bearers t b }))
+pub can_settle_more : (heard : Heard) (v : ResponseVerdict) (n : Node) (t : ℕ) (b : Bearer) → MayStand heard v t b n → CanApply v (node_heard heard n)
+    → CanApply v (node_heard heard (record n { bearers = insert n.bearers t b }))
 can_settle_more heard v n t b may can = subst (CanApply v) (sym (heard_more n t b heard may.spared)) (can_more (node_heard heard n) t b v may.beside can)
 
 -- ---- a bearer of a session that is active then may be put in before
@@ -95,7 +101,8 @@ spared (heards.Later counter) n t x is = by (is_opened (get n.sessions t)) (foun
     by false is = refl
 spared heard n t x is = tt
 
-beside : (v : ResponseVerdict) (number : ℕ) (heard : Heard) (n : Node) (t : ℕ) (b : Bearer) (s : Session) → IsOfSession v (node_heard heard n) → CanApply v (node_heard heard n) → IsAbove n.bearers t → get (node_after_first heard v number n).sessions b.session ≡ Some s → IsBeside v t b
+beside : (v : ResponseVerdict) (number : ℕ) (heard : Heard) (n : Node) (t : ℕ) (b : Bearer) (s : Session) → IsOfSession v (node_heard heard n)
+    → CanApply v (node_heard heard n) → IsAbove n.bearers t → get (node_after_first heard v number n).sessions b.session ≡ Some s → IsBeside v t b
 beside (Drops why) number heard n t b s of can above is = tt
 beside (Finishes purpose outcome) number heard n t b s of can above is = (of, (finished_session (node_heard heard n) number (session_of purpose) (bearer_of purpose) of b.session s is).1)
 beside (OpensSession session opened at bearer) number heard n t b s of can above is = λ same.
@@ -103,7 +110,9 @@ beside (OpensSession session opened at bearer) number heard n t b s of can above
     absurd (not_itself t (subst (λ k. k < t) (sym same) low))
 beside (OpensBearer at bearer) number heard n t b s of can above is = absurd of
 
-pub may_stand : (heard : Heard) (v : ResponseVerdict) (number : ℕ) (n : Node) (t : ℕ) (b : Bearer) (s : Session) → IsOfSession v (node_heard heard n) → CanApply v (node_heard heard n) → IsAbove n.bearers t → get (node_after_first heard v number n).sessions b.session ≡ Some s → MayStand heard v t b n
+pub may_stand : (heard : Heard) (v : ResponseVerdict) (number : ℕ) (n : Node) (t : ℕ) (b : Bearer) (s : Session) → IsOfSession v (node_heard heard n)
+    → CanApply v (node_heard heard n) → IsAbove n.bearers t → get (node_after_first heard v number n).sessions b.session ≡ Some s
+    → MayStand heard v t b n
 may_stand heard v number n t b s of can above is =
     let stood = settled_session (node_heard heard n) number v of can b.session s is in
     record { spared = spared heard n b.session stood.0 stood.1; beside = beside v number heard n t b s of can above is }
@@ -114,9 +123,13 @@ module _ (n : Node) (number : ℕ) (t : ℕ) where
   abbrev Has : Node → ℕ → Type 0
   Has x identity = HasIdentity x.bearers t identity
 
-  finished_has : (session bearer : Option ℕ) → bearer ≡ None → (s : Session) → get (finished_about n number session bearer).sessions t ≡ Some s → (identity : ℕ) → Has n identity ↔ Has (finished_about n number session bearer) identity
+  finished_has : (session bearer : Option ℕ) → bearer ≡ None → (s : Session) → get (finished_about n number session bearer).sessions t ≡ Some s → (identity : ℕ)
+      → Has n identity ↔ Has (finished_about n number session bearer) identity
   finished_has session (Some b) none s is identity = absurd cc
-  finished_has None None none s is identity = (λ h. record { teid = h.teid; bearer = h.bearer; stands = h.stands; of = h.of; has = h.has }, λ h. record { teid = h.teid; bearer = h.bearer; stands = h.stands; of = h.of; has = h.has })
+  finished_has None None none s is identity = (
+    λ h. record { teid = h.teid; bearer = h.bearer; stands = h.stands; of = h.of; has = h.has },
+    λ h. record { teid = h.teid; bearer = h.bearer; stands = h.stands; of = h.of; has = h.has },
+  )
   finished_has (Some gone) None none s is identity = (
     λ h. record { teid = h.teid; bearer = h.bearer; stands = get-kept test n.bearers h.teid h.bearer h.stands (stays h.bearer h.of (h.bearer.session == gone) refl); of = h.of; has = h.has },
     λ h. record { teid = h.teid; bearer = h.bearer; stands = (found-kept test n.bearers h.teid h.bearer h.stands).1; of = h.of; has = h.has },
@@ -129,7 +142,8 @@ module _ (n : Node) (number : ℕ) (t : ℕ) where
       stays x of true same = absurd ((finished_session n number (Some gone) None refl t s is).1 gone refl (sym of ∙ same_number x.session gone same))
       stays x of false same = refl
 
-  opened_has : (at : ℕ) (opened : Bearer) → IsOpenedAt n.bearers at opened → ((b : Bearer) → get n.bearers at ≡ Some b → opened.identity ≡ b.identity) → (identity : ℕ) → HasIdentity n.bearers t identity ↔ HasIdentity (insert n.bearers at opened) t identity
+  opened_has : (at : ℕ) (opened : Bearer) → IsOpenedAt n.bearers at opened → ((b : Bearer) → get n.bearers at ≡ Some b → opened.identity ≡ b.identity)
+      → (identity : ℕ) → HasIdentity n.bearers t identity ↔ HasIdentity (insert n.bearers at opened) t identity
   opened_has at opened can keeps identity = (λ h. into h (h.teid == at) refl, out)
     where
       into : (h : HasIdentity n.bearers t identity) (same : Bool) → (h.teid == at) ≡ same → HasIdentity (insert n.bearers at opened) t identity
@@ -142,7 +156,13 @@ module _ (n : Node) (number : ℕ) (t : ℕ) where
 
       out : HasIdentity (insert n.bearers at opened) t identity → HasIdentity n.bearers t identity
       out h = ⊎_elim
-          (λ here. record { teid = at; bearer = can.bearer; stands = can.stands; of = sym can.of ∙ (ap (λ (x : Bearer). x.session) here.1 ∙ h.of); has = sym (keeps can.bearer can.stands) ∙ (ap (λ (x : Bearer). x.identity) here.1 ∙ h.has) })
+          (λ here. record {
+            teid = at;
+            bearer = can.bearer;
+            stands = can.stands;
+            of = sym can.of ∙ (ap (λ (x : Bearer). x.session) here.1 ∙ h.of);
+            has = sym (keeps can.bearer can.stands) ∙ (ap (λ (x : Bearer). x.identity) here.1 ∙ h.has);
+          })
           (λ other. record { teid = h.teid; bearer = h.bearer; stands = other.1; of = h.of; has = h.has })
           (found-insert n.bearers at opened h.teid h.bearer h.stands)
 
@@ -158,7 +178,8 @@ finished_stood n number session (Some at) none t b is = absurd cc
 finished_stood n number None None none t b is = is
 finished_stood n number (Some gone) None none t b is = (found-kept (λ (k : ℕ) (x : Bearer). not (false || (x.session == gone))) n.bearers t b is).1
 
-by_stood : (n : Node) (number : ℕ) (v : ResponseVerdict) → IsOfSession v n → CanApply v n → (t : ℕ) (b : Bearer) → get (node_by v number n).bearers t ≡ Some b → (c : Bearer) × (get n.bearers t ≡ Some c)
+by_stood : (n : Node) (number : ℕ) (v : ResponseVerdict) → IsOfSession v n → CanApply v n → (t : ℕ) (b : Bearer)
+    → get (node_by v number n).bearers t ≡ Some b → (c : Bearer) × (get n.bearers t ≡ Some c)
 by_stood n number (Drops why) of can t b is = (b, is)
 by_stood n number (Finishes purpose outcome) of can t b is = (b, finished_stood n number (session_of purpose) (bearer_of purpose) of t b is)
 by_stood n number (OpensSession session opened at bearer) of can t b is = ⊎_elim
@@ -168,7 +189,9 @@ by_stood n number (OpensSession session opened at bearer) of can t b is = ⊎_el
 by_stood n number (OpensBearer at bearer) of can t b is = absurd of
 
 -- so the applied node is judged by what is known before it is applied
-pub settled_stands : (heard : Heard) (v : ResponseVerdict) (number : ℕ) (n : Node) (t : ℕ) (found : Option Session) (bearers : FiniteMap Bearer) → IsOfSession v (node_heard heard n) → CanApply v (node_heard heard n) → found ≡ get (node_after_first heard v number n).sessions t → bearers ≡ (node_heard heard n).bearers
+pub settled_stands : (heard : Heard) (v : ResponseVerdict) (number : ℕ) (n : Node) (t : ℕ) (found : Option Session) (bearers : FiniteMap Bearer)
+    → IsOfSession v (node_heard heard n) → CanApply v (node_heard heard n) → found ≡ get (node_after_first heard v number n).sessions t
+    → bearers ≡ (node_heard heard n).bearers
     → StandsWith t found bearers n (node_after_first heard v number n)
 settled_stands heard v number n t found bearers of can is same =
     let left = node_heard heard n in
@@ -176,7 +199,8 @@ settled_stands heard v number n t found bearers of can is same =
       session = sym is;
       identities = λ some identity.
           let stands = is_one found some in
-          subst (λ (bs : FiniteMap Bearer). HasIdentity bs t identity ↔ HasIdentity (node_after_first heard v number n).bearers t identity) (sym same) (by_has left number t v of can stands.0 (sym is ∙ stands.1) identity);
+          subst (λ (bs : FiniteMap Bearer). HasIdentity bs t identity ↔ HasIdentity (node_after_first heard v number n).bearers t identity) (sym same)
+          (by_has left number t v of can stands.0 (sym is ∙ stands.1) identity);
       drawn = settled_drawn heard v number n;
       counter = settled_counter heard v number n;
       stood = λ k b stands. let before = by_stood left number v of can k b stands in (before.0, bearer_stood heard n k before.0 before.1);
@@ -195,7 +219,8 @@ drawn_there t found bearers old node d with_it drawn = record {
 pub draws_there : (t : ℕ) (found : Option Session) (bearers : FiniteMap Bearer) (old node : Node) → StandsWith t found bearers old node → HasDraws node 1 → HasDraws old 1
 draws_there t found bearers old node with_it has = record { left = subst (λ ts. length ts + 1 ≤ 16777215) with_it.drawn has.left }
 
-pub lowest_there : (t : ℕ) (bearers others : FiniteMap Bearer) (identity : ℕ) → ((i : ℕ) → HasIdentity bearers t i ↔ HasIdentity others t i) → IsLowestUnused bearers t identity → IsLowestUnused others t identity
+pub lowest_there : (t : ℕ) (bearers others : FiniteMap Bearer) (identity : ℕ) → ((i : ℕ) → HasIdentity bearers t i ↔ HasIdentity others t i)
+    → IsLowestUnused bearers t identity → IsLowestUnused others t identity
 lowest_there t bearers others identity same lowest = record {
   range = lowest.range;
   unused = λ k b stands of has. let h = (same identity).1 (record { teid = k; bearer = b; stands = stands; of = of; has = has }) in lowest.unused h.teid h.bearer h.stands h.of h.has;
@@ -205,7 +230,8 @@ lowest_there t bearers others identity same lowest = record {
 pub all_there : (t : ℕ) (bearers others : FiniteMap Bearer) → ((i : ℕ) → HasIdentity bearers t i ↔ HasIdentity others t i) → HasAll bearers t → HasAll others t
 all_there t bearers others same all i range = (same i).0 (all i range)
 
-pub granted_there : (t : ℕ) (found : Option Session) (bearers : FiniteMap Bearer) (old node : Node) (g : BearerGrant) → StandsWith t found bearers old node → IsSome found → IsLowestUnused bearers t g.identity → IsOneDrawn g.drawn old → IsGrant t g node
+pub granted_there : (t : ℕ) (found : Option Session) (bearers : FiniteMap Bearer) (old node : Node) (g : BearerGrant) → StandsWith t found bearers old node
+    → IsSome found → IsLowestUnused bearers t g.identity → IsOneDrawn g.drawn old → IsGrant t g node
 granted_there t found bearers old node g with_it some lowest drawn = record {
   identity = lowest_there t bearers node.bearers g.identity (with_it.identities some) lowest;
   drawn = drawn_there t found bearers old node g.drawn with_it drawn;

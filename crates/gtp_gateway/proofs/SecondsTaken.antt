@@ -57,7 +57,9 @@ again_there arrival old node sent held config is = record {
   again = subst (λ (c : Config). AreSent c (datagram_by sent ∷ []) (record { destination = arrival.source; messages = is.held.answer } ∷ [])) (sym config) is.again;
 }
 
-pub repeated_taken : (reading : ControlReading) (arrival : Arrival) (old new : GatewayState) (sent : Sent) (step : ControlStep) → arrival.source.ip ≡ old.node.config.peer.control → IsSentAgain arrival old.node sent → step ≡ record { out = Some sent; report = plain_report Repeated } → new.node ≡ old.node → new.role ≡ old.role
+pub repeated_taken : (reading : ControlReading) (arrival : Arrival) (old new : GatewayState) (sent : Sent) (step : ControlStep)
+    → arrival.source.ip ≡ old.node.config.peer.control → IsSentAgain arrival old.node sent
+    → step ≡ record { out = Some sent; report = plain_report Repeated } → new.node ≡ old.node → new.role ≡ old.role
     → IsTakenAs reading arrival old step new
 repeated_taken reading arrival old new sent step peer again is becomes role =
     let effect : Effect = record { out = says_all arrival.source again.held.answer; outcome = Came_to Repeated; node = old.node } in
@@ -82,12 +84,16 @@ module _ (arrival : Arrival) (q : CreateBearerRequest) (old : GatewayState) (ser
   takes_it : takes_message old.role message ≡ true
   takes_it = ap (λ (r : Role). takes_message r message) serving
 
-  pub row_is_taken : IsNew old.node arrival → (step : ControlStep) (new : GatewayState) → IsRow (CreateBearerAsked arrival q) arrival old.role old.node step new → IsTakenAs (Control_message message) arrival old step new
+  pub row_is_taken : IsNew old.node arrival → (step : ControlStep) (new : GatewayState) → IsRow (CreateBearerAsked arrival q) arrival old.role old.node step new
+      → IsTakenAs (Control_message message) arrival old step new
   row_is_taken fresh step new row =
       let t = row.tells in
       record {
         effect = row.effect;
-        takes = message_taken old.role old.node arrival message row.effect peer fresh takes_it (at_taker (λ r k. TakesBy r arrival k old.node row.effect) old.role types.CreateBearerRequest types.CreateBearerRequest message message has_it refl refl row.takes);
+        takes =
+            message_taken old.role old.node arrival message row.effect peer fresh takes_it
+            (at_taker (λ r k. TakesBy r arrival k old.node row.effect) old.role types.CreateBearerRequest types.CreateBearerRequest message message
+            has_it refl refl row.takes);
         tells = record {
           sent = t.sent;
           outcome = t.outcome;
@@ -102,14 +108,19 @@ module _ (arrival : Arrival) (q : CreateBearerRequest) (old : GatewayState) (ser
       }
 
   -- it is dropped
-  pub drop_is_taken : IsNew old.node arrival → (step : ControlStep) (new : GatewayState) (outcome : Outcome) → step ≡ record { out = None; report = plain_report outcome } → new.node ≡ old.node → new.role ≡ old.role → CreateBearerAsked arrival q old.node (record { out = nothing; outcome = Came_to outcome; node = old.node })
+  pub drop_is_taken : IsNew old.node arrival → (step : ControlStep) (new : GatewayState) (outcome : Outcome)
+      → step ≡ record { out = None; report = plain_report outcome } → new.node ≡ old.node → new.role ≡ old.role
+      → CreateBearerAsked arrival q old.node (record { out = nothing; outcome = Came_to outcome; node = old.node })
       → IsTakenAs (Control_message message) arrival old step new
   drop_is_taken fresh step new outcome is becomes role takes = row_is_taken fresh step new (ends (CreateBearerAsked arrival q) arrival old new step outcome old.node is becomes role takes)
 
   -- where it is answered, something is sent
-  pub answer_needs : (made : Bool) (m : Message) (cause : ℕ) (left : Node) → HasHeldRoom old.node → BearerJudged arrival q old.node (answering made arrival (m ∷ []) cause left) → StepSendsOrOpens arrival (Control_message message) old
+  pub answer_needs : (made : Bool) (m : Message) (cause : ℕ) (left : Node) → HasHeldRoom old.node
+      → BearerJudged arrival q old.node (answering made arrival (m ∷ []) cause left) → StepSendsOrOpens arrival (Control_message message) old
   answer_needs made m cause left room judged =
-      message_needs arrival old message None peer takes_it refl (weighed_by None old.node.known) refl (λ early. early) (needs_by old.role arrival message old.node types.CreateBearerRequest types.CreateBearerRequest message has_it refl refl (create_bearer_asked arrival q old.node made m cause left room judged))
+      message_needs arrival old message None peer takes_it refl (weighed_by None old.node.known) refl (λ early. early)
+      (needs_by old.role arrival message old.node types.CreateBearerRequest types.CreateBearerRequest message has_it refl refl
+      (create_bearer_asked arrival q old.node made m cause left room judged))
 
   pub again_needs : (ps : List HeldPair) → old.node.held ≡ map held_of ps → IsHeld arrival.source arrival.octets ps → StepSendsOrOpens arrival (Control_message message) old
   again_needs ps is held =
@@ -119,7 +130,8 @@ module _ (arrival : Arrival) (q : CreateBearerRequest) (old : GatewayState) (ser
 -- ---- what is answered
 
 -- the answer is the same at any gateway with this counter and these settings
-pub same_answer : (a : CreateBearerAnswer) (header : ℕ) (q : CreateBearerRequest) (old node : Node) → node.counter ≡ old.counter → node.config ≡ old.config → bearer_answer a header q old ≡ bearer_answer a header q node
+pub same_answer : (a : CreateBearerAnswer) (header : ℕ) (q : CreateBearerRequest) (old node : Node) → node.counter ≡ old.counter → node.config ≡ old.config
+    → bearer_answer a header q old ≡ bearer_answer a header q node
 same_answer (Refused cause) header q old node counter config = λ i. refusing types.CreateBearerRequest header q.number (cause_of cause) (sym counter i)
 same_answer NoResources header q old node counter config = λ i. bearer_answer NoResources header q (record node { counter = sym counter i })
 same_answer (Granted g) header q old node counter config = λ i. bearer_answer (Granted g) header q (record node { counter = sym counter i; config = sym config i })
@@ -130,7 +142,8 @@ change_config r (Refused cause) n = refl
 change_config r a n = refl
 
 -- the bearer that is granted has the lowest identity
-pub lowest_second : (r : BearerRequest) (a : CreateBearerAnswer) (found : Option Session) (old settled new : Node) → CanGive found a old → IsChosen r.header a settled → new.bearers ≡ (changed_by (change_for r a) settled).bearers → is_granted a ≡ true → MakesLowestBearer old new
+pub lowest_second : (r : BearerRequest) (a : CreateBearerAnswer) (found : Option Session) (old settled new : Node) → CanGive found a old → IsChosen r.header a settled
+    → new.bearers ≡ (changed_by (change_for r a) settled).bearers → is_granted a ≡ true → MakesLowestBearer old new
 lowest_second r (Granted g) found old settled new can chosen is granted = record {
   teid = g.drawn.teid;
   bearer = granted_to r g.identity;

@@ -17,7 +17,8 @@ use Rattle.gtp_gateway.specs.messages.Sent.{ReadsBackOn, ReadsBack}
 use Rattle.gtp_gateway.specs.messages.Spelled.{message_in, those_read, messages_in, LieApart, AreSpelled, AreSpelledAll, IsKept, AreAnswered}
 
 -- before a datagram is read, both gateways take the same steps
-pub by_role : (role : Role) (old : Node) (request : Arrival) (reading : ControlReading) (e : Effect) → ((Reads : Arrival → Node → Effect → Type 0) → ControlStep Reads request old e) → Step role old (Control_came request reading) e
+pub by_role : (role : Role) (old : Node) (request : Arrival) (reading : ControlReading) (e : Effect)
+    → ((Reads : Arrival → Node → Effect → Type 0) → ControlStep Reads request old e) → Step role old (Control_came request reading) e
 by_role role old request reading e step = step (TakesReading role (TakesBy role) reading)
 
 answered_there : (ps : List HeldPair) (source : Endpoint) (request answer : List ℕ) → AllByRecursion IsKept ps → HasAnswer source request answer ps → AreSpelledAll answer

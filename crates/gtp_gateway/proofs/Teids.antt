@@ -32,7 +32,8 @@ one_more n = omega arith
 
 module _ (s : GatewayState) (whole : IsSoundState s) (count : ℕ) (drawn : s.node.drawn ≡ drawn_up_to s.node.counter count) where
   -- the next TEIDs are above all that a table has, where a sound gateway has drawn each of its keys
-  all_below : {X : Type 0} (table : FiniteMap X) → (IsSound s.role s.node → (key : ℕ) (x : X) → get table key ≡ Some x → Among key s.node.drawn) → (t : ℕ) → teid_at s.node.counter count < t → IsAbove table t
+  all_below : {X : Type 0} (table : FiniteMap X) → (IsSound s.role s.node → (key : ℕ) (x : X) → get table key ≡ Some x → Among key s.node.drawn) → (t : ℕ)
+      → teid_at s.node.counter count < t → IsAbove table t
   all_below table own t above key x stands = not_below key t (λ reaches. ∥∥₁_elim whole (λ x y. absurd x) (λ sound. none sound reaches))
     where
       none : IsSound s.role s.node → t ≤ key → ⊥
@@ -72,7 +73,8 @@ has_left node count n drawn few = record { left = subst (λ (m : ℕ). m + n ≤
 pub has_none : (node : Node) (count n : ℕ) → node.drawn ≡ drawn_up_to node.counter count → (count + n ≤ 16777215 → ⊥) → HasDraws node n → ⊥
 has_none node count n drawn many has = many (subst (λ (m : ℕ). m + n ≤ 16777215) (ap length drawn ∙ length_drawn node.counter count) has.left)
 
-pub one_drawn : (s : GatewayState) (whole : IsSoundState s) (count : ℕ) (drawn : s.node.drawn ≡ drawn_up_to s.node.counter count) (draws : Drawn) (teid : Teid) → IsDraw s.node.counter count draws teid → IsOneDrawn (record { draws = draws; teid = teid }) s.node
+pub one_drawn : (s : GatewayState) (whole : IsSoundState s) (count : ℕ) (drawn : s.node.drawn ≡ drawn_up_to s.node.counter count) (draws : Drawn) (teid : Teid)
+    → IsDraw s.node.counter count draws teid → IsOneDrawn (record { draws = draws; teid = teid }) s.node
 one_drawn s whole count drawn draws teid d =
     record {
       left = has_left s.node count 1 drawn (let few = d.small in omega (arith, few));
@@ -81,7 +83,9 @@ one_drawn s whole count drawn draws teid d =
       above = bearers_below s whole count drawn teid (above_last s.node.counter count teid d.value);
     }
 
-pub two_drawn : (s : GatewayState) (whole : IsSoundState s) (count : ℕ) (drawn : s.node.drawn ≡ drawn_up_to s.node.counter count) (between draws : Drawn) (control user : Teid) → IsDraw s.node.counter count between control → IsDraw between.counter between.count draws user → AreTwoDrawn (record { draws = draws; control = control; user = user }) s.node
+pub two_drawn : (s : GatewayState) (whole : IsSoundState s) (count : ℕ) (drawn : s.node.drawn ≡ drawn_up_to s.node.counter count) (between draws : Drawn)
+    (control user : Teid) → IsDraw s.node.counter count between control → IsDraw between.counter between.count draws user
+    → AreTwoDrawn (record { draws = draws; control = control; user = user }) s.node
 two_drawn s whole count drawn between draws control user a b =
     let counter = s.node.counter in
     let same : between.counter ≡ counter = ap (λ (x : Drawn). x.counter) a.drawn in
@@ -112,7 +116,8 @@ last_drawn counter (suc n) t ts is = let same : teid_at counter (suc n) ≡ t = 
 two_more : (node : Node) (two : TwoDrawn) → AreTwoDrawn two node → two.draws.count ≡ length node.drawn + 2
 two_more node two are = let all = sym (length_drawn two.draws.counter two.draws.count) ∙ ap length are.are.drawn in omega (arith, all)
 
-pub third_drawn : (node : Node) (two : TwoDrawn) (are : AreTwoDrawn two node) (draws : Drawn) (teid : Teid) → IsDraw two.draws.counter two.draws.count draws teid → IsThirdDrawn two (record { draws = draws; teid = teid }) node
+pub third_drawn : (node : Node) (two : TwoDrawn) (are : AreTwoDrawn two node) (draws : Drawn) (teid : Teid) → IsDraw two.draws.counter two.draws.count draws teid
+    → IsThirdDrawn two (record { draws = draws; teid = teid }) node
 third_drawn node two are draws teid d =
     let drawn : drawn_up_to two.draws.counter two.draws.count ≡ two.user ∷ two.control ∷ node.drawn = are.are.drawn in
     let undrawn = subst (λ (ts : List ℕ). Among teid ts → ⊥) drawn d.undrawn in

@@ -41,7 +41,8 @@ use Rattle.gtp_gateway.proofs.RestartCounters.{config_stays, counter_stays, draw
 -- ---- the requests that wait once the counter was heard
 
 -- they are what the node keeps then
-pub pending_heard : (heard : Heard) (n : Node) (waiting : List (Waiting Purpose)) → AreDistinct waiting → n.pending ≡ pending_in waiting → (node_heard heard n).pending ≡ pending_in (waiting_heard heard n.sessions waiting)
+pub pending_heard : (heard : Heard) (n : Node) (waiting : List (Waiting Purpose)) → AreDistinct waiting → n.pending ≡ pending_in waiting
+    → (node_heard heard n).pending ≡ pending_in (waiting_heard heard n.sessions waiting)
 pending_heard (heards.Later counter) n waiting distinct is =
     let stays : PendingRequest → Bool = λ p. not (on (λ t. is_opened (get n.sessions t)) p.session || on (λ t. false) p.bearer) in
     ap (λ (m : FiniteMap PendingRequest). kept (λ _ p. stays p) m) is ∙ sym (pending_kept stays waiting distinct)
@@ -64,10 +65,16 @@ module _ (name : List ℕ) (g : SessionGrant) (heard : Heard) (s : GatewayState)
 
   -- the rule by the template of the access point
   abbrev Answers : Arrival → CreateSessionRequest → Option machine.Template → Effect → Type 0
-  Answers request q template e = AnswersWith template request (session_response (node_heard heard s.node) q g.drawn.control g.drawn.user g.address) (session_cause q.pdn g.address) g.drawn.control (made_session q g.address) (made q) e
+  Answers request q template e =
+      AnswersWith template request (session_response (node_heard heard s.node) q g.drawn.control g.drawn.user g.address)
+      (session_cause q.pdn g.address) g.drawn.control (made_session q g.address) (made q) e
 
-  by_name : (request : Arrival) (q : CreateSessionRequest) (e : Effect) (template : Option machine.Template) → template ≡ template_for name s.node.config.templates → q.access_point ≡ name → Answers request q template e → Answers request q (template_for q.access_point (node_heard heard s.node).config.templates) e
-  by_name request q e template is of answers = subst (λ (t : Option machine.Template). Answers request q t e) (is ∙ (λ i. template_for (sym of i) (sym (config_stays heard s.node) i).templates)) answers
+  by_name : (request : Arrival) (q : CreateSessionRequest) (e : Effect) (template : Option machine.Template)
+      → template ≡ template_for name s.node.config.templates → q.access_point ≡ name → Answers request q template e
+      → Answers request q (template_for q.access_point (node_heard heard s.node).config.templates) e
+  by_name request q e template is of answers =
+      subst (λ (t : Option machine.Template). Answers request q t e)
+      (is ∙ (λ i. template_for (sym of i) (sym (config_stays heard s.node) i).templates)) answers
 
   few_left : HasDraws s.node 3 → (q : CreateSessionRequest) → HasDraws (made q) 1
   few_left has q = record { left = let few = has.left in let same = ap length (drawn_stays heard s.node) in omega (arith, few, same) }
@@ -75,12 +82,17 @@ module _ (name : List ℕ) (g : SessionGrant) (heard : Heard) (s : GatewayState)
   module _ (template : Template) (is : Some (template_of name template) ≡ template_for name s.node.config.templates) where
     module _ (waiting : List (Waiting Purpose)) (distinct : AreDistinct waiting) (pending : s.node.pending ≡ pending_in waiting) where
       few_wait : (q : CreateSessionRequest) → len (made q).pending ≡ length (waiting_heard heard s.node.sessions waiting)
-      few_wait q = ap (λ (m : FiniteMap PendingRequest). len m) (pending_heard heard s.node waiting distinct pending) ∙ len_pending (waiting_heard heard s.node.sessions waiting) (distinct_heard heard s.node.sessions waiting distinct)
+      few_wait q =
+          ap (λ (m : FiniteMap PendingRequest). len m) (pending_heard heard s.node waiting distinct pending)
+          ∙ len_pending (waiting_heard heard s.node.sessions waiting) (distinct_heard heard s.node.sessions waiting distinct)
 
       -- 256 requests wait
       pub added_full : 256 ≤ length (waiting_heard heard s.node.sessions waiting) → JudgesAdded name g heard s (Granted g)
       added_full many = record {
-        judged = λ request q of. by_name request q (create_session_effect request q (Granted g) (node_heard heard s.node)) (Some (template_of name template)) is of (inl (λ can. below _ _ many (few_wait q) can.1.few, refl));
+        judged =
+            λ request q of.
+            by_name request q (create_session_effect request q (Granted g) (node_heard heard s.node)) (Some (template_of name template)) is of
+            (inl (λ can. below _ _ many (few_wait q) can.1.few, refl));
         is = λ identity pdn chooses. chooses;
       }
 
@@ -108,29 +120,39 @@ module _ (name : List ℕ) (g : SessionGrant) (heard : Heard) (s : GatewayState)
 
         number_free : (q : CreateSessionRequest) → IsFreeNumber (made q) a.seq
         number_free q = record {
-          unused = ap (λ (m : FiniteMap PendingRequest). get m a.seq) (pending_heard heard s.node waiting distinct pending) ∙ none_pending (waiting_heard heard s.node.sessions waiting) a.seq free_number.free;
+          unused =
+              ap (λ (m : FiniteMap PendingRequest). get m a.seq) (pending_heard heard s.node waiting distinct pending)
+              ∙ none_pending (waiting_heard heard s.node.sessions waiting) a.seq free_number.free;
           small = small_number s.queues.next (waiting_heard heard s.node.sessions waiting) a.seq free_number;
         }
 
         -- the bearer is begun
         pub added_some : JudgesAdded name g heard s (GrantedWith g a)
         added_some = record {
-          judged = λ request q of. by_name request q (create_session_effect request q (GrantedWith g a) (node_heard heard s.node)) (Some (template_of name a.template)) (ap (λ (t : Template). Some (template_of name t)) of_template ∙ is) of (inr (
-            (few_left can.third.left q, room q),
-            record {
-              user = a.drawn.teid;
-              number = a.seq;
-              user_free = free_user q;
-              number_free = number_free q;
-              gives = refl;
-            },
-          ));
+          judged =
+              λ request q of.
+              by_name request q (create_session_effect request q (GrantedWith g a) (node_heard heard s.node)) (Some (template_of name a.template))
+              (ap (λ (t : Template). Some (template_of name t)) of_template ∙ is) of (inr (
+                (few_left can.third.left q, room q),
+                record {
+                  user = a.drawn.teid;
+                  number = a.seq;
+                  user_free = free_user q;
+                  number_free = number_free q;
+                  gives = refl;
+                },
+              ));
           is = λ identity pdn chooses. (chooses, can);
         }
 
 -- ---- a new request
 
 -- the request of the template's bearer is none of those that wait
-pub new_request : (old : GatewayState) (two : TwoDrawn) (a : AddedBearer) (heard : Heard) → IsSoundState old → CanAdd two a heard old → old.node.pending ≡ pending_in old.queues.waiting → (octets : List ℕ) (r : CreateBearerRequest) → r.context.user.teid ≡ a.drawn.teid → message_in octets ≡ Create_bearer_request r → All (λ (w : Waiting Purpose). message_in w.octets ≢ message_in octets) old.queues.waiting
-new_request old two a heard whole can pending octets r named reads = each_found {P = λ w. message_in w.octets ≢ message_in octets} old.queues.waiting can.distinct (λ w found same. ∥∥₁_elim whole (hlevel) (λ sound.
-    can.third.free.undrawn (subst (λ (t : ℕ). Among t old.node.drawn) named (drawn_before old.role old.node sound w.seq (pending_of w).1 r (ap (λ (k : FiniteMap PendingRequest). get k w.seq) pending ∙ found) (same ∙ reads)))))
+pub new_request : (old : GatewayState) (two : TwoDrawn) (a : AddedBearer) (heard : Heard) → IsSoundState old → CanAdd two a heard old
+    → old.node.pending ≡ pending_in old.queues.waiting → (octets : List ℕ) (r : CreateBearerRequest) → r.context.user.teid ≡ a.drawn.teid
+    → message_in octets ≡ Create_bearer_request r → All (λ (w : Waiting Purpose). message_in w.octets ≢ message_in octets) old.queues.waiting
+new_request old two a heard whole can pending octets r named reads =
+    each_found {P = λ w. message_in w.octets ≢ message_in octets} old.queues.waiting can.distinct (λ w found same. ∥∥₁_elim whole (hlevel) (λ sound.
+    can.third.free.undrawn (subst (λ (t : ℕ). Among t old.node.drawn) named
+    (drawn_before old.role old.node sound w.seq (pending_of w).1 r (ap (λ (k : FiniteMap PendingRequest). get k w.seq) pending ∙ found)
+    (same ∙ reads)))))

@@ -40,13 +40,17 @@ given_by s told =
 abbrev pub node_later : GatewayState → Node
 node_later mid = record mid.node { pending = pending_in (tick_later mid.queues).waiting; held = map held_of (tick_later mid.queues).held }
 
-module _ (old mid : GatewayState) (told : List ℕ) (pending : old.node.pending ≡ pending_in old.queues.waiting) (keeps : mid.node.held ≡ map held_of mid.queues.held) (distinct : AreDistinct old.queues.waiting) (apart : AreApart old.queues.held) (waits : RequestsWaitOn old mid) (each : GivesUpEach old.node (due_in old.queues).give_ups told mid.node) where
+module _ (old mid : GatewayState) (told : List ℕ) (pending : old.node.pending ≡ pending_in old.queues.waiting)
+    (keeps : mid.node.held ≡ map held_of mid.queues.held) (distinct : AreDistinct old.queues.waiting) (apart : AreApart old.queues.held)
+    (waits : RequestsWaitOn old mid) (each : GivesUpEach old.node (due_in old.queues).give_ups told mid.node) where
   later : node_later mid ≡ record mid.node { held = left_in old.queues.timers.hold old.queues.held }
   later =
       let t3 = old.queues.timers.t3 in
       let n3 = old.queues.timers.n3 in
       let mid_pending : mid.node.pending ≡ pending_in (filter waits.stays old.queues.waiting) = waits.pending ∙ ap (λ t. pending_in t.waiting) waits.queues in
-      let now : pending_in (tick_later mid.queues).waiting ≡ mid.node.pending = ap (λ t. pending_in (tick_later t).waiting) waits.queues ∙ (sym (pending_stays t3 n3 old.queues.waiting distinct waits.stays old.node told mid.node each mid_pending) ∙ sym mid_pending) in
+      let now : pending_in (tick_later mid.queues).waiting ≡ mid.node.pending =
+      ap (λ t. pending_in (tick_later t).waiting) waits.queues
+      ∙ (sym (pending_stays t3 n3 old.queues.waiting distinct waits.stays old.node told mid.node each mid_pending) ∙ sym mid_pending) in
       let left : map held_of (tick_later mid.queues).held ≡ left_in old.queues.timers.hold old.queues.held = ap (λ t. map held_of (tick_later t).held) waits.queues in
       λ i. record mid.node { pending = now i; held = left i }
 
@@ -58,9 +62,13 @@ module _ (old mid : GatewayState) (told : List ℕ) (pending : old.node.pending 
       let forgets = map Forget (gone_in hold old.queues.held) in
       let last : Node = record mid.node { held = left_in hold old.queues.held } in
       let same : mid.node.held ≡ map held_of old.queues.held = keeps ∙ ap (λ t. map held_of t.held) waits.queues in
-      let forgetting_step = subst (λ (l : List Held). TickStep (record mid.node { held = l }) forgets (forgot (gone_in hold old.queues.held)) last) (sym same) (forgetting mid.node hold old.queues.held apart) in
+      let forgetting_step =
+      subst (λ (l : List Held). TickStep (record mid.node { held = l }) forgets (forgot (gone_in hold old.queues.held)) last) (sym same)
+      (forgetting mid.node hold old.queues.held apart) in
       let giving_step = giving_up (due_in old.queues).give_ups old.node told mid.node forgets (forgot (gone_in hold old.queues.held)) last each forgetting_step in
-      let step = resending old.node t3 n3 old.queues.waiting (map Give_up told ++ forgets) (record (forgot (gone_in hold old.queues.held)) { gave_up = told ++ [] }) last pending distinct giving_step in
+      let step =
+      resending old.node t3 n3 old.queues.waiting (map Give_up told ++ forgets)
+      (record (forgot (gone_in hold old.queues.held)) { gave_up = told ++ [] }) last pending distinct giving_step in
       record {
         moves = map Resend (due_in old.queues).resends ++ (map Give_up told ++ forgets);
         are = record {
@@ -93,15 +101,21 @@ no_items f [] none = refl
 no_items f (x ∷ xs) none = absurd cc
 
 -- where each that waits on gives nothing, all give nothing
-none_given : {Y : Type 0} (h : Waiting Purpose → Option Y) (t3 : ℕ) (ws : List (Waiting Purpose)) → ((w : Waiting Purpose) → w.waited + 1 < t3 → h w ≡ None) → AllByRecursion (λ (w : Waiting Purpose). w.waited + 1 < t3) ws → filter_map h ws ≡ []
+none_given : {Y : Type 0} (h : Waiting Purpose → Option Y) (t3 : ℕ) (ws : List (Waiting Purpose)) → ((w : Waiting Purpose) → w.waited + 1 < t3 → h w ≡ None)
+    → AllByRecursion (λ (w : Waiting Purpose). w.waited + 1 < t3) ws → filter_map h ws ≡ []
 none_given h t3 [] none idle = refl
 none_given h t3 (w ∷ ws) none idle = ap (λ (o : Option _). cons_option o (filter_map h ws)) (none w idle.0) ∙ none_given h t3 ws none idle.1
 
-pub none_resent : {X : Type 0} (f : X → reliable.Message) (xs : List X) (t3 n3 : ℕ) (ws : List (Waiting Purpose)) → All (λ (w : Waiting Purpose). w.waited + 1 < t3) ws → map f xs ≡ filter_map (sent_again t3 n3) ws → xs ≡ []
-none_resent f xs t3 n3 ws idle same = no_items f xs (same ∙ none_given (sent_again t3 n3) t3 ws (λ w idle. ap (λ (t : NextTick). sent_again_by t w) (waits t3 n3 w idle)) (recursion_from_All (λ (w : Waiting Purpose). w.waited + 1 < t3) ws idle))
+pub none_resent : {X : Type 0} (f : X → reliable.Message) (xs : List X) (t3 n3 : ℕ) (ws : List (Waiting Purpose))
+    → All (λ (w : Waiting Purpose). w.waited + 1 < t3) ws → map f xs ≡ filter_map (sent_again t3 n3) ws → xs ≡ []
+none_resent f xs t3 n3 ws idle same =
+    no_items f xs (same ∙ none_given (sent_again t3 n3) t3 ws (λ w idle. ap (λ (t : NextTick). sent_again_by t w) (waits t3 n3 w idle))
+    (recursion_from_All (λ (w : Waiting Purpose). w.waited + 1 < t3) ws idle))
 
 pub none_given_up : (t3 n3 : ℕ) (ws : List (Waiting Purpose)) → All (λ (w : Waiting Purpose). w.waited + 1 < t3) ws → filter_map (given_up t3 n3) ws ≡ []
-none_given_up t3 n3 ws idle = none_given (given_up t3 n3) t3 ws (λ w idle. ap (λ (t : NextTick). given_up_by t w) (waits t3 n3 w idle)) (recursion_from_All (λ (w : Waiting Purpose). w.waited + 1 < t3) ws idle)
+none_given_up t3 n3 ws idle =
+    none_given (given_up t3 n3) t3 ws (λ w idle. ap (λ (t : NextTick). given_up_by t w) (waits t3 n3 w idle))
+    (recursion_from_All (λ (w : Waiting Purpose). w.waited + 1 < t3) ws idle)
 
 -- what a tick leaves is sound: it was a tick of the machine, or changed nothing
 pub tick_sound : {E : Type 0} (r : Result Ticked E) (old new : GatewayState) → IfOk r (λ ticked. IsTicked old ticked new) → OnErr r (new ≡ old) → IsSoundState old → IsSoundState new

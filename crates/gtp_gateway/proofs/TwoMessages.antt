@@ -1,5 +1,6 @@
 -- Two messages in one datagram, where they lie, and what the datagram reads as.
-use Rattle.std.proofs.Common.{◌≡◌, inl, inr, ℕ, suc, ◌+◌, ◌*◌, ◌/◌, ◌%◌, ◌<◌, Bool, true, false, List, [], ◌∷◌, ◌++◌, map, length, take, drop, Option, Some, None, refl, sym, ◌∙◌, ap, subst, append-nil, arith}
+use Rattle.std.proofs.Common.{◌≡◌, inl, inr, ℕ, suc, ◌+◌, ◌*◌, ◌/◌, ◌%◌, ◌<◌, Bool, true, false, List, [], ◌∷◌, ◌++◌, map, length, take, drop, Option}
+use Rattle.std.proofs.Common.{Some, None, refl, sym, ◌∙◌, ap, subst, append-nil, arith}
 use Rattle.std.specs.Prelude.{◌==◌, ◌-◌, is_some}
 use Rattle.std.specs.List.{AllByRecursion}
 use Rattle.std.proofs.lemmas.Bool.Decides.{nat_tests}
@@ -99,7 +100,11 @@ fault_reads octets f fails = sym ((datagram_by_grammar octets (Alone (datagram_f
 
 pub two_read : (octets : List ℕ) (first second : Viewed) (back : List ℕ) → LieIn octets first (Some second) back → datagram_reading octets ≡ Both (message_of first.message) (message_of second.message)
 two_read octets first second back (front, announced, in_front, in_back) =
-    sym ((datagram_by_grammar octets (Both (message_of first.message) (message_of second.message))).1 (inl (both first.message second.message, inr (front, back, announced, (first.message, in_front.spelled, (second.message, in_back.spelled, refl))), refl)))
+    sym ((datagram_by_grammar octets (Both (message_of first.message) (message_of second.message))).1 (inl (
+      both first.message second.message,
+      inr (front, back, announced, (first.message, in_front.spelled, (second.message, in_back.spelled, refl))),
+      refl,
+    )))
 
 -- octets that spell one message are taken for it, and those at fault for the fault
 pub reads_message : (octets : List ℕ) (m : MessageValue) → IsMessage octets m → Control_message (message_of m) ≡ taken_as (datagram_reading octets)
@@ -120,7 +125,8 @@ same_both : (a b c d : Message) → Both a b ≡ Both c d → (a ≡ c) × (b �
 same_both a b c d is = (cc is, cc is)
 
 -- the messages of a pair that is taken are those that were viewed
-pub pair_viewed : (arrival : Arrival) (old : GatewayState) (first second : Viewed) (back : List ℕ) → LieIn arrival.octets first (Some second) back → (pair : TakesPair old.role old.node.config arrival (datagram_reading arrival.octets)) → ArePair first second pair.answer pair.asked
+pub pair_viewed : (arrival : Arrival) (old : GatewayState) (first second : Viewed) (back : List ℕ) → LieIn arrival.octets first (Some second) back
+    → (pair : TakesPair old.role old.node.config arrival (datagram_reading arrival.octets)) → ArePair first second pair.answer pair.asked
 pair_viewed arrival old first second back lie pair =
     let same = same_both _ _ _ _ (sym (two_read arrival.octets first second back lie) ∙ pair.is) in
     record { answer = same.0; asked = same.1 }
@@ -141,7 +147,8 @@ announcing_new arrival ps node is each told held among same =
     none_held ps arrival.source arrival.octets (λ here. let both : true ≡ false = sym told ∙ held_alone arrival.source arrival.octets ps each here in cc) held (subst (Among held) is among) same
 
 -- so a datagram for which an answer is held is no pair
-pub kept_no_pair : (arrival : Arrival) (old : GatewayState) (ps : List HeldPair) → old.node.held ≡ map held_of ps → AreAnswered ps → (held : Held) → Among held old.node.held → held.request ≡ arrival → IsNoPair arrival old
+pub kept_no_pair : (arrival : Arrival) (old : GatewayState) (ps : List HeldPair) → old.node.held ≡ map held_of ps → AreAnswered ps → (held : Held)
+    → Among held old.node.held → held.request ≡ arrival → IsNoPair arrival old
 kept_no_pair arrival old ps is each held stands same = by (announces arrival.octets) refl
   where
     by : (b : Bool) → announces arrival.octets ≡ b → IsNoPair arrival old
@@ -150,7 +157,8 @@ kept_no_pair arrival old ps is each held stands same = by (announces arrival.oct
 
 -- ---- the place of the second
 
-pub second_there : (octets : List ℕ) (first : Viewed) (second : Option Viewed) (back : List ℕ) (place : ℕ) → LieIn octets first second back → is_some second ≡ true → place ≡ length octets - length back → IsSecondAt octets place
+pub second_there : (octets : List ℕ) (first : Viewed) (second : Option Viewed) (back : List ℕ) (place : ℕ) → LieIn octets first second back → is_some second ≡ true
+    → place ≡ length octets - length back → IsSecondAt octets place
 second_there octets first None back place lie some is = absurd cc
 second_there octets first (Some second) back place (front, announced, in_front, in_back) some is =
     let parts = parts_of octets front back announced in
@@ -181,6 +189,8 @@ no_second octets place none at = let told : true ≡ false = sym (parts_of octet
 -- nor have those at fault
 pub no_second_fault : (octets : List ℕ) (f : V2Fault) (place : ℕ) → IsDatagramFault octets f → IsSecondAt octets place → ⊥
 no_second_fault octets f place fails at =
-    let read = sym ((datagram_by_grammar octets (Both (message_of at.first) (message_of at.second))).1 (inl (both at.first at.second, inr (at.front, at.back, at.announced, (at.first, at.spells_first, (at.second, at.spells_second, refl))), refl))) in
+    let read =
+    sym ((datagram_by_grammar octets (Both (message_of at.first) (message_of at.second))).1
+    (inl (both at.first at.second, inr (at.front, at.back, at.announced, (at.first, at.spells_first, (at.second, at.spells_second, refl))), refl))) in
     let same : Both (message_of at.first) (message_of at.second) ≡ Alone (datagram_fault (announces octets) f) = sym read ∙ fault_reads octets f fails in
     cc

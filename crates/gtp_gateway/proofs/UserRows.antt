@@ -57,7 +57,9 @@ all_wait old new same pending =
 
 module _ (Takes : Node → Effect → Type 0) (old : GatewayState) where
   -- nothing is told but an outcome, and no packet is accepted
-  pub plain : (outcome : Outcome) (node : Node) (new : GatewayState) → (outcome ≡ Accepted → ⊥) → Takes old.node (record { out = nothing; outcome = Came_to outcome; node = node }) → new.node ≡ node → new.role ≡ old.role → (outcome ≢ Broken → new.queues ≡ old.queues) → RequestsWaitOn old new → IsTakenBy Takes old (plain_step outcome) new
+  pub plain : (outcome : Outcome) (node : Node) (new : GatewayState) → (outcome ≡ Accepted → ⊥)
+      → Takes old.node (record { out = nothing; outcome = Came_to outcome; node = node }) → new.node ≡ node → new.role ≡ old.role
+      → (outcome ≢ Broken → new.queues ≡ old.queues) → RequestsWaitOn old new → IsTakenBy Takes old (plain_step outcome) new
   plain outcome node new other takes becomes role same waits =
       record {
         effect = record { out = nothing; outcome = Came_to outcome; node = node };
@@ -77,7 +79,8 @@ module _ (Takes : Node → Effect → Type 0) (old : GatewayState) where
   drops pending why takes = plain (Dropped why) old.node old (not_accepted why) takes refl refl (λ _. refl) (all_wait old old refl pending)
 
   -- the reply is sent, and nothing changes
-  pub replies : (reply : Reply) (step : Step) (new : GatewayState) → IsPendingIn new → Takes old.node (replied reply old.node) → new ≡ old → IsReplyBy reply new.node.config step → IsTakenBy Takes old step new
+  pub replies : (reply : Reply) (step : Step) (new : GatewayState) → IsPendingIn new → Takes old.node (replied reply old.node) → new ≡ old
+      → IsReplyBy reply new.node.config step → IsTakenBy Takes old step new
   replies reply step new pending takes same sends =
       record {
         effect = replied reply old.node;
@@ -105,10 +108,21 @@ module _ (Takes : Node → Effect → Type 0) (old : GatewayState) where
       none_some (Some p) is some = cc
 
 -- what takes a datagram by one relation takes it by a wider one
-taken_wider : (Takes Wider : Node → Effect → Type 0) (old new : GatewayState) (step : Step) → ((e : Effect) → Takes old.node e → Wider old.node e) → IsTakenBy Takes old step new → IsTakenBy Wider old step new
-taken_wider Takes Wider old new step wider taken = record { effect = taken.effect; takes = wider taken.effect taken.takes; tells = taken.tells; becomes = taken.becomes; role = taken.role; same = taken.same; waits = taken.waits }
+taken_wider : (Takes Wider : Node → Effect → Type 0) (old new : GatewayState) (step : Step) → ((e : Effect) → Takes old.node e → Wider old.node e)
+    → IsTakenBy Takes old step new → IsTakenBy Wider old step new
+taken_wider Takes Wider old new step wider taken =
+    record {
+      effect = taken.effect;
+      takes = wider taken.effect taken.takes;
+      tells = taken.tells;
+      becomes = taken.becomes;
+      role = taken.role;
+      same = taken.same;
+      waits = taken.waits;
+    }
 
-pub judged_wider : (Takes Wider : Node → Effect → Type 0) (old new : GatewayState) (j : Judged) → ((e : Effect) → Takes old.node e → Wider old.node e) → IsJudgedBy Takes old j new → IsJudgedBy Wider old j new
+pub judged_wider : (Takes Wider : Node → Effect → Type 0) (old new : GatewayState) (j : Judged) → ((e : Effect) → Takes old.node e → Wider old.node e)
+    → IsJudgedBy Takes old j new → IsJudgedBy Wider old j new
 judged_wider Takes Wider old new (judged.Accepted packet) wider taken = taken_wider Takes Wider old new (accepted_step packet) wider taken
 judged_wider Takes Wider old new (judged.Came outcome) wider taken = taken_wider Takes Wider old new (plain_step outcome) wider taken
 judged_wider Takes Wider old new (judged.Replies reply) wider (takes, same) = (wider (replied reply old.node) takes, same)

@@ -138,7 +138,11 @@ qos_again q small m g =
     record {
       long_enough = omega arith;
       says =
-          ap OfQos (ap (λ (c : Bool). qos_with q.qci c q.pl q.pvi q.mbr q.gbr) (sym f.pci) ∙ (ap (λ (n : ℕ). qos_with q.qci (is_set 7 flags) n q.pvi q.mbr q.gbr) (sym f.level) ∙ (ap (λ (v : Bool). qos_with q.qci (is_set 7 flags) (bits 6 3 flags) v q.mbr q.gbr) (sym f.pvi)
+          ap OfQos (ap (λ (c : Bool). qos_with q.qci c q.pl q.pvi q.mbr q.gbr) (sym f.pci) ∙
+          (ap (λ (n : ℕ). qos_with q.qci (is_set 7 flags) n q.pvi q.mbr q.gbr) (sym f.level) ∙
+          (ap (λ (v : Bool). qos_with q.qci (is_set 7 flags) (bits 6 3 flags) v q.mbr q.gbr) (sym f.pvi)
           ∙ (ap (λ (r : Rates). qos_with q.qci (is_set 7 flags) (bits 6 3 flags) (is_set 1 flags) r q.gbr) (rates_again q.mbr (rates_encoding q.gbr) m)
-          ∙ ap (λ (r : Rates). qos_with q.qci (is_set 7 flags) (bits 6 3 flags) (is_set 1 flags) (rates_with (big_number 5 (rates_encoding q.mbr ++ rates_encoding q.gbr)) (big_number 5 (big_bytes 5 q.mbr.down ++ rates_encoding q.gbr))) r) (rates_again q.gbr [] g)))));
+          ∙ ap (λ (r : Rates). qos_with q.qci (is_set 7 flags) (bits 6 3 flags) (is_set 1 flags)
+          (rates_with (big_number 5 (rates_encoding q.mbr ++ rates_encoding q.gbr)) (big_number 5 (big_bytes 5 q.mbr.down ++ rates_encoding q.gbr)))
+          r) (rates_again q.gbr [] g)))));
     }

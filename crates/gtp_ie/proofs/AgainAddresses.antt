@@ -35,7 +35,11 @@ unfolding encoding_of Says
 v4v6_again prefix v6 v4 e f =
     let first : take 16 (v6 ++ v4) ≡ v6 = take_at v6 v4 16 e in
     let second : take 4 (drop 16 (v6 ++ v4)) ≡ v4 = ap (take 4) (drop_at v6 v4 16 e) ∙ take_whole 4 v4 f in
-    record { long_enough = omega (arith, length-append v6 v4); says = ap (λ (xs : List ℕ). OfPaa (paas.V4V6 prefix xs v4)) (sym first) ∙ ap (λ (xs : List ℕ). OfPaa (paas.V4V6 prefix (take 16 (v6 ++ v4)) xs)) (sym second) }
+    record {
+      long_enough = omega (arith, length-append v6 v4);
+      says = ap (λ (xs : List ℕ). OfPaa (paas.V4V6 prefix xs v4)) (sym first)
+          ∙ ap (λ (xs : List ℕ). OfPaa (paas.V4V6 prefix (take 16 (v6 ++ v4)) xs)) (sym second);
+    }
 
 pub other_again : (pdn : ℕ) → IsOtherPdnType pdn → Spells (number_of forms.Paa) (encoding_of (OfPaa (paas.Other pdn))) (OfPaa (paas.Other pdn))
 unfolding encoding_of Says
@@ -48,7 +52,8 @@ other_again pdn is =
 
 -- ---- tunnel ends
 
-end_parts : (interface teid : ℕ) (v4 v6 : Option (List ℕ)) → IsTunnelEnd (end_with interface teid v4 v6) → Spells (number_of forms.FTeid) (encoding_of (OfFTeid (end_with interface teid v4 v6))) (OfFTeid (end_with interface teid v4 v6))
+end_parts : (interface teid : ℕ) (v4 v6 : Option (List ℕ)) → IsTunnelEnd (end_with interface teid v4 v6)
+    → Spells (number_of forms.FTeid) (encoding_of (OfFTeid (end_with interface teid v4 v6))) (OfFTeid (end_with interface teid v4 v6))
 unfolding encoding_of Says
 end_parts interface teid (Some v4) (Some v6) is =
     let a : length v4 ≡ 4 = is.v4 in
@@ -93,26 +98,46 @@ low_half a b small = omega arith
 high_half : (a b : ℕ) → a < 16 → b < 16 → ((16 * b + a) / 16) % 16 ≡ b
 high_half a b p q = omega arith
 
-plmn_two : (a b c d e : ℕ) → a < 10 → b < 10 → c < 10 → d < 10 → e < 10 → IsNetwork (network_with (a ∷ b ∷ c ∷ []) (d ∷ e ∷ [])) → Spells (number_of forms.Plmn) (network_encoding (network_with (a ∷ b ∷ c ∷ []) (d ∷ e ∷ []))) (OfPlmn (network_with (a ∷ b ∷ c ∷ []) (d ∷ e ∷ [])))
+plmn_two : (a b c d e : ℕ) → a < 10 → b < 10 → c < 10 → d < 10 → e < 10 → IsNetwork (network_with (a ∷ b ∷ c ∷ []) (d ∷ e ∷ []))
+    → Spells (number_of forms.Plmn) (network_encoding (network_with (a ∷ b ∷ c ∷ []) (d ∷ e ∷ [])))
+    (OfPlmn (network_with (a ∷ b ∷ c ∷ []) (d ∷ e ∷ [])))
 unfolding Says
 plmn_two a b c d e p q r s t is =
     let same : network_in (network_encoding (network_with (a ∷ b ∷ c ∷ []) (d ∷ e ∷ []))) ≡ network_with (a ∷ b ∷ c ∷ []) (d ∷ e ∷ []) =
-    rw (low_half a b (omega arith), high_half a b (omega arith) (omega arith), low_half c 15 (omega arith), high_half c 15 (omega arith) (omega arith), low_half d e (omega arith), high_half d e (omega arith) (omega arith)) refl in
+    rw (
+      low_half a b (omega arith),
+      high_half a b (omega arith) (omega arith),
+      low_half c 15 (omega arith),
+      high_half c 15 (omega arith) (omega arith),
+      low_half d e (omega arith),
+      high_half d e (omega arith) (omega arith),
+    ) refl in
     record { long_enough = omega arith; says = (subst IsNetwork (sym same) is, ap OfPlmn (sym same)) }
 
-plmn_three : (a b c d e f : ℕ) → a < 10 → b < 10 → c < 10 → d < 10 → e < 10 → f < 10 → IsNetwork (network_with (a ∷ b ∷ c ∷ []) (d ∷ e ∷ f ∷ [])) → Spells (number_of forms.Plmn) (network_encoding (network_with (a ∷ b ∷ c ∷ []) (d ∷ e ∷ f ∷ []))) (OfPlmn (network_with (a ∷ b ∷ c ∷ []) (d ∷ e ∷ f ∷ [])))
+plmn_three : (a b c d e f : ℕ) → a < 10 → b < 10 → c < 10 → d < 10 → e < 10 → f < 10 → IsNetwork (network_with (a ∷ b ∷ c ∷ []) (d ∷ e ∷ f ∷ []))
+    → Spells (number_of forms.Plmn) (network_encoding (network_with (a ∷ b ∷ c ∷ []) (d ∷ e ∷ f ∷ [])))
+    (OfPlmn (network_with (a ∷ b ∷ c ∷ []) (d ∷ e ∷ f ∷ [])))
 unfolding Says
 plmn_three a b c d e f p q r s t u is =
     let third : (f == 15) ≡ false = grind (arith, nat_tests) in
     let same : network_in (network_encoding (network_with (a ∷ b ∷ c ∷ []) (d ∷ e ∷ f ∷ []))) ≡ network_with (a ∷ b ∷ c ∷ []) (d ∷ e ∷ f ∷ []) =
-    rw (low_half a b (omega arith), high_half a b (omega arith) (omega arith), low_half c f (omega arith), high_half c f (omega arith) (omega arith), third, low_half d e (omega arith), high_half d e (omega arith) (omega arith)) refl in
+    rw (
+      low_half a b (omega arith),
+      high_half a b (omega arith) (omega arith),
+      low_half c f (omega arith),
+      high_half c f (omega arith) (omega arith),
+      third,
+      low_half d e (omega arith),
+      high_half d e (omega arith) (omega arith),
+    ) refl in
     record { long_enough = omega arith; says = (subst IsNetwork (sym same) is, ap OfPlmn (sym same)) }
 
 abbrev IsDigit : ℕ → Type 0
 IsDigit digit = digit < 10
 
 -- the two digits of a list, and the three
-by_mnc : (a b c : ℕ) (mnc : List ℕ) → a < 10 → b < 10 → c < 10 → IsNetwork (network_with (a ∷ b ∷ c ∷ []) mnc) → Spells (number_of forms.Plmn) (network_encoding (network_with (a ∷ b ∷ c ∷ []) mnc)) (OfPlmn (network_with (a ∷ b ∷ c ∷ []) mnc))
+by_mnc : (a b c : ℕ) (mnc : List ℕ) → a < 10 → b < 10 → c < 10 → IsNetwork (network_with (a ∷ b ∷ c ∷ []) mnc)
+    → Spells (number_of forms.Plmn) (network_encoding (network_with (a ∷ b ∷ c ∷ []) mnc)) (OfPlmn (network_with (a ∷ b ∷ c ∷ []) mnc))
 by_mnc a b c [] p q r is = absurd (omega (arith, is.least))
 by_mnc a b c (d ∷ []) p q r is = absurd (omega (arith, is.least))
 by_mnc a b c (d ∷ e ∷ []) p q r is =

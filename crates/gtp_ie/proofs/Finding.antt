@@ -13,7 +13,8 @@ use Rattle.gtp_ie.proofs.Walked.{elements_decided}
 abbrev answered : List Element → Result Elements IeFault
 answered es = Ok es
 
-by_walk : (base : ℕ) (octets : List ℕ) (result : Result Elements IeFault) (walked : Result (List Element) ℕ) → IsWalked result walked → Decides walked (AreElements base octets) (IsCut base octets) → FindsElements base octets result
+by_walk : (base : ℕ) (octets : List ℕ) (result : Result Elements IeFault) (walked : Result (List Element) ℕ) → IsWalked result walked
+    → Decides walked (AreElements base octets) (IsCut base octets) → FindsElements base octets result
 by_walk base octets (Ok es) walked h d =
     record {
       found = d.ok es h;

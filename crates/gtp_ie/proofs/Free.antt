@@ -9,7 +9,11 @@ same_as_itself kind body = record { same = refl }
 
 -- octets after the form
 pub more_free : (kind : ℕ) (body more : List ℕ) → form_length kind body ≤ length body → form_length kind (body ++ more) ≡ form_length kind body → SaysTheSame kind body (body ++ more)
-more_free kind body more there e = record { same = sym (ap (λ (n : ℕ). counted_from kind 5 (take n (body ++ more))) e ∙ ap (counted_from kind 5) (take-append-le (form_length kind body) body more there)) }
+more_free kind body more there e =
+    record {
+      same = sym (ap (λ (n : ℕ). counted_from kind 5 (take n (body ++ more))) e
+          ∙ ap (counted_from kind 5) (take-append-le (form_length kind body) body more there));
+    }
 
 -- ---- octets that count whole
 

@@ -17,7 +17,8 @@ use Rattle.gtp_values.proofs.Same.{end_with, cause_with, offending_with, ambr_wi
 use Rattle.gtp_ie.proofs.Again.{same_cause}
 use Rattle.gtp_ie.specs.Layout.{octet, bits, is_set}
 use Rattle.gtp_ie.specs.Free.{SaysTheSame, SpellsFreely, counted_by, counted_from, spare_lines}
-use Rattle.gtp_ie.specs.Value.{Value, OfRecovery, OfEbi, OfRat, OfChargingId, OfPdnType, OfPti, OfSelection, OfAmbr, OfPlmn, OfFTeid, OfCause, OfPaa, OfQos, least, least_paa, pdn_type_in, qos_in, room, network_in, fteid_in, has_v4, has_v6, encoding_of}
+use Rattle.gtp_ie.specs.Value.{Value, OfRecovery, OfEbi, OfRat, OfChargingId, OfPdnType, OfPti, OfSelection, OfAmbr, OfPlmn, OfFTeid, OfCause, OfPaa}
+use Rattle.gtp_ie.specs.Value.{OfQos, least, least_paa, pdn_type_in, qos_in, room, network_in, fteid_in, has_v4, has_v6, encoding_of}
 use Rattle.gtp_ie.specs.declared.form.Form.{Form}
 use Rattle.gtp_ie.specs.declared.form.Form.TheVariants as forms
 use Rattle.gtp_ie.specs.Form.{number_of, form_among, form_of}
@@ -149,7 +150,8 @@ qos_whole m octet far = let other : (5 == m) ≡ false = grind (arith, nat_tests
 abbrev qos_with : Bool → ℕ → Bool → ℕ → ℕ → ℕ → ℕ → ℕ → Qos
 qos_with c pl v qci a b d e = record { pci = c; pl = pl; pvi = v; qci = qci; mbr = record { up = a; down = b }; gbr = record { up = d; down = e } }
 
-same_qos : {c c' v v' : Bool} {pl pl' qci qci' a a' b b' d d' e e' : ℕ} → c ≡ c' → pl ≡ pl' → v ≡ v' → qci ≡ qci' → a ≡ a' → b ≡ b' → d ≡ d' → e ≡ e' → qos_with c pl v qci a b d e ≡ qos_with c' pl' v' qci' a' b' d' e'
+same_qos : {c c' v v' : Bool} {pl pl' qci qci' a a' b b' d d' e e' : ℕ} → c ≡ c' → pl ≡ pl' → v ≡ v' → qci ≡ qci' → a ≡ a' → b ≡ b' → d ≡ d' → e ≡ e'
+    → qos_with c pl v qci a b d e ≡ qos_with c' pl' v' qci' a' b' d' e'
 same_qos p q r s t u w z = cc
 
 qos_parts : (x y : ℕ) (xs ys : List ℕ) → counted_by spare_lines 80 5 x ≡ counted_by spare_lines 80 5 y → take 21 xs ≡ take 21 ys → qos_in (x ∷ xs) ≡ qos_in (y ∷ ys)
@@ -210,7 +212,12 @@ paa_of pdn xs = paa_with (pdn == 1) (pdn == 2) (pdn == 3) pdn xs
 pub paa_free : IsFree 79
 unfolding Says
 paa_free [] other v s spells = absurd (omega (arith, spells.long_enough))
-paa_free (x ∷ xs) [] v s spells = absurd (omega (arith, (heads 79 (least_paa (bits 3 1 x)) (least_paa (pdn_type_in [])) (x ∷ xs) [] (some_paa (bits 3 1 x)) (some_paa (pdn_type_in [])) (omega arith) s.same).some))
+paa_free (x ∷ xs) [] v s spells =
+    absurd (omega (
+      arith,
+      (heads 79 (least_paa (bits 3 1 x)) (least_paa (pdn_type_in [])) (x ∷ xs) [] (some_paa (bits 3 1 x)) (some_paa (pdn_type_in [])) (omega arith)
+          s.same).some,
+    ))
 paa_free (x ∷ xs) (y ∷ ys) v s spells =
     let p : ℕ = bits 3 1 x in
     let q : ℕ = bits 3 1 y in
@@ -263,7 +270,8 @@ end_of a b body = end_with (bits 6 1 (get_or body 0 0)) (big_number 4 (drop 1 bo
 
 end_same : (a b : Bool) (body other : List ℕ) → take (end_room a b) body ≡ take (end_room a b) other → end_of a b body ≡ end_of a b other
 end_same a b body other e =
-    same_end (ap (λ (n : ℕ). bits 6 1 n) (get_same (end_room a b) 0 body other (omega arith) e)) (number_same 1 4 (end_room a b) body other (omega arith) e) (v4_same a b body other e) (v6_same a b body other e)
+    same_end (ap (λ (n : ℕ). bits 6 1 n) (get_same (end_room a b) 0 body other (omega arith) e))
+    (number_same 1 4 (end_room a b) body other (omega arith) e) (v4_same a b body other e) (v6_same a b body other e)
 
 end_as : (a b c d : Bool) (other : List ℕ) → a ≡ c → b ≡ d → end_of a b other ≡ end_of c d other
 end_as a b c d other p q = ap (λ (z : Bool). end_of z b other) p ∙ ap (λ (z : Bool). end_of c z other) q
@@ -277,8 +285,10 @@ fteid_free body other v s spells =
     let first : get_or body 0 0 ≡ get_or other 0 0 = cc in
     let v4 : has_v4 body ≡ has_v4 other = ap (λ (n : ℕ). is_set 8 n) first in
     let v6 : has_v6 body ≡ has_v6 other = ap (λ (n : ℕ). is_set 7 n) first in
-    let prefixes : take (end_room (has_v4 body) (has_v6 body)) body ≡ take (end_room (has_v4 other) (has_v6 other)) other = front_same 87 (end_room (has_v4 body) (has_v6 body)) (end_room (has_v4 other) (has_v6 other)) (λ m o h. refl) body other s.same in
-    let same : take (end_room (has_v4 body) (has_v6 body)) body ≡ take (end_room (has_v4 body) (has_v6 body)) other = one_room (has_v4 body) (has_v6 body) (has_v4 other) (has_v6 other) body other v4 v6 prefixes in
+    let prefixes : take (end_room (has_v4 body) (has_v6 body)) body ≡ take (end_room (has_v4 other) (has_v6 other)) other =
+    front_same 87 (end_room (has_v4 body) (has_v6 body)) (end_room (has_v4 other) (has_v6 other)) (λ m o h. refl) body other s.same in
+    let same : take (end_room (has_v4 body) (has_v6 body)) body ≡ take (end_room (has_v4 body) (has_v6 body)) other =
+    one_room (has_v4 body) (has_v6 body) (has_v4 other) (has_v6 other) body other v4 v6 prefixes in
     let some : IsTrue (has_v4 other || has_v6 other) = subst (λ (n : ℕ). IsTrue (is_set 8 n || is_set 7 n)) first spells.says.0 in
     let long : end_room (has_v4 body) (has_v6 body) ≤ length other = long_same (end_room (has_v4 body) (has_v6 body)) body other enough same in
     let ends : fteid_in body ≡ fteid_in other = end_same (has_v4 body) (has_v6 body) body other same ∙ end_as (has_v4 body) (has_v6 body) (has_v4 other) (has_v6 other) other v4 v6 in
@@ -328,7 +338,10 @@ offending_by short body = cond short None (Some (offending_with (get_or body 2 0
 abbrev cause_by : Bool → List ℕ → Cause
 cause_by short body = cause_with (get_or body 0 0) (is_set 3 (get_or body 1 0)) (is_set 2 (get_or body 1 0)) (is_set 1 (get_or body 1 0)) (offending_by short body)
 
-two_same : (n : ℕ) (o u : Option Offending) (body other : List ℕ) → 2 ≤ n → 2 ≤ length body → counted_from 2 5 (take n body) ≡ counted_from 2 5 (take n other) → o ≡ u → (2 ≤ length other) × (cause_with (get_or body 0 0) (is_set 3 (get_or body 1 0)) (is_set 2 (get_or body 1 0)) (is_set 1 (get_or body 1 0)) o ≡ cause_with (get_or other 0 0) (is_set 3 (get_or other 1 0)) (is_set 2 (get_or other 1 0)) (is_set 1 (get_or other 1 0)) u)
+two_same : (n : ℕ) (o u : Option Offending) (body other : List ℕ) → 2 ≤ n → 2 ≤ length body
+    → counted_from 2 5 (take n body) ≡ counted_from 2 5 (take n other) → o ≡ u
+    → (2 ≤ length other) × (cause_with (get_or body 0 0) (is_set 3 (get_or body 1 0)) (is_set 2 (get_or body 1 0)) (is_set 1 (get_or body 1 0)) o
+    ≡ cause_with (get_or other 0 0) (is_set 3 (get_or other 1 0)) (is_set 2 (get_or other 1 0)) (is_set 1 (get_or other 1 0)) u)
 two_same n o u body other least long e f =
     let value = at 2 0 5 n n body other (omega arith) (omega arith) (omega arith) e in
     let flags = at 2 1 5 n n body other (omega arith) (omega arith) (omega arith) e in
@@ -351,7 +364,9 @@ offending_same body other long e =
     let second : bits 4 1 (get_or body 5 0) ≡ bits 4 1 (get_or other 5 0) = cc instance_octet in
     ap (λ (o : Offending). Some o) (same_offending first second)
 
-cause_parts : (a b : Bool) (body other : List ℕ) (v : Value) → nat_lt (length body) 6 ≡ a → nat_lt (length other) 6 ≡ b → 2 ≤ length body → counted_from 2 5 (take (cause_room a) body) ≡ counted_from 2 5 (take (cause_room b) other) → v ≡ OfCause (cause_by a body) → (2 ≤ length other) × (v ≡ OfCause (cause_by b other))
+cause_parts : (a b : Bool) (body other : List ℕ) (v : Value) → nat_lt (length body) 6 ≡ a → nat_lt (length other) 6 ≡ b → 2 ≤ length body
+    → counted_from 2 5 (take (cause_room a) body) ≡ counted_from 2 5 (take (cause_room b) other) → v ≡ OfCause (cause_by a body)
+    → (2 ≤ length other) × (v ≡ OfCause (cause_by b other))
 cause_parts true true body other v s t long e says = let both = two_same 2 None None body other (omega arith) long e refl in (both.0, says ∙ ap OfCause both.1)
 cause_parts false false body other v s t long e says =
     let whole = ltb-false _ _ s in

@@ -1,5 +1,6 @@
 -- An index of elements finds what a walk finds.
-use Rattle.std.proofs.Common.{rules, ◌≡◌, ℕ, zero, suc, ◌+◌, ◌-◌, ◌<◌, ◌≤◌, Bool, true, false, cond, ◌&&◌, List, [], ◌∷◌, ◌++◌, length, drop, get_or, set, ◌^◌, Some, Result, Ok, Err, refl, sym, ap, subst, ◌∙◌, arith, append_assoc, eq-eqb}
+use Rattle.std.proofs.Common.{rules, ◌≡◌, ℕ, zero, suc, ◌+◌, ◌-◌, ◌<◌, ◌≤◌, Bool, true, false, cond, ◌&&◌, List, [], ◌∷◌, ◌++◌, length, drop, get_or}
+use Rattle.std.proofs.Common.{set, ◌^◌, Some, Result, Ok, Err, refl, sym, ap, subst, ◌∙◌, arith, append_assoc, eq-eqb}
 use Rattle.std.specs.Prelude.{◌==◌}
 use Rattle.std.proofs.lemmas.List.{drop_at, length-drop, length-append, get_or-set_same, get_or-set_other, length-set}
 use Rattle.std.proofs.lemmas.Bool.{eqb-true, eqb-false}
@@ -77,7 +78,8 @@ pub record Indexes (base : ℕ) (octets lefts rest : List ℕ) (at : ℕ) : Type
   pub slots : (s : ℕ) → s < 22 → SlotIs base octets (elements_of at rest) s (get_or lefts s 0)
 
 -- the octets left are those ahead
-ahead_left : (base at : ℕ) (octets rest : List ℕ) → at + length rest ≡ base + length octets → ((front : List ℕ) × (front ++ rest ≡ octets)) → elements_left base octets (length rest) ≡ elements_of at rest
+ahead_left : (base at : ℕ) (octets rest : List ℕ) → at + length rest ≡ base + length octets → ((front : List ℕ) × (front ++ rest ≡ octets))
+    → elements_left base octets (length rest) ≡ elements_of at rest
 ahead_left base at octets rest place passed =
     let long = ap length (sym passed.1) ∙ length-append passed.0 rest in
     let behind : length octets - length rest ≡ length passed.0 = omega (arith, long) in
@@ -102,7 +104,8 @@ more_from s e (Err at) = by_slot (slot e.kind e.instance == s) where
   by_slot false = refl
 
 -- an element of another slot changes nothing
-slot_passed : (base : ℕ) (octets : List ℕ) (e : Element) (r : Result (List Element) ℕ) (s left : ℕ) → (slot e.kind e.instance == s) ≡ false → SlotIs base octets (and_then_more e r) s left → SlotIs base octets r s left
+slot_passed : (base : ℕ) (octets : List ℕ) (e : Element) (r : Result (List Element) ℕ) (s left : ℕ) → (slot e.kind e.instance == s) ≡ false
+    → SlotIs base octets (and_then_more e r) s left → SlotIs base octets r s left
 slot_passed base octets e r s zero other so_far = sym (more_from s e r ∙ ap (λ b. cond b (and_then_more e r) (walk_from_slot s r)) other) ∙ so_far
 slot_passed base octets e r s (suc left) other so_far = so_far
 
@@ -112,7 +115,8 @@ slot_known base octets ahead r s zero some so_far = absurd (omega arith)
 slot_known base octets ahead r s (suc left) some so_far = so_far
 
 -- the first element of a slot
-slot_found : (base : ℕ) (octets : List ℕ) (e : Element) (r after : Result (List Element) ℕ) (s left : ℕ) → (slot e.kind e.instance == s) ≡ true → 0 < left → elements_left base octets left ≡ and_then_more e r → SlotIs base octets (and_then_more e r) s 0 → SlotIs base octets after s left
+slot_found : (base : ℕ) (octets : List ℕ) (e : Element) (r after : Result (List Element) ℕ) (s left : ℕ) → (slot e.kind e.instance == s) ≡ true → 0 < left
+    → elements_left base octets left ≡ and_then_more e r → SlotIs base octets (and_then_more e r) s 0 → SlotIs base octets after s left
 slot_found base octets e r after s zero here some ahead so_far = absurd (omega arith)
 slot_found base octets e r after s (suc left) here some ahead so_far = ahead ∙ sym (more_from s e r ∙ ap (λ b. cond b (and_then_more e r) (walk_from_slot s r)) here) ∙ so_far
 
@@ -154,14 +158,24 @@ pub index_known : (base : ℕ) (octets lefts rest : List ℕ) (at : ℕ) (e : El
 index_known base octets lefts rest at e after found known so_far =
     let next = is_next base octets lefts rest at e after so_far found in
     let ahead = elements_of (at + (4 + length e.body)) after in
-    record { stop = next.stop; place = next.place; passed = next.passed; count = so_far.count; room = so_far.room; slots = λ s few. by_slot s ahead (subst (λ r. SlotIs base octets r s (get_or lefts s 0)) next.on (so_far.slots s few)) (slot e.kind e.instance == s) refl }
+    record {
+      stop = next.stop;
+      place = next.place;
+      passed = next.passed;
+      count = so_far.count;
+      room = so_far.room;
+      slots =
+          λ s few. by_slot s ahead (subst (λ r. SlotIs base octets r s (get_or lefts s 0)) next.on (so_far.slots s few)) (slot e.kind e.instance == s) refl;
+    }
   where
-    by_slot : (s : ℕ) (r : Result (List Element) ℕ) → SlotIs base octets (and_then_more e r) s (get_or lefts s 0) → (b : Bool) → (slot e.kind e.instance == s) ≡ b → SlotIs base octets r s (get_or lefts s 0)
+    by_slot : (s : ℕ) (r : Result (List Element) ℕ) → SlotIs base octets (and_then_more e r) s (get_or lefts s 0) → (b : Bool)
+        → (slot e.kind e.instance == s) ≡ b → SlotIs base octets r s (get_or lefts s 0)
     by_slot s r was false other = slot_passed base octets e r s (get_or lefts s 0) other was
     by_slot s r was true here = slot_known base octets (and_then_more e r) r s (get_or lefts s 0) (subst (λ t. 0 < get_or lefts t 0) (eqb-true (slot e.kind e.instance) s here) known) was
 
 -- its slot was not known, and is noted
-pub index_noted : (base : ℕ) (octets lefts rest : List ℕ) (at : ℕ) (e : Element) (after : List ℕ) → front_of at rest ≡ Some (e, after) → slot e.kind e.instance < 22 → get_or lefts (slot e.kind e.instance) 0 ≡ 0
+pub index_noted : (base : ℕ) (octets lefts rest : List ℕ) (at : ℕ) (e : Element) (after : List ℕ) → front_of at rest ≡ Some (e, after) → slot e.kind e.instance < 22
+    → get_or lefts (slot e.kind e.instance) 0 ≡ 0
     → Indexes base octets lefts rest at → Indexes base octets (set lefts (slot e.kind e.instance) (length rest)) after (at + (4 + length e.body))
 index_noted base octets lefts rest at e after found range none so_far =
     let next = is_next base octets lefts rest at e after so_far found in
@@ -177,7 +191,8 @@ index_noted base octets lefts rest at e after found range none so_far =
   where
     here_is : (s : ℕ) → (slot e.kind e.instance == s) ≡ true → get_or (set lefts (slot e.kind e.instance) (length rest)) s 0 ≡ length rest
     here_is s here =
-        subst (λ t. get_or (set lefts (slot e.kind e.instance) (length rest)) t 0 ≡ length rest) (eqb-true (slot e.kind e.instance) s here) (get_or-set_same lefts (slot e.kind e.instance) (length rest) 0 (omega (arith, so_far.count)))
+        subst (λ t. get_or (set lefts (slot e.kind e.instance) (length rest)) t 0 ≡ length rest) (eqb-true (slot e.kind e.instance) s here)
+        (get_or-set_same lefts (slot e.kind e.instance) (length rest) 0 (omega (arith, so_far.count)))
 
     other_is : (s : ℕ) → (slot e.kind e.instance == s) ≡ false → get_or (set lefts (slot e.kind e.instance) (length rest)) s 0 ≡ get_or lefts s 0
     other_is s other = get_or-set_other lefts (slot e.kind e.instance) s (length rest) 0 (λ same. eqb-false (slot e.kind e.instance) s other (sym same))
@@ -189,7 +204,8 @@ index_noted base octets lefts rest at e after found range none so_far =
     by_slot : (s : ℕ) (r : Result (List Element) ℕ) → 0 < length rest → elements_left base octets (length rest) ≡ and_then_more e r → SlotIs base octets (and_then_more e r) s (get_or lefts s 0)
         → (b : Bool) → (slot e.kind e.instance == s) ≡ b → SlotIs base octets r s (get_or (set lefts (slot e.kind e.instance) (length rest)) s 0)
     by_slot s r some left was true here =
-        subst (SlotIs base octets r s) (sym (here_is s here)) (slot_found base octets e r r s (length rest) here some left (subst (SlotIs base octets (and_then_more e r) s) (subst (λ t. get_or lefts t 0 ≡ 0) (eqb-true (slot e.kind e.instance) s here) none) was))
+        subst (SlotIs base octets r s) (sym (here_is s here)) (slot_found base octets e r r s (length rest) here some left
+        (subst (SlotIs base octets (and_then_more e r) s) (subst (λ t. get_or lefts t 0 ≡ 0) (eqb-true (slot e.kind e.instance) s here) none) was))
     by_slot s r some left was false other = subst (SlotIs base octets r s) (sym (other_is s other)) (slot_passed base octets e r s (get_or lefts s 0) other was)
 
 -- after the last element the index is whole

@@ -30,7 +30,8 @@ apn_checked body ok = by_outcome (value_at (number_of forms.Apn) body) refl ok w
 pub imsi_unread : (body : List ℕ) → 3 ≤ length body → (IsImsi (digits_in body) → ⊥) → value_at (number_of forms.Imsi) body ≡ Err Bad
 unfolding Says
 imsi_unread body long none =
-    (value_decided (number_of forms.Imsi) body).fails Bad (record { long_enough = long; silent = λ v (digits, is, text, e). none (subst IsImsi (sym (ap digits_in text ∙ digits_again digits is.decimal)) is) })
+    (value_decided (number_of forms.Imsi) body).fails Bad (record
+    { long_enough = long; silent = λ v (digits, is, text, e). none (subst IsImsi (sym (ap digits_in text ∙ digits_again digits is.decimal)) is) })
 
 -- at least one digit less than the halves of the octets
 few_packed : (digits : List ℕ) → 2 * length (packed digits) ≤ length digits + 1

@@ -12,12 +12,14 @@ pub reads_value : {X : Type 0} (view : X → Value) (r : Result X ReadFault) (ki
 reads_value view (Ok x) kind body h = (value_decided kind body).ok (view x) h
 reads_value view (Err f) kind body h = tt
 
-pub reads_only : {X : Type 0} (view : X → Value) (r : Result X ReadFault) (kind : ℕ) (body : List ℕ) → Gives view r (value_at kind body) → (v : Value) → Spells kind body v → IsOkAnd r (λ x. view x ≡ v)
+pub reads_only : {X : Type 0} (view : X → Value) (r : Result X ReadFault) (kind : ℕ) (body : List ℕ) → Gives view r (value_at kind body) → (v : Value)
+    → Spells kind body v → IsOkAnd r (λ x. view x ≡ v)
 reads_only view (Ok x) kind body h v s = let e = (value_decided kind body).is v s in cc
 reads_only view (Err f) kind body h v s = let e = (value_decided kind body).is v s in absurd cc
 
 -- where no two have one value
-pub reads_back : {X : Type 0} (view : X → Value) (r : Result X ReadFault) (kind : ℕ) (body : List ℕ) → Gives view r (value_at kind body) → ((x y : X) → view x ≡ view y → x ≡ y) → (x : X) → Spells kind body (view x) → r ≡ Ok x
+pub reads_back : {X : Type 0} (view : X → Value) (r : Result X ReadFault) (kind : ℕ) (body : List ℕ) → Gives view r (value_at kind body)
+    → ((x y : X) → view x ≡ view y → x ≡ y) → (x : X) → Spells kind body (view x) → r ≡ Ok x
 reads_back view (Ok y) kind body h one x s = ap Ok (one y x (reads_only view (Ok y) kind body h (view x) s))
 reads_back view (Err f) kind body h one x s = absurd (reads_only view (Err f) kind body h (view x) s)
 

@@ -19,7 +19,8 @@ use Rattle.gtp_ie.specs.declared.form.Form.TheVariants as forms
 use Rattle.gtp_ie.specs.Form.{form_of}
 use Rattle.gtp_ie.specs.Layout.{octet, bits}
 use Rattle.gtp_ie.specs.Digits.{packed, last_digits, digits_in, are_decimal, are_imsi_digits, are_network_digits}
-use Rattle.gtp_ie.specs.Value.{Value, OfImsi, OfApn, OfPlmn, OfTft, OfFTeid, third_digit, network_in, fteid_in, has_v4, has_v6, least, least_of, least_by, only_if, said, said_of, said_by, or_bad, value_at}
+use Rattle.gtp_ie.specs.Value.{Value, OfImsi, OfApn, OfPlmn, OfTft, OfFTeid, third_digit, network_in, fteid_in, has_v4, has_v6, least, least_of}
+use Rattle.gtp_ie.specs.Value.{least_by, only_if, said, said_of, said_by, or_bad, value_at}
 use Rattle.gtp_ie.specs.Spelling.{SpellsImsi, SpellsApn, SaysOf, SaysBy, Says, Spells}
 use Rattle.gtp_ie.specs.reading.Spelling.{SpellsNone}
 use Rattle.gtp_values.proofs.Decided.{known_ok, known_err}
@@ -183,14 +184,18 @@ pub value_decided : (kind : ℕ) (body : List ℕ) → Decides (value_at kind bo
 unfolding value_at
 value_decided kind body = by_length (nat_lt (length body) (least kind body)) refl where
   by_said : least kind body ≤ length body → (o : Option Value) → Finds o (Says kind body) → Decides (or_bad o) (Spells kind body) (SpellsNone kind body)
-  by_said long (Some v) f = known_ok v (Spells kind body) (SpellsNone kind body) (record { long_enough = long; says = f.some v refl }) (λ w s. sym (same_Some v w (f.is w s.says))) (λ g h. fault g h) where
-    fault : (g : ReadFault) → SpellsNone kind body g → ⊥
-    fault Short h = omega (arith, h)
-    fault Bad h = h.silent v (f.some v refl)
-  by_said long None f = known_err Bad (Spells kind body) (SpellsNone kind body) (record { long_enough = long; silent = λ v s. none_some v (f.is v s) }) (λ w s. none_some w (f.is w s.says)) (λ g h. fault g h) where
-    fault : (g : ReadFault) → SpellsNone kind body g → g ≡ Bad
-    fault Short h = absurd (omega (arith, h))
-    fault Bad h = refl
+  by_said long (Some v) f =
+      known_ok v (Spells kind body) (SpellsNone kind body) (record { long_enough = long; says = f.some v refl })
+      (λ w s. sym (same_Some v w (f.is w s.says))) (λ g h. fault g h) where
+        fault : (g : ReadFault) → SpellsNone kind body g → ⊥
+        fault Short h = omega (arith, h)
+        fault Bad h = h.silent v (f.some v refl)
+  by_said long None f =
+      known_err Bad (Spells kind body) (SpellsNone kind body) (record { long_enough = long; silent = λ v s. none_some v (f.is v s) })
+      (λ w s. none_some w (f.is w s.says)) (λ g h. fault g h) where
+        fault : (g : ReadFault) → SpellsNone kind body g → g ≡ Bad
+        fault Short h = absurd (omega (arith, h))
+        fault Bad h = refl
 
   by_length : (b : Bool) → nat_lt (length body) (least kind body) ≡ b → Decides (cond b (Err Short) (or_bad (said kind body))) (Spells kind body) (SpellsNone kind body)
   by_length true t = known_err Short (Spells kind body) (SpellsNone kind body) (ltb-true _ _ t) (λ w s. let short = ltb-true _ _ t in omega (arith, short, s.long_enough)) (λ g h. fault g h) where

@@ -1,5 +1,6 @@
 -- Where the message at fault begins.
-use Rattle.std.proofs.Common.{◌≡◌, ◌↔◌, ◌+◌, ◌*◌, ◌<◌, ◌≤◌, ℕ, suc, Bool, true, false, IsTrue, get_or, List, [], ◌∷◌, ◌++◌, length, take, drop, Option, Some, None, refl, sym, ap, subst, ◌∙◌, inl, inr, append_assoc, arith}
+use Rattle.std.proofs.Common.{◌≡◌, ◌↔◌, ◌+◌, ◌*◌, ◌<◌, ◌≤◌, ℕ, suc, Bool, true, false, IsTrue, get_or, List, [], ◌∷◌, ◌++◌, length, take, drop}
+use Rattle.std.proofs.Common.{Option, Some, None, refl, sym, ap, subst, ◌∙◌, inl, inr, append_assoc, arith}
 use Rattle.std.specs.Bool.{then_some}
 use Rattle.std.proofs.lemmas.List.{append-nil, take_at, drop_at, take-append-drop, length-take-le}
 use Rattle.gtp_v2.specs.declared.fault.RowFault.{RowFault}
@@ -130,8 +131,12 @@ same_parts octets front back fore rear (flags, kind, high, low, following, (smal
     let l : low ≡ low2 = cc in
     let all : following ++ back ≡ following2 ++ rear = cc in
     let n : length following ≡ length following2 = omega (arith, h, l, long, long2) in
-    let fs : following ≡ following2 = sym (take_at following back (length following) refl) ∙ (ap (take (length following)) all ∙ (ap (λ (i : ℕ). take i (following2 ++ rear)) n ∙ take_at following2 rear (length following2) refl)) in
-    let bs : back ≡ rear = sym (drop_at following back (length following) refl) ∙ (ap (drop (length following)) all ∙ (ap (λ (i : ℕ). drop i (following2 ++ rear)) n ∙ drop_at following2 rear (length following2) refl)) in
+    let fs : following ≡ following2 =
+    sym (take_at following back (length following) refl)
+    ∙ (ap (take (length following)) all ∙ (ap (λ (i : ℕ). take i (following2 ++ rear)) n ∙ take_at following2 rear (length following2) refl)) in
+    let bs : back ≡ rear =
+    sym (drop_at following back (length following) refl)
+    ∙ (ap (drop (length following)) all ∙ (ap (λ (i : ℕ). drop i (following2 ++ rear)) n ∙ drop_at following2 rear (length following2) refl)) in
     let same : front ≡ fore = cc in
     (same, bs)
 

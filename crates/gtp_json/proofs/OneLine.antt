@@ -140,7 +140,8 @@ same_fault : (places : Bool) (octets : List ℕ) (f : V2Fault) (fs gs : List (Li
 same_fault false octets f fs gs a b = a ∙ sym b
 same_fault true octets f fs gs (p, lies, is) (q, lie, gs_is) = is ∙ (ap (λ (x : Option ℕ). placed_members octets f ++ some_member (codes "at") x) (place_one octets f p q lies lie) ∙ sym gs_is)
 
-members_one : (members : Members) (plane : Plane) (octets : List ℕ) (ms ns : List (List ℕ × Json)) (x y : Bool) → MembersBy members plane octets ms x → MembersBy members plane octets ns y → (ms ≡ ns) × (x ≡ y)
+members_one : (members : Members) (plane : Plane) (octets : List ℕ) (ms ns : List (List ℕ × Json)) (x y : Bool) → MembersBy members plane octets ms x
+    → MembersBy members plane octets ns y → (ms ≡ ns) × (x ≡ y)
 members_one members planes.Control octets ms ns true true (f, fails, (fs, its, has)) (g, fault, (gs, other, had)) =
     let one = one_of _ (IsDatagram octets) (IsDatagramFault octets) (datagram_decided octets) in
     let places = has_places members in
@@ -169,7 +170,8 @@ members_one members planes.User octets ms ns false false (m, said, is) (n, other
     let one = one_of _ (IsUserMessage octets) (IsUserFault octets) (user_decided octets) in
     (is ∙ (ap user_members (one.value m n said other) ∙ sym ns_is), refl)
 
-whole_one : (members : Members) (plane : Plane) (octets : List ℕ) (ms ns : List (List ℕ × Json)) (x y : Bool) → WholeMembers members plane octets ms x → WholeMembers members plane octets ns y → (ms ≡ ns) × (x ≡ y)
+whole_one : (members : Members) (plane : Plane) (octets : List ℕ) (ms ns : List (List ℕ × Json)) (x y : Bool) → WholeMembers members plane octets ms x
+    → WholeMembers members plane octets ns y → (ms ≡ ns) × (x ≡ y)
 whole_one members plane octets ms ns x y (a, has, is) (b, had, ns_is) =
     let same = members_one members plane octets a b x y has had in
     (is ∙ (ap (λ (xs : List (List ℕ × Json)). octets_shown members octets ++ xs) same.0 ∙ sym ns_is), same.1)

@@ -36,11 +36,13 @@ lines_of Plain octets text (inr h) = let s = lines_both octets text h in (both s
 lines_of (All places) octets text (d, how) = d
 
 -- the fault that lines end in
-fault_of : (members : Members) (octets text : List ℕ) → LinesBy members planes.Control octets text true → (f : V2Fault) × IsDatagramFault octets f × EndsInLine members planes.Control octets (fault_lines members octets f) text
+fault_of : (members : Members) (octets text : List ℕ) → LinesBy members planes.Control octets text true
+    → (f : V2Fault) × IsDatagramFault octets f × EndsInLine members planes.Control octets (fault_lines members octets f) text
 fault_of Plain octets text (f, fails, is) = (f, fails, ([], refl, is))
 fault_of (All places) octets text found = found
 
-user_fault_of : (members : Members) (octets text : List ℕ) → LinesBy members planes.User octets text true → (f : UserFault) × IsUserFault octets f × EndsInLine members planes.User octets (user_fault_line f) text
+user_fault_of : (members : Members) (octets text : List ℕ) → LinesBy members planes.User octets text true
+    → (f : UserFault) × IsUserFault octets f × EndsInLine members planes.User octets (user_fault_line f) text
 user_fault_of Plain octets text (f, fails, is) = (f, fails, ([], refl, is))
 user_fault_of (All places) octets text (f, fails, is) = (f, fails, (user_shown (user_head_at octets), refl, is))
 
@@ -50,7 +52,8 @@ user_of Plain octets text lines = lines
 user_of (All places) octets text lines = lines
 
 -- an object of these members
-whole_is : (members : Members) (plane : Plane) (octets : List ℕ) (ms said : List (List ℕ × Json)) (j : Json) → ms ≡ octets_shown members octets ++ said → j ≡ object_of (plane_member plane ++ ms) → j ≡ object_of (plane_member plane ++ (octets_shown members octets ++ said))
+whole_is : (members : Members) (plane : Plane) (octets : List ℕ) (ms said : List (List ℕ × Json)) (j : Json) → ms ≡ octets_shown members octets ++ said
+    → j ≡ object_of (plane_member plane ++ ms) → j ≡ object_of (plane_member plane ++ (octets_shown members octets ++ said))
 whole_is members plane octets ms said j whole is = is ∙ ap (λ (xs : List (List ℕ × Json)). object_of (plane_member plane ++ xs)) whole
 
 pub one_reading : OneReading
@@ -74,8 +77,16 @@ one_reading members planes.Control octets text false j false lines (ms, (said, h
     (refl, (s.0, s.1, λ other other_is. one.value other s.0 other_is s.1))
 one_reading members planes.User octets text true j true lines (ms, (said, (g, fault, has), whole), is) =
     let one = one_of _ (IsUserMessage octets) (IsUserFault octets) (user_decided octets) in
-    let found = user_fault_of members octets text lines in
-    (refl, (found.0, found.1, found.2, subst (λ (z : UserFault). EndsInFault members planes.User octets (user_members_at (has_places members) z) j) (one.fault g found.0 fault found.1) (said, has, whole_is members planes.User octets ms said j whole is)))
+    let found = user_fault_of members octets text lines in (
+      refl,
+      (
+        found.0,
+        found.1,
+        found.2,
+        subst (λ (z : UserFault). EndsInFault members planes.User octets (user_members_at (has_places members) z) j) (one.fault g found.0 fault found.1)
+            (said, has, whole_is members planes.User octets ms said j whole is),
+      ),
+    )
 one_reading members planes.User octets text true j false lines (ms, (said, (m, spells, said_is), whole), is) =
     let one = one_of _ (IsUserMessage octets) (IsUserFault octets) (user_decided octets) in
     let found = user_fault_of members octets text lines in
@@ -86,5 +97,14 @@ one_reading members planes.User octets text false j true lines (ms, (said, (f, f
     absurd (one.either s.0 f s.1 fails)
 one_reading members planes.User octets text false j false lines (ms, (said, (n, other, said_is), whole), is) =
     let one = one_of _ (IsUserMessage octets) (IsUserFault octets) (user_decided octets) in
-    let s = user_of members octets text lines in
-    (refl, (s.0, s.1, s.2, whole_is members planes.User octets ms said j whole is ∙ ap (λ (xs : List (List ℕ × Json)). object_of (plane_member planes.User ++ (octets_shown members octets ++ xs))) (said_is ∙ ap user_members (one.value n s.0 other s.1))))
+    let s = user_of members octets text lines in (
+      refl,
+      (
+        s.0,
+        s.1,
+        s.2,
+        whole_is members planes.User octets ms said j whole is
+            ∙ ap (λ (xs : List (List ℕ × Json)). object_of (plane_member planes.User ++ (octets_shown members octets ++ xs)))
+            (said_is ∙ ap user_members (one.value n s.0 other s.1)),
+      ),
+    )

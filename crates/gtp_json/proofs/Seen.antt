@@ -29,7 +29,8 @@ message_lies : (octets : List ℕ) (v : Viewed) → LiesIn octets v → MessageM
 message_lies octets v lies = (v.message, lies.spelled, (carried_members v.message.content v.elements, carried_are octets v.message v.message.content v.elements lies.elements, refl))
 
 -- and so have the messages of a datagram
-pub members_lie : (octets : List ℕ) (first : Viewed) (second : Option Viewed) (back : List ℕ) → LieIn octets first second back → ControlMembers Plain octets (seen_members first ++ second_members second)
+pub members_lie : (octets : List ℕ) (first : Viewed) (second : Option Viewed) (back : List ℕ) → LieIn octets first second back
+    → ControlMembers Plain octets (seen_members first ++ second_members second)
 members_lie octets first None back (lies, none) = inl (subst (λ (ms : List (List ℕ × Json)). MessageMembers octets ms) (sym (append-nil (seen_members first))) (message_lies octets first lies))
 members_lie octets first (Some second) back (front, announces, one, other) =
     inr (front, back, announces, (seen_members first, seen_members second, message_lies front first one, message_lies back second other, refl))

@@ -30,8 +30,11 @@ use Rattle.gtp_json.specs.Tree.{members_of, items_of, member, object_of, array_o
 use Rattle.gtp_ie.specs.declared.form.Form.TheVariants as forms
 use Rattle.gtp_codes.specs.Words.{word_in, cause_words, interface_type_words, pdn_type_words}
 use Rattle.gtp_lines.specs.Words.{read_word}
-use Rattle.gtp_json.specs.Values.{word_members, beside, offending_members, cause_members, paa_members, v4_members, v6_members, interface_members, end_members, value_json, octets_members, named_members, form_members, body_members}
-use Rattle.gtp_json.specs.Control.{place_members, element_head, inner_json, group_members, element_members, element_json, named_by, title_members, teid_members, priority_members, header_members, head_members, elements_members, CarriedMembers, MessageMembers, second_member, element_fault_members, fault_members, context_members, placed_members, fault_member}
+use Rattle.gtp_json.specs.Values.{word_members, beside, offending_members, cause_members, paa_members, v4_members, v6_members, interface_members}
+use Rattle.gtp_json.specs.Values.{end_members, value_json, octets_members, named_members, form_members, body_members}
+use Rattle.gtp_json.specs.Control.{place_members, element_head, inner_json, group_members, element_members, element_json, named_by, title_members}
+use Rattle.gtp_json.specs.Control.{teid_members, priority_members, header_members, head_members, elements_members, CarriedMembers, MessageMembers}
+use Rattle.gtp_json.specs.Control.{second_member, element_fault_members, fault_members, context_members, placed_members, fault_member}
 use Rattle.gtp_lines.specs.User.{user_name, body_name}
 use Rattle.gtp_json.specs.User.{named, user_title, target_members, some_member, user_head, extension_json, extensions_members, user_carried, user_members, user_fault_members}
 use Rattle.gtp_json.specs.Places.{FaultMembers, user_place, user_members_at}
@@ -110,7 +113,12 @@ v6_within (Some v) = (omega arith, tt)
 value_depth : (v : Value) → depth (value_json v) ≤ 2
 unfolding value_json member object_of
 value_depth (OfImsi digits) = omega arith
-value_depth (OfCause c) = object_depth 1 (cause_members c) (omega arith, join 1 (word_members (codes "cause_name") (word_in cause_words c.value)) (offending_members c.offending) (word_within 1 (codes "cause_name") (word_in cause_words c.value)) (offending_within c.offending))
+value_depth (OfCause c) =
+    object_depth 1 (cause_members c) (
+      omega arith,
+      join 1 (word_members (codes "cause_name") (word_in cause_words c.value)) (offending_members c.offending)
+          (word_within 1 (codes "cause_name") (word_in cause_words c.value)) (offending_within c.offending),
+    )
 value_depth (OfRecovery n) = omega arith
 value_depth (OfApn octets) = omega arith
 value_depth (OfAmbr a) = omega arith
@@ -121,7 +129,9 @@ value_depth (OfRat n) = omega arith
 value_depth (OfPlmn n) = omega arith
 value_depth (OfTft octets) = omega arith
 value_depth (OfFTeid e) =
-    object_depth 1 (end_members e) (join 1 (interface_members e.interface) _ (omega arith, word_within 1 (codes "interface_name") (word_in interface_type_words e.interface)) (omega arith, join 1 (v4_members e.v4) (v6_members e.v6) (v4_within e.v4) (v6_within e.v6)))
+    object_depth 1 (end_members e)
+    (join 1 (interface_members e.interface) _ (omega arith, word_within 1 (codes "interface_name") (word_in interface_type_words e.interface))
+    (omega arith, join 1 (v4_members e.v4) (v6_members e.v6) (v4_within e.v4) (v6_within e.v6)))
 value_depth (OfChargingId n) = omega arith
 value_depth (OfPdnType n) = omega arith
 value_depth (OfPti n) = omega arith
@@ -143,7 +153,9 @@ beside_within form read = tt
 
 form_within : (form : Option Form) (kind : ℕ) (body : List ℕ) → Within 2 (form_members form kind body)
 form_within None kind body = octets_within body
-form_within (Some form) kind body = join 2 (named_members (name_of form) body (value_at kind body)) (beside form (value_at kind body)) (named_within (name_of form) body (value_at kind body)) (beside_within form (value_at kind body))
+form_within (Some form) kind body =
+    join 2 (named_members (name_of form) body (value_at kind body)) (beside form (value_at kind body))
+    (named_within (name_of form) body (value_at kind body)) (beside_within form (value_at kind body))
 
 body_within : (kind : ℕ) (body : List ℕ) → Within 2 (body_members kind body)
 unfolding body_members
@@ -159,7 +171,9 @@ unfolding member
 head_within places e = (omega arith, (omega arith, place_within places e))
 
 inner_depth : (places : Bool) (e : Element) → depth (inner_json places e) ≤ 3
-inner_depth places e = object_depth 2 (element_head places e ++ body_members e.kind e.body) (join 2 (element_head places e) (body_members e.kind e.body) (head_within places e) (body_within e.kind e.body))
+inner_depth places e =
+    object_depth 2 (element_head places e ++ body_members e.kind e.body)
+    (join 2 (element_head places e) (body_members e.kind e.body) (head_within places e) (body_within e.kind e.body))
 
 group_within : (places : Bool) (e : Element) (r : Result (List Element) ℕ) → Within 4 (group_members places e r)
 unfolding member
@@ -172,10 +186,14 @@ chosen_within false n x y h k = k
 
 element_within : (places : Bool) (e : Element) → Within 4 (element_members places e)
 element_within places e =
-    chosen_within (e.kind == bearer_context) 4 (group_members places e (elements_of (e.at + 4) e.body)) (body_members e.kind e.body) (group_within places e (elements_of (e.at + 4) e.body)) (more 2 4 (body_members e.kind e.body) (omega arith) (body_within e.kind e.body))
+    chosen_within (e.kind == bearer_context) 4 (group_members places e (elements_of (e.at + 4) e.body)) (body_members e.kind e.body)
+    (group_within places e (elements_of (e.at + 4) e.body)) (more 2 4 (body_members e.kind e.body) (omega arith) (body_within e.kind e.body))
 
 element_depth : (places : Bool) (e : Element) → depth (element_json places e) ≤ 5
-element_depth places e = object_depth 4 (element_head places e ++ element_members places e) (join 4 (element_head places e) (element_members places e) (more 2 4 (element_head places e) (omega arith) (head_within places e)) (element_within places e))
+element_depth places e =
+    object_depth 4 (element_head places e ++ element_members places e)
+    (join 4 (element_head places e) (element_members places e) (more 2 4 (element_head places e) (omega arith) (head_within places e))
+    (element_within places e))
 
 -- ---- control messages
 
@@ -208,7 +226,9 @@ carried_within octets m (Raw carried) ms is = subst (Within 6) (sym is) (omega a
 carried_within octets m (Fields fields) ms (es, are, is) = subst (Within 6) (sym is) (array_depth 5 (element_json false) es (element_depth false), tt)
 
 message_within : (octets : List ℕ) (ms : List (List ℕ × Json)) → MessageMembers octets ms → Within 6 ms
-message_within octets ms (m, spelled, (carried, has, is)) = subst (Within 6) (sym is) (join 6 (head_members m) carried (header_within m.kind m.teid m.seq m.priority) (carried_within octets m m.content carried has))
+message_within octets ms (m, spelled, (carried, has, is)) =
+    subst (Within 6) (sym is)
+    (join 6 (head_members m) carried (header_within m.kind m.teid m.seq m.priority) (carried_within octets m m.content carried has))
 
 element_fault_within : (f : IeFault) → Within 0 (element_fault_members f)
 unfolding member
@@ -309,7 +329,8 @@ shown_within : (places : Bool) (h : Headed) (ms : List (List ℕ × Json)) → M
 unfolding member
 shown_within places h ms (es, rest, front, is) =
     let elements : Within 6 (elements_members places es) = (array_depth 5 (element_json places) es (element_depth places), tt) in
-    subst (Within 6) (sym is) (join 6 (header_members h.kind h.teid h.seq h.priority) _ (header_within h.kind h.teid h.seq h.priority) (join 6 (elements_members places es) (rest_members rest) elements (left_within rest)))
+    subst (Within 6) (sym is) (join 6 (header_members h.kind h.teid h.seq h.priority) _ (header_within h.kind h.teid h.seq h.priority)
+    (join 6 (elements_members places es) (rest_members rest) elements (left_within rest)))
 
 alone_within : (places : Bool) (h : Option Headed) (ms : List (List ℕ × Json)) → AloneShown places h ms → Within 6 ms
 alone_within places None ms is = subst (Within 6) (sym is) tt
@@ -322,12 +343,18 @@ second_within places octets (Some h) ms shown = shown_within places h ms shown
 by_within : (places : Bool) (pair : Option (Headed × List ℕ)) (whole : Option Headed) (ms : List (List ℕ × Json)) → ShownBy places pair whole ms → Within 7 ms
 by_within places None whole ms shown = more 6 7 ms (omega arith) (alone_within places whole ms shown)
 by_within places (Some pair) whole ms (a, b, first, second, is) =
-    subst (Within 7) (sym is) (join 7 a (second_member b) (more 6 7 a (omega arith) (shown_within places pair.0 a first)) (one 7 (codes "second") (object_of b) (object_depth 6 b (second_within places pair.1 (head_at pair.1) b second))))
+    subst (Within 7) (sym is) (join 7 a (second_member b) (more 6 7 a (omega arith) (shown_within places pair.0 a first))
+    (one 7 (codes "second") (object_of b) (object_depth 6 b (second_within places pair.1 (head_at pair.1) b second))))
 
 user_shown_within : (h : Option UserHead) → Within 7 (user_shown h)
 unfolding member
 user_shown_within None = tt
-user_shown_within (Some h) = join 7 (kind_members h.kind) _ (kind_within h.kind (user_name h.kind)) (omega arith, join 7 (some_member (codes "seq") h.seq) (rest_members h.rest) (some_within (codes "seq") h.seq) (more 6 7 (rest_members h.rest) (omega arith) (left_within h.rest)))
+user_shown_within (Some h) =
+    join 7 (kind_members h.kind) _ (kind_within h.kind (user_name h.kind)) (
+      omega arith,
+      join 7 (some_member (codes "seq") h.seq) (rest_members h.rest) (some_within (codes "seq") h.seq)
+          (more 6 7 (rest_members h.rest) (omega arith) (left_within h.rest)),
+    )
 
 -- ---- places of faults
 
@@ -362,9 +389,11 @@ with_fault_within : (members : Members) (plane : Plane) (octets : List ℕ) (fau
 with_fault_within members plane octets fault ms low (before, how, is) = subst (Within 7) (sym is) (join 7 before _ (before_within members plane octets before how) (fault_member_within fault low))
 
 by_members_within : (members : Members) (plane : Plane) (octets : List ℕ) (ms : List (List ℕ × Json)) (faulty : Bool) → MembersBy members plane octets ms faulty → Within 7 ms
-by_members_within members planes.Control octets ms true (f, first, (fault, its, has)) = with_fault_within members planes.Control octets fault ms (fault_members_within (has_places members) octets f fault its) has
+by_members_within members planes.Control octets ms true (f, first, (fault, its, has)) =
+    with_fault_within members planes.Control octets fault ms (fault_members_within (has_places members) octets f fault its) has
 by_members_within members planes.Control octets ms false has = control_within members octets ms has
-by_members_within members planes.User octets ms true (f, first, has) = with_fault_within members planes.User octets (user_members_at (has_places members) f) ms (user_members_at_within (has_places members) f) has
+by_members_within members planes.User octets ms true (f, first, has) =
+    with_fault_within members planes.User octets (user_members_at (has_places members) f) ms (user_members_at_within (has_places members) f) has
 by_members_within members planes.User octets ms false (m, spelled, is) = subst (Within 7) (sym is) (user_message_within m)
 
 octets_shown_within : (members : Members) (octets : List ℕ) → Within 7 (octets_shown members octets)
@@ -374,7 +403,9 @@ octets_shown_within (All false) octets = tt
 octets_shown_within (All true) octets = (omega arith, tt)
 
 pub whole_within : (members : Members) (plane : Plane) (octets : List ℕ) (ms : List (List ℕ × Json)) (faulty : Bool) → WholeMembers members plane octets ms faulty → Within 7 ms
-whole_within members plane octets ms faulty (said, has, is) = subst (Within 7) (sym is) (join 7 (octets_shown members octets) said (octets_shown_within members octets) (by_members_within members plane octets said faulty has))
+whole_within members plane octets ms faulty (said, has, is) =
+    subst (Within 7) (sym is)
+    (join 7 (octets_shown members octets) said (octets_shown_within members octets) (by_members_within members plane octets said faulty has))
 
 pub plane_within : (plane : Plane) → Within 7 (plane_member plane)
 plane_within plane = one 7 (codes "plane") _ (omega arith)

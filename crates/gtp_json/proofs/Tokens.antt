@@ -11,7 +11,9 @@ use Rattle.gtp_json.specs.reading.Tokens.{written, member_tokens, keyed, opened,
 
 members_are : (ms : List (List ℕ × Json)) → members_tokens (members_of ms) ≡ flat_map member_tokens ms ++ Token.end_object ∷ []
 members_are [] = refl
-members_are (m ∷ ms) = ap (λ (ts : List Token). Token.key m.0 ∷ (json_tokens m.1 ++ ts)) (members_are ms) ∙ ap (λ (ts : List Token). Token.key m.0 ∷ ts) (sym (append_assoc (json_tokens m.1) (flat_map member_tokens ms) (Token.end_object ∷ [])))
+members_are (m ∷ ms) =
+    ap (λ (ts : List Token). Token.key m.0 ∷ (json_tokens m.1 ++ ts)) (members_are ms)
+    ∙ ap (λ (ts : List Token). Token.key m.0 ∷ ts) (sym (append_assoc (json_tokens m.1) (flat_map member_tokens ms) (Token.end_object ∷ [])))
 
 pub object_tokens : (ms : List (List ℕ × Json)) → json_tokens (object_of ms) ≡ opened ++ (written ms ++ closed)
 unfolding object_of opened closed written
@@ -56,7 +58,8 @@ whole o m n p q a b none one two three four =
     all ∙ (append_assoc opened (written (a ++ b)) closed ∙ sym (object_tokens (a ++ b)))
 
 -- a member whose value is an object, written piece by piece
-pub nested : (name : List ℕ) (b : List (List ℕ × Json)) (m n o p q : List Token) → n ≡ m ++ keyed name → o ≡ n ++ opened → p ≡ o ++ written b → q ≡ p ++ closed → q ≡ m ++ written (member name (object_of b))
+pub nested : (name : List ℕ) (b : List (List ℕ × Json)) (m n o p q : List Token) → n ≡ m ++ keyed name → o ≡ n ++ opened → p ≡ o ++ written b → q ≡ p ++ closed
+    → q ≡ m ++ written (member name (object_of b))
 nested name b m n o p q key begins members ends =
     let w = written b in
     ends

@@ -20,7 +20,8 @@ begin_alike at octets e d rest after b c = same_Some (found e rest) (found d aft
 ends : (at : ℕ) (octets : List ℕ) (rest : List ℕ) (place : ℕ) (e : Element) (after : List ℕ) → Spans at octets [] rest place → Ends place rest → BeginsWith at octets e after → ⊥
 ends at octets rest place e after (is, here) none b = none e after (subst (λ (n : ℕ). BeginsWith n rest e after) here (subst (λ (xs : List ℕ). BeginsWith at xs e after) is b))
 
-alike : (at : ℕ) (octets : List ℕ) (es : List Element) (rest : List ℕ) (place : ℕ) (ds : List Element) (left : List ℕ) (end : ℕ) → Spans at octets es rest place → Ends place rest → Spans at octets ds left end → Ends end left → (es ≡ ds) × (rest ≡ left)
+alike : (at : ℕ) (octets : List ℕ) (es : List Element) (rest : List ℕ) (place : ℕ) (ds : List Element) (left : List ℕ) (end : ℕ)
+    → Spans at octets es rest place → Ends place rest → Spans at octets ds left end → Ends end left → (es ≡ ds) × (rest ≡ left)
 alike at octets [] rest place [] left end (is, here) none (other, there) stop = (refl, sym is ∙ other)
 alike at octets [] rest place (d ∷ ds) left end spans none (after, b, others) stop = absurd (ends at octets rest place d after spans none b)
 alike at octets (e ∷ es) rest place [] left end (after, b, others) none spans stop = absurd (ends at octets left end e after spans stop b)

@@ -38,7 +38,9 @@ one_of {X} {E} r Is Fails d = record {
 message_one : (h : Headed) (t u : List ℕ) → MessageShown h t → MessageShown h u → t ≡ u
 message_one h t u (es, rest, front, t_is) (ds, left, other, u_is) =
     let p = one_front h.at h.rest es rest ds left front other in
-    let lines : flat_map (element_lines Worded) es ++ rest_line rest ≡ flat_map (element_lines Worded) ds ++ rest_line left = ap (λ (xs : List Element). flat_map (element_lines Worded) xs ++ rest_line rest) p.0 ∙ ap (λ (xs : List ℕ). flat_map (element_lines Worded) ds ++ rest_line xs) p.1 in
+    let lines : flat_map (element_lines Worded) es ++ rest_line rest ≡ flat_map (element_lines Worded) ds ++ rest_line left =
+    ap (λ (xs : List Element). flat_map (element_lines Worded) xs ++ rest_line rest) p.0
+    ∙ ap (λ (xs : List ℕ). flat_map (element_lines Worded) ds ++ rest_line xs) p.1 in
     t_is ∙ (ap (λ (xs : List ℕ). first_line h.kind h.teid h.seq h.priority ++ xs) lines ∙ sym u_is)
 
 alone_one : (w : Option Headed) (t u : List ℕ) → AloneShown w t → AloneShown w u → t ≡ u

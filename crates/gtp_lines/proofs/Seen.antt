@@ -30,4 +30,21 @@ lines_alone octets v text lies is = (v.message, lies.spelled, (carried_lines v.m
 pub lines_lie : (octets : List ℕ) (first : Viewed) (second : Option Viewed) (back text : List ℕ) → LieIn octets first second back → text ≡ datagram_lines first second → ControlLines octets text false
 lines_lie octets first None back text (lies, none) is = inl (lines_alone octets first text lies is)
 lines_lie octets first (Some second) back text (front, announces, one, other) is =
-    inr (front, back, announces, (seen_lines first, lines_alone front first (seen_lines first) one refl, (second.message, other.spelled, (carried_lines second.message.content second.elements, carried_are back second.message second.message.content second.elements other.elements, is))))
+    inr (
+      front,
+      back,
+      announces,
+      (
+        seen_lines first,
+        lines_alone front first (seen_lines first) one refl,
+        (
+          second.message,
+          other.spelled,
+          (
+            carried_lines second.message.content second.elements,
+            carried_are back second.message second.message.content second.elements other.elements,
+            is,
+          ),
+        ),
+      ),
+    )

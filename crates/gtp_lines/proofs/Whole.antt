@@ -65,7 +65,8 @@ announced octets front back h (flags, kind, high, low, following, (small, text),
 
 -- ---- messages
 
-fields_lines : (octets : List ℕ) (m : MessageValue) (content : Content) (lines : List ℕ) → CarriedLines Worded octets m content lines → raw_of content ≡ None → (es : List Element) × AreElements (place_of m.teid) (drop (place_of m.teid) octets) es × (lines ≡ flat_map (element_lines Worded) es)
+fields_lines : (octets : List ℕ) (m : MessageValue) (content : Content) (lines : List ℕ) → CarriedLines Worded octets m content lines → raw_of content ≡ None
+    → (es : List Element) × AreElements (place_of m.teid) (drop (place_of m.teid) octets) es × (lines ≡ flat_map (element_lines Worded) es)
 fields_lines octets m (Raw carried) lines l none = absurd cc
 fields_lines octets m (Fields fields) lines l none = l
 
@@ -99,7 +100,9 @@ pub whole_shown : WholeShown
 whole_shown octets text typed (inl (m, is, has)) =
     let spelled = inl (m, is, refl) in
     let s = message_shown [] octets m text is (typed (alone m) spelled) has in
-    let here : ShownBy None (head_at octets) text = subst (λ (w : Option Headed). ShownBy None w text) (sym (head_is octets s.head s.headed)) (subst (λ (xs : List ℕ). MessageShown s.head xs) (sym s.is) s.shown) in
+    let here : ShownBy None (head_at octets) text =
+    subst (λ (w : Option Headed). ShownBy None w text) (sym (head_is octets s.head s.headed))
+    (subst (λ (xs : List ℕ). MessageShown s.head xs) (sym s.is) s.shown) in
     ((alone m, spelled), subst (λ (p : Option (Headed × List ℕ)). ShownBy p (head_at octets) text) (sym (no_pair octets s.head s.headed)) here)
 whole_shown octets text typed (inr (front, back, announces, (before, (a, isa, hasa), (b, isb, hasb)))) =
     let spelled = inr (front, back, announces, (a, isa, (b, isb, refl))) in
@@ -107,5 +110,8 @@ whole_shown octets text typed (inr (front, back, announces, (before, (a, isa, ha
     let one = message_shown [] front a before isa each.0 hasa in
     let two = message_shown before back b text isb each.1 hasb in
     let second : SecondShown back (head_at back) two.lines = subst (λ (w : Option Headed). SecondShown back w two.lines) (sym (head_is back two.head two.headed)) two.shown in
-    let both_are : text ≡ one.lines ++ two.lines = two.is ∙ ap (λ (xs : List ℕ). xs ++ two.lines) one.is in
-    ((both a b, spelled), subst (λ (p : Option (Headed × List ℕ)). ShownBy p (head_at octets) text) (sym (announced octets front back one.head announces one.headed)) (one.lines, two.lines, one.shown, second, both_are))
+    let both_are : text ≡ one.lines ++ two.lines = two.is ∙ ap (λ (xs : List ℕ). xs ++ two.lines) one.is in (
+      (both a b, spelled),
+      subst (λ (p : Option (Headed × List ℕ)). ShownBy p (head_at octets) text) (sym (announced octets front back one.head announces one.headed))
+          (one.lines, two.lines, one.shown, second, both_are),
+    )

@@ -7,9 +7,9 @@ ghost use Rattle.gtp_lines.specs.Control.{element_lines};
 ghost use Rattle.gtp_lines.specs.All.{rest_line, numbered_line, context_line, MessageShown, AloneShown, SecondShown, PairShown, ControlShown, AllControl, user_shown, AllUser, AllLines, head_at as spec_head_at};
 ghost use Rattle.gtp_lines.specs.reading.Header.{headed_of, user_head_of};
 
+use crate::complete_elements::front_elements;
 use crate::contexts::fault_context;
 use crate::control::{put_elements, put_fault_line, put_first_line};
-use crate::fronts::front_elements;
 use crate::header::{Header, head_at, pair_at};
 use crate::lines::Shown;
 use crate::text::{put, put_octets, put_teid};

@@ -4,11 +4,11 @@
 
 mod all;
 mod brief;
+mod complete_elements;
 mod contexts;
 mod control;
 mod filter;
 mod frames;
-mod fronts;
 mod header;
 pub mod laws;
 mod lines;
@@ -25,7 +25,7 @@ pub use frames::{Form, frame_lines, is_whole, second_in, width_of};
 pub use lines::{Shown, decode_lines};
 
 /// What is there of a datagram at fault: headers, whatever length they state, and the whole elements behind them.
-pub use fronts::front_elements;
+pub use complete_elements::front_elements;
 pub use header::{Header, head_at, pair_at};
 pub use user_header::{UserHeader, user_head_at};
 

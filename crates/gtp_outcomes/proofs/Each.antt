@@ -5,12 +5,14 @@ use Rattle.std.proofs.lemmas.Option.{slice_get-map, slice_get-get_or, slice_get_
 use Rattle.gtp_outcomes.specs.Each.{TellsEach, AddsEach}
 
 -- one part more
-pub one_more : {X Y : Type 0} (Holds : X → Type 0) (part : X → Bool → List Y) (xs : List X) (x : X) (verdict : Bool) (parts : List Y) → TellsEach Holds part xs parts → (IsTrue verdict ↔ Holds x) → TellsEach Holds part (xs ++ (x ∷ [])) (parts ++ part x verdict)
+pub one_more : {X Y : Type 0} (Holds : X → Type 0) (part : X → Bool → List Y) (xs : List X) (x : X) (verdict : Bool) (parts : List Y)
+    → TellsEach Holds part xs parts → (IsTrue verdict ↔ Holds x) → TellsEach Holds part (xs ++ (x ∷ [])) (parts ++ part x verdict)
 one_more Holds part [] x verdict parts none is = (verdict, [], is, refl, ap (λ ys. ys ++ part x verdict) none ∙ sym (append-nil (part x verdict)))
 one_more Holds part (y ∷ xs) x verdict parts (first, others, holds, tells, whole) is =
     (first, others ++ part x verdict, holds, one_more Holds part xs x verdict others tells is, ap (λ ys. ys ++ part x verdict) whole ∙ append_assoc (part y first) others (part x verdict))
 
-pub adds_one : {X Y : Type 0} (Holds : X → Type 0) (part : X → Bool → List Y) (xs : List X) (x : X) (verdict : Bool) (old mid new : List Y) → AddsEach Holds part xs old mid → (IsTrue verdict ↔ Holds x) → new ≡ mid ++ part x verdict → AddsEach Holds part (xs ++ (x ∷ [])) old new
+pub adds_one : {X Y : Type 0} (Holds : X → Type 0) (part : X → Bool → List Y) (xs : List X) (x : X) (verdict : Bool) (old mid new : List Y)
+    → AddsEach Holds part xs old mid → (IsTrue verdict ↔ Holds x) → new ≡ mid ++ part x verdict → AddsEach Holds part (xs ++ (x ∷ [])) old new
 adds_one Holds part xs x verdict old mid new (parts, tells, so_far) is more =
     (parts ++ part x verdict, one_more Holds part xs x verdict parts tells is, more ∙ (ap (λ ys. ys ++ part x verdict) so_far ∙ append_assoc old parts (part x verdict)))
 

@@ -24,7 +24,8 @@ numbered_rest f first (suc count) (x ∷ xs) =
     ap (λ n. enumerate_from n (map f (drop count xs))) next ∙ numbered_rest f (first + 1) count xs
 
 -- the first of the datagrams that are left, as many as there are at most
-pub front_is : {X Y : Type 0} (f : X → Y) (first count sent : ℕ) (xs : List X) → count ≡ min (length xs) sent → enumerate_from first (map f (take count xs)) ≡ take sent (enumerate_from first (map f xs))
+pub front_is : {X Y : Type 0} (f : X → Y) (first count sent : ℕ) (xs : List X) → count ≡ min (length xs) sent
+    → enumerate_from first (map f (take count xs)) ≡ take sent (enumerate_from first (map f xs))
 front_is f first count sent xs is = ⊎_elim
     (λ short. let all : count ≡ length xs = omega (arith, is, short) in
     ap (λ n. enumerate_from first (map f (take n xs))) all ∙ (ap (λ l. enumerate_from first (map f l)) (take_all (length xs) xs (omega arith))
@@ -33,7 +34,8 @@ front_is f first count sent xs is = ⊎_elim
     (cases_lt (length xs) sent)
 
 -- and the others
-pub rest_is : {X Y : Type 0} (f : X → Y) (first count sent : ℕ) (xs : List X) → count ≡ min (length xs) sent → enumerate_from (first + count) (map f (drop count xs)) ≡ drop sent (enumerate_from first (map f xs))
+pub rest_is : {X Y : Type 0} (f : X → Y) (first count sent : ℕ) (xs : List X) → count ≡ min (length xs) sent
+    → enumerate_from (first + count) (map f (drop count xs)) ≡ drop sent (enumerate_from first (map f xs))
 rest_is f first count sent xs is = ⊎_elim
     (λ short. let all : length xs ≤ count = omega (arith, is, short) in
     ap (λ l. enumerate_from (first + count) (map f l)) (drop_all count xs all)

@@ -63,7 +63,9 @@ unfolding is_pending put_by_age
 put_pending n w [] = refl
 put_pending {P} n w (v ∷ vs) = by (nat_lt (age w) (age v)) (put_pending n w vs)
   where
-    by : (b : Bool) → list_any (λ (x : Waiting P). x.seq == n) (put_by_age w vs) ≡ ((w.seq == n) || list_any (λ (x : Waiting P). x.seq == n) vs) → list_any (λ (x : Waiting P). x.seq == n) (cond b (v ∷ put_by_age w vs) (w ∷ v ∷ vs)) ≡ ((w.seq == n) || ((v.seq == n) || list_any (λ (x : Waiting P). x.seq == n) vs))
+    by : (b : Bool) → list_any (λ (x : Waiting P). x.seq == n) (put_by_age w vs) ≡ ((w.seq == n) || list_any (λ (x : Waiting P). x.seq == n) vs)
+        → list_any (λ (x : Waiting P). x.seq == n) (cond b (v ∷ put_by_age w vs) (w ∷ v ∷ vs))
+        ≡ ((w.seq == n) || ((v.seq == n) || list_any (λ (x : Waiting P). x.seq == n) vs))
     by true h = ap (λ (b : Bool). (v.seq == n) || b) h ∙ or_swap (v.seq == n) (w.seq == n) (list_any (λ (x : Waiting P). x.seq == n) vs)
     by false h = refl
 
@@ -109,8 +111,13 @@ put_purpose {P} n w (v ∷ vs) none =
     let parts = or_parts (v.seq == w.seq) (list_any (λ (x : Waiting P). x.seq == w.seq) vs) none in
     by (nat_lt (age w) (age v)) parts.0 (put_purpose n w vs parts.1)
   where
-    by : (b : Bool) → (v.seq == w.seq) ≡ false → purpose_of n (put_by_age w vs) ≡ cond (w.seq == n) (Some w.purpose) (purpose_of n vs) → purpose_of n (cond b (v ∷ put_by_age w vs) (w ∷ v ∷ vs)) ≡ cond (w.seq == n) (Some w.purpose) (cond (v.seq == n) (Some v.purpose) (purpose_of n vs))
-    by true other h = purpose_cons n v (put_by_age w vs) ∙ either_order v.purpose (Some w.purpose) (purpose_of n (put_by_age w vs)) (purpose_of n vs) (v.seq == n) (w.seq == n) (not_both v.seq w.seq n other) h
+    by : (b : Bool) → (v.seq == w.seq) ≡ false → purpose_of n (put_by_age w vs) ≡ cond (w.seq == n) (Some w.purpose) (purpose_of n vs)
+        → purpose_of n (cond b (v ∷ put_by_age w vs) (w ∷ v ∷ vs))
+        ≡ cond (w.seq == n) (Some w.purpose) (cond (v.seq == n) (Some v.purpose) (purpose_of n vs))
+    by true other h =
+        purpose_cons n v (put_by_age w vs)
+        ∙ either_order v.purpose (Some w.purpose) (purpose_of n (put_by_age w vs)) (purpose_of n vs) (v.seq == n) (w.seq == n)
+        (not_both v.seq w.seq n other) h
     by false other h = purpose_cons n w (v ∷ vs) ∙ ap (λ (o : Option P). cond (w.seq == n) (Some w.purpose) o) (purpose_cons n v vs)
 
 pub age_purpose : {P : Type 0} (n : ℕ) (ws : List (Waiting P)) → AreDistinct ws → purpose_of n (by_age ws) ≡ purpose_of n ws
@@ -240,7 +247,8 @@ module _ {P : Type 0} (f : Waiting P → Option (Waiting P)) (R : Waiting P → 
       over e (Some w') None g h = refl
       over e (Some w') (Some v') g h = sym (put_over w' v' (filter_map f vs) (keeps w v w' v' r rs.0 g h ∙ e))
 
-      by : (b : Bool) → nat_lt (age w) (age v) ≡ b → filter_map f (put_by_age w vs) ≡ put_option (f w) (filter_map f vs) → filter_map f (cond b (v ∷ put_by_age w vs) (w ∷ v ∷ vs)) ≡ put_option (f w) (filter_map f (v ∷ vs))
+      by : (b : Bool) → nat_lt (age w) (age v) ≡ b → filter_map f (put_by_age w vs) ≡ put_option (f w) (filter_map f vs)
+          → filter_map f (cond b (v ∷ put_by_age w vs) (w ∷ v ∷ vs)) ≡ put_option (f w) (filter_map f (v ∷ vs))
       by true e h = ap (cons_option (f v)) h ∙ over e (f w) (f v) refl refl
       by false e h = here e (f w) refl
 
@@ -317,7 +325,11 @@ put_lower {P} x y (z ∷ zs) lt = by (nat_lt (age y) (age z)) refl (put_lower x 
         ap (put_by_age x) (put_here y z zs e) ∙ (put_over x y (z ∷ zs) (is_older (age x) (age y) lt) ∙ sym (behind (nat_lt (age x) (age z)) refl more))
 
 put_swap : {P : Type 0} (x y : Waiting P) (zs : List (Waiting P)) → (age x ≡ age y → ⊥) → put_by_age x (put_by_age y zs) ≡ put_by_age y (put_by_age x zs)
-put_swap x y zs unlike = elim (cases_lt (age x) (age y)) [ inl lt ↦ put_lower x y zs lt | inr ge ↦ elim (cases_lt (age y) (age x)) [ inl lt ↦ sym (put_lower y x zs lt) | inr le ↦ absurd (unlike (omega (arith, ge, le))) ] ]
+put_swap x y zs unlike =
+    elim (cases_lt (age x) (age y)) [
+      | inl lt ↦ put_lower x y zs lt
+      | inr ge ↦ elim (cases_lt (age y) (age x)) [ inl lt ↦ sym (put_lower y x zs lt) | inr le ↦ absurd (unlike (omega (arith, ge, le))) ]
+    ]
 
 swap_one : {P : Type 0} (x : Waiting P) (ys zs : List (Waiting P)) → AllByRecursion (λ y. age x ≡ age y → ⊥) ys → put_by_age x (put_each ys zs) ≡ put_each ys (put_by_age x zs)
 swap_one x [] zs unlike = refl
@@ -356,7 +368,8 @@ module _ {P Y : Type 0} (t3 : ℕ) (h : Waiting P → Option Y) (calm : (w : Wai
       none : nat_lt (age w) (age v) ≡ true → h v ≡ None
       none e = elim all.0 [ inl lt ↦ calm v lt | inr le ↦ absurd (let less = older (age w) (age v) e in omega (arith, less, le)) ]
 
-      by : (b : Bool) → nat_lt (age w) (age v) ≡ b → filter_map h (put_by_age w vs) ≡ cons_option (h w) (filter_map h vs) → filter_map h (cond b (v ∷ put_by_age w vs) (w ∷ v ∷ vs)) ≡ cons_option (h w) (filter_map h (v ∷ vs))
+      by : (b : Bool) → nat_lt (age w) (age v) ≡ b → filter_map h (put_by_age w vs) ≡ cons_option (h w) (filter_map h vs)
+          → filter_map h (cond b (v ∷ put_by_age w vs) (w ∷ v ∷ vs)) ≡ cons_option (h w) (filter_map h (v ∷ vs))
       by true e k =
           ap (λ (o : Option Y). cons_option o (filter_map h (put_by_age w vs))) (none e)
           ∙ (k ∙ ap (λ (o : Option Y). cons_option (h w) (cons_option o (filter_map h vs))) (sym (none e)))
@@ -382,7 +395,8 @@ module _ {P Y : Type 0} (t3 : ℕ) (h : Waiting P → Option Y) (calm : (w : Wai
           put_calm w (by_age ws) (calm w lt)
           ∙ (k ∙ ap (λ (o : Option Y). cons_option o (filter_map h ws)) (sym (calm w lt)))
       by (inr last) k =
-          put_due w (by_age ws) (age_all (λ (v : Waiting P). (v.waited + 1 < t3) ⊎ (age v ≤ age w)) ws (weaker (IsBefore w) (λ (v : Waiting P). (v.waited + 1 < t3) ⊎ (age v ≤ age w)) ws (so last) turn.1))
+          put_due w (by_age ws) (age_all (λ (v : Waiting P). (v.waited + 1 < t3) ⊎ (age v ≤ age w)) ws
+          (weaker (IsBefore w) (λ (v : Waiting P). (v.waited + 1 < t3) ⊎ (age v ≤ age w)) ws (so last) turn.1))
           ∙ ap (cons_option (h w)) k
 
 -- ---- fewer in turn

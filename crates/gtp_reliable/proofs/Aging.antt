@@ -1,10 +1,11 @@
 -- A tick costs what it gives up: those are in front.
-use Rattle.std.proofs.Common.{◌≡◌, ℕ, ◌+◌, ◌<◌, ◌≤◌, ◌%◌, ◌^◌, Bool, true, false, cond, not, List, [], ◌∷◌, ◌++◌, map, drop, take, get_or, length, zero, suc, Some, None, refl, sym, ap, ◌∙◌, subst, arith, nat_lt}
+use Rattle.std.proofs.Common.{◌≡◌, ℕ, ◌+◌, ◌<◌, ◌≤◌, ◌%◌, ◌^◌, Bool, true, false, cond, not, List, [], ◌∷◌, ◌++◌, map, drop, take, get_or, length}
+use Rattle.std.proofs.Common.{zero, suc, Some, None, refl, sym, ap, ◌∙◌, subst, arith, nat_lt}
 use Rattle.std.specs.Prelude.{is_some, All}
 use Rattle.std.specs.List.{AllByRecursion, filter_map, cons_option}
 use Rattle.std.proofs.lemmas.Bool.Decides.{nat_tests}
 use Rattle.std.proofs.lemmas.List.{length-map}
-use Rattle.gtp_reliable.specs.declared.pair.Pair.{Pair}
+use Rattle.gtp_reliable.specs.declared.held_answer.Pair.{Pair}
 use Rattle.gtp_reliable.specs.Index.{after, question}
 use Rattle.gtp_reliable.specs.Held.{HeldPair, after_tick, forgotten}
 use Rattle.gtp_reliable.specs.Aging.{age, seen, is_due, AreAging}
@@ -22,7 +23,8 @@ stays now hold p lt few = by (nat_lt (age now p + 1) hold) (grind (arith, nat_te
     by true e = ap Some same
     by false e = absurd cc
 
-young_stay : (now hold a : ℕ) (ps : List Pair) → AllByRecursion (λ (q : Pair). age now q ≤ a) ps → a + 1 < hold → hold < 2 ^ 64 → map (seen ((now + 1) % 2 ^ 64)) ps ≡ filter_map (after_tick hold) (map (seen now) ps)
+young_stay : (now hold a : ℕ) (ps : List Pair) → AllByRecursion (λ (q : Pair). age now q ≤ a) ps → a + 1 < hold → hold < 2 ^ 64
+    → map (seen ((now + 1) % 2 ^ 64)) ps ≡ filter_map (after_tick hold) (map (seen now) ps)
 young_stay now hold a [] all lt few = refl
 young_stay now hold a (p ∷ ps) all lt few =
     let e : after_tick hold (seen now p) ≡ Some (seen ((now + 1) % 2 ^ 64) p) = stays now hold p (omega (arith, all.0, lt)) few in
@@ -30,7 +32,8 @@ young_stay now hold a (p ∷ ps) all lt few =
     (λ i. cons_option (sym e i) (f i))
 
 -- where the front stays, all stay
-pub all_stay : (now hold : ℕ) (ps : List Pair) → is_due now hold ps ≡ false → AreAging now hold ps → hold < 2 ^ 64 → map (seen ((now + 1) % 2 ^ 64)) ps ≡ filter_map (after_tick hold) (map (seen now) ps)
+pub all_stay : (now hold : ℕ) (ps : List Pair) → is_due now hold ps ≡ false → AreAging now hold ps → hold < 2 ^ 64
+    → map (seen ((now + 1) % 2 ^ 64)) ps ≡ filter_map (after_tick hold) (map (seen now) ps)
 all_stay now hold [] h a few = refl
 all_stay now hold (p ∷ ps) h a few = young_stay now hold (age now p) (p ∷ ps) (omega arith, a.1) (by h) few
   where
@@ -41,7 +44,8 @@ pub due_next : (now hold : ℕ) (ps : List Pair) → is_due now hold ps ≡ true
 due_next now hold [] h = refl
 due_next now hold (p ∷ ps) h = by (nat_lt (age now p + 1) hold) h
   where
-    by : (b : Bool) → not b ≡ true → filter_map (after_tick hold) (map (seen now) ps) ≡ cons_option (cond b (Some (record (seen now p) { age = age now p + 1 })) None) (filter_map (after_tick hold) (map (seen now) ps))
+    by : (b : Bool) → not b ≡ true → filter_map (after_tick hold) (map (seen now) ps)
+        ≡ cons_option (cond b (Some (record (seen now p) { age = age now p + 1 })) None) (filter_map (after_tick hold) (map (seen now) ps))
     by true e = absurd cc
     by false e = refl
 
@@ -60,8 +64,12 @@ young_age now hold a (p ∷ ps) all lt few = (omega (arith, older p.kept now (om
 ages : (now hold a : ℕ) (ps : List Pair) → AllByRecursion (λ (q : Pair). age now q ≤ a) ps → a + 1 < hold → hold < 2 ^ 64 → AreAging now hold ps → AreAging ((now + 1) % 2 ^ 64) hold ps
 ages now hold a [] all lt few old = tt
 ages now hold a (p ∷ ps) all lt few old =
-    let next : age ((now + 1) % 2 ^ 64) p ≡ age now p + 1 = older p.kept now (omega (arith, all.0, lt, few)) in
-    (omega (arith, next, all.0, lt), subst (λ (n : ℕ). AllByRecursion (λ (q : Pair). age ((now + 1) % 2 ^ 64) q ≤ n) ps) (sym next) (young_age now hold (age now p) ps old.1 (omega (arith, all.0, lt)) few), ages now hold a ps all.1 lt few old.2)
+    let next : age ((now + 1) % 2 ^ 64) p ≡ age now p + 1 = older p.kept now (omega (arith, all.0, lt, few)) in (
+      omega (arith, next, all.0, lt),
+      subst (λ (n : ℕ). AllByRecursion (λ (q : Pair). age ((now + 1) % 2 ^ 64) q ≤ n) ps) (sym next)
+          (young_age now hold (age now p) ps old.1 (omega (arith, all.0, lt)) few),
+      ages now hold a ps all.1 lt few old.2,
+    )
 
 -- and they age in order
 pub all_age : (now hold : ℕ) (ps : List Pair) → is_due now hold ps ≡ false → AreAging now hold ps → hold < 2 ^ 64 → AreAging ((now + 1) % 2 ^ 64) hold ps
@@ -95,7 +103,9 @@ young now hold p h = by (nat_lt (age now p + 1) hold) refl h
     by false e g = absurd cc
 
 -- after one that stays, nothing is forgotten
-pub rest_stays : (now hold : ℕ) (ps : List Pair) (i : ℕ) (p : Pair) → AreAging now hold ps → i < length ps → p ≡ get_or ps i p → is_some (after_tick hold (seen now p)) ≡ true → filter_map (forgotten hold) (map (seen now) (take i ps)) ≡ filter_map (forgotten hold) (map (seen now) ps)
+pub rest_stays : (now hold : ℕ) (ps : List Pair) (i : ℕ) (p : Pair) → AreAging now hold ps → i < length ps → p ≡ get_or ps i p
+    → is_some (after_tick hold (seen now p)) ≡ true
+    → filter_map (forgotten hold) (map (seen now) (take i ps)) ≡ filter_map (forgotten hold) (map (seen now) ps)
 rest_stays now hold [] i p a lt is stay = absurd (omega arith)
 rest_stays now hold (q ∷ qs) zero p a lt is stay =
     let front : age now q + 1 < hold = subst (λ (x : Pair). age now x + 1 < hold) is (young now hold p stay) in
@@ -108,7 +118,8 @@ seen_at now (q ∷ qs) zero p lt = refl
 seen_at now (q ∷ qs) (suc i) p lt = seen_at now qs i p (omega arith)
 
 -- where nothing is due, each stays
-pub quiet_stays : (now hold : ℕ) (ps : List Pair) (i : ℕ) (p : Pair) → i < length ps → p ≡ get_or ps i p → is_some (after_tick hold (seen now p)) ≡ false → All (λ h. h.age + 1 < hold) (map (seen now) ps) → ⊥
+pub quiet_stays : (now hold : ℕ) (ps : List Pair) (i : ℕ) (p : Pair) → i < length ps → p ≡ get_or ps i p → is_some (after_tick hold (seen now p)) ≡ false
+    → All (λ h. h.age + 1 < hold) (map (seen now) ps) → ⊥
 quiet_stays now hold ps i p lt is gone all = by (nat_lt (age now p + 1) hold) refl gone
   where
     same : seen now p ≡ get_or (map (seen now) ps) i (seen now p)

@@ -33,7 +33,8 @@ module _ {P : Type 0} (now : ℕ) where
     pub told_gap : {Y : Type 0} (h : Waiting P → Option Y) → slot ≡ None → told_by h (rows_of (take (i + 1) slots)) ≡ told_by h (rows_of (take i slots))
     told_gap h none = ap (told_by h) (gap_next none)
 
-    told_row : {Y : Type 0} (h : Waiting P → Option Y) (r : Sent P) (o : Option Y) → slot ≡ Some r → h (seen now r) ≡ o → told_by h (rows_of (take (i + 1) slots)) ≡ told_by h (rows_of (take i slots)) ++ cons_option o []
+    told_row : {Y : Type 0} (h : Waiting P → Option Y) (r : Sent P) (o : Option Y) → slot ≡ Some r → h (seen now r) ≡ o
+        → told_by h (rows_of (take (i + 1) slots)) ≡ told_by h (rows_of (take i slots)) ++ cons_option o []
     told_row h r o some e =
         ap (told_by h) (row_next r some)
         ∙ (told_push h (rows_of (take i slots)) r ∙ ap (λ (p : Option _). told_by h (rows_of (take i slots)) ++ cons_option p []) e)
@@ -41,12 +42,15 @@ module _ {P : Type 0} (now : ℕ) where
     pub told_none : {Y : Type 0} (h : Waiting P → Option Y) (r : Sent P) → slot ≡ Some r → h (seen now r) ≡ None → told_by h (rows_of (take (i + 1) slots)) ≡ told_by h (rows_of (take i slots))
     told_none h r some e = told_row h r None some e ∙ append-nil (told_by h (rows_of (take i slots)))
 
-    pub told_some : {Y : Type 0} (h : Waiting P → Option Y) (r : Sent P) (y : Y) → slot ≡ Some r → h (seen now r) ≡ Some y → told_by h (rows_of (take (i + 1) slots)) ≡ told_by h (rows_of (take i slots)) ++ y ∷ []
+    pub told_some : {Y : Type 0} (h : Waiting P → Option Y) (r : Sent P) (y : Y) → slot ≡ Some r → h (seen now r) ≡ Some y
+        → told_by h (rows_of (take (i + 1) slots)) ≡ told_by h (rows_of (take i slots)) ++ y ∷ []
     told_some h r y some e = told_row h r (Some y) some e
 
   -- the tick sends a request again
-  pub resends_more : (t3 n3 : ℕ) (slots : List (Option (Sent P))) (i : ℕ) (slot : Option (Sent P)) (r : Sent P) (so_far more : List Resend) (x : Resend) → i < length slots → slot ≡ get_or slots i slot → slot ≡ Some r → SentAgain ≡ next_tick t3 n3 (seen now r)
-      → map message_of so_far ≡ told_by (sent_again t3 n3) (rows_of (take i slots)) → more ≡ so_far ++ x ∷ [] → x.seq ≡ r.seq → x.to ≡ r.to → x.octets.items ≡ r.octets → map message_of more ≡ told_by (sent_again t3 n3) (rows_of (take (i + 1) slots))
+  pub resends_more : (t3 n3 : ℕ) (slots : List (Option (Sent P))) (i : ℕ) (slot : Option (Sent P)) (r : Sent P) (so_far more : List Resend) (x : Resend)
+      → i < length slots → slot ≡ get_or slots i slot → slot ≡ Some r → SentAgain ≡ next_tick t3 n3 (seen now r)
+      → map message_of so_far ≡ told_by (sent_again t3 n3) (rows_of (take i slots)) → more ≡ so_far ++ x ∷ [] → x.seq ≡ r.seq → x.to ≡ r.to
+      → x.octets.items ≡ r.octets → map message_of more ≡ told_by (sent_again t3 n3) (rows_of (take (i + 1) slots))
   resends_more t3 n3 slots i slot r so_far more x lt is some again before pushed s t o =
       let message : message_of x ≡ record { seq = r.seq; to = r.to; octets = r.octets } = λ j. record { seq = s j; to = t j; octets = o j } in
       ap (map message_of) pushed
@@ -56,12 +60,15 @@ module _ {P : Type 0} (now : ℕ) where
       ∙ sym (told_some slots i slot lt is (sent_again t3 n3) r (record { seq = r.seq; to = r.to; octets = r.octets }) some (resend_by t3 n3 (seen now r) SentAgain again)))))
 
   -- it does something else with it
-  pub resends_same : (t3 n3 : ℕ) (slots : List (Option (Sent P))) (i : ℕ) (slot : Option (Sent P)) (r : Sent P) (n : NextTick) → i < length slots → slot ≡ get_or slots i slot → slot ≡ Some r → n ≡ next_tick t3 n3 (seen now r) → sent_again_by n (seen now r) ≡ None
+  pub resends_same : (t3 n3 : ℕ) (slots : List (Option (Sent P))) (i : ℕ) (slot : Option (Sent P)) (r : Sent P) (n : NextTick) → i < length slots
+      → slot ≡ get_or slots i slot → slot ≡ Some r → n ≡ next_tick t3 n3 (seen now r) → sent_again_by n (seen now r) ≡ None
       → told_by (sent_again t3 n3) (rows_of (take (i + 1) slots)) ≡ told_by (sent_again t3 n3) (rows_of (take i slots))
   resends_same t3 n3 slots i slot r n lt is some by none = told_none slots i slot lt is (sent_again t3 n3) r some (resend_by t3 n3 (seen now r) n by ∙ none)
 
-  pub gives_more : (t3 n3 : ℕ) (slots : List (Option (Sent P))) (i : ℕ) (slot : Option (Sent P)) (r : Sent P) (so_far more : List (ℕ × P)) (seq : ℕ) (purpose : P) → i < length slots → slot ≡ get_or slots i slot → slot ≡ Some r → GivenUp ≡ next_tick t3 n3 (seen now r)
-      → so_far ≡ told_by (given_up t3 n3) (rows_of (take i slots)) → more ≡ so_far ++ (seq, purpose) ∷ [] → seq ≡ r.seq → purpose ≡ r.purpose → more ≡ told_by (given_up t3 n3) (rows_of (take (i + 1) slots))
+  pub gives_more : (t3 n3 : ℕ) (slots : List (Option (Sent P))) (i : ℕ) (slot : Option (Sent P)) (r : Sent P) (so_far more : List (ℕ × P)) (seq : ℕ) (purpose : P)
+      → i < length slots → slot ≡ get_or slots i slot → slot ≡ Some r → GivenUp ≡ next_tick t3 n3 (seen now r)
+      → so_far ≡ told_by (given_up t3 n3) (rows_of (take i slots)) → more ≡ so_far ++ (seq, purpose) ∷ [] → seq ≡ r.seq → purpose ≡ r.purpose
+      → more ≡ told_by (given_up t3 n3) (rows_of (take (i + 1) slots))
   gives_more t3 n3 slots i slot r so_far more seq purpose lt is some over before pushed s p =
       pushed
       ∙ (ap (λ (l : List (ℕ × P)). l ++ (seq, purpose) ∷ []) before
@@ -69,13 +76,15 @@ module _ {P : Type 0} (now : ℕ) where
       ∙ (ap (λ (q : P). told_by (given_up t3 n3) (rows_of (take i slots)) ++ (r.seq, q) ∷ []) p
       ∙ sym (told_some slots i slot lt is (given_up t3 n3) r (r.seq, r.purpose) some (given_by t3 n3 (seen now r) GivenUp over)))))
 
-  pub gives_same : (t3 n3 : ℕ) (slots : List (Option (Sent P))) (i : ℕ) (slot : Option (Sent P)) (r : Sent P) (n : NextTick) → i < length slots → slot ≡ get_or slots i slot → slot ≡ Some r → n ≡ next_tick t3 n3 (seen now r) → given_up_by n (seen now r) ≡ None
+  pub gives_same : (t3 n3 : ℕ) (slots : List (Option (Sent P))) (i : ℕ) (slot : Option (Sent P)) (r : Sent P) (n : NextTick) → i < length slots
+      → slot ≡ get_or slots i slot → slot ≡ Some r → n ≡ next_tick t3 n3 (seen now r) → given_up_by n (seen now r) ≡ None
       → told_by (given_up t3 n3) (rows_of (take (i + 1) slots)) ≡ told_by (given_up t3 n3) (rows_of (take i slots))
   gives_same t3 n3 slots i slot r n lt is some by none = told_none slots i slot lt is (given_up t3 n3) r some (given_by t3 n3 (seen now r) n by ∙ none)
 
   -- ---- after one that waits on, none tells anything
 
-  calm_rest : {Y : Type 0} (h : Waiting P → Option Y) (n : ℕ) (t3 : ℕ) → ((w : Waiting P) → w.waited + 1 < t3 → h w ≡ None) → n + 1 < t3 → (ws : List (Waiting P)) → AllByRecursion (λ v. v.waited ≤ n) ws → filter_map h ws ≡ []
+  calm_rest : {Y : Type 0} (h : Waiting P → Option Y) (n : ℕ) (t3 : ℕ) → ((w : Waiting P) → w.waited + 1 < t3 → h w ≡ None) → n + 1 < t3
+      → (ws : List (Waiting P)) → AllByRecursion (λ v. v.waited ≤ n) ws → filter_map h ws ≡ []
   calm_rest h n t3 calm lt [] all = refl
   calm_rest h n t3 calm lt (w ∷ ws) all = ap (λ (o : Option _). cons_option o (filter_map h ws)) (calm w (omega (arith, all.0, lt))) ∙ calm_rest h n t3 calm lt ws all.1
 
@@ -83,7 +92,9 @@ module _ {P : Type 0} (now : ℕ) where
   no_longer w [] all = tt
   no_longer w (v ∷ vs) all = (all.0.0, no_longer w vs all.1)
 
-  pub told_rest : {Y : Type 0} (h : Waiting P → Option Y) (t3 : ℕ) → ((w : Waiting P) → w.waited + 1 < t3 → h w ≡ None) → (slots : List (Option (Sent P))) (i : ℕ) (r : Sent P) → AreInTurn t3 (map (seen now) (rows_of slots)) → get_or slots i None ≡ Some r → since r.sent now + 1 < t3
+  pub told_rest : {Y : Type 0} (h : Waiting P → Option Y) (t3 : ℕ) → ((w : Waiting P) → w.waited + 1 < t3 → h w ≡ None)
+      → (slots : List (Option (Sent P))) (i : ℕ) (r : Sent P) → AreInTurn t3 (map (seen now) (rows_of slots)) → get_or slots i None ≡ Some r
+      → since r.sent now + 1 < t3
       → told_by h (rows_of (take i slots)) ≡ told_by h (rows_of slots)
   told_rest h t3 calm [] i r turn is lt = absurd cc
   told_rest h t3 calm (None ∷ slots) zero r turn is lt = absurd cc
@@ -106,7 +117,8 @@ module _ {P : Type 0} (now : ℕ) where
   at_slot Q (Some q ∷ slots) zero r is all = let same : q ≡ r = cc in subst (λ (x : Sent P). Q (seen now x)) same all.0
   at_slot Q (Some q ∷ slots) (suc i) r is all = at_slot Q slots i r is all.1
 
-  pub quiet_waits : (t3 n3 : ℕ) (slots : List (Option (Sent P))) (i : ℕ) (r : Sent P) → get_or slots i None ≡ Some r → AllByRecursion (λ w. w.waited + 1 < t3) (map (seen now) (rows_of slots)) → next_tick t3 n3 (seen now r) ≡ WaitsOn
+  pub quiet_waits : (t3 n3 : ℕ) (slots : List (Option (Sent P))) (i : ℕ) (r : Sent P) → get_or slots i None ≡ Some r
+      → AllByRecursion (λ w. w.waited + 1 < t3) (map (seen now) (rows_of slots)) → next_tick t3 n3 (seen now r) ≡ WaitsOn
   quiet_waits t3 n3 slots i r is all = waits t3 n3 (seen now r) (at_slot (λ (w : Waiting P). w.waited + 1 < t3) slots i r is all)
 
 -- a request that waits on tells nothing

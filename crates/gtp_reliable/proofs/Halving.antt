@@ -2,7 +2,7 @@
 use Rattle.std.proofs.Common.{◌≡◌, ℕ, zero, suc, ◌+◌, ◌-◌, ◌<◌, ◌≤◌, List, [], ◌∷◌, get_or, length, refl, sym, ap, ◌∙◌, subst, arith, ◌⊎◌, inl, inr}
 use Rattle.std.specs.declared.cmp.Ordering.TheVariants.{Less, Greater}
 use Rattle.std.proofs.Math.Nat.{eq-or-lt_of_le}
-use Rattle.gtp_reliable.specs.declared.pair.Pair.{Pair}
+use Rattle.gtp_reliable.specs.declared.held_answer.Pair.{Pair}
 use Rattle.gtp_reliable.specs.Held.{Question}
 use Rattle.gtp_reliable.specs.Order.{question_cmp}
 use Rattle.gtp_reliable.specs.Index.{after, asked, questions, question_at, named_at, nobody, AreAscending}
@@ -36,7 +36,8 @@ question_of_pair ps n p lt found = at ps n p lt ∙ ap asked (sym found)
     at (q ∷ qs) (suc n) d lt = at qs n d (omega arith)
 
 -- the request of a pair that was looked up by its place
-pub named_is : (first : ℕ) (index : List ℕ) (ps : List Pair) (i at : ℕ) (p : Pair) → at ≡ after first (get_or index i 0) → at < length ps → p ≡ get_or ps at p → named_at first index (questions ps) i ≡ asked p
+pub named_is : (first : ℕ) (index : List ℕ) (ps : List Pair) (i at : ℕ) (p : Pair) → at ≡ after first (get_or index i 0) → at < length ps → p ≡ get_or ps at p
+    → named_at first index (questions ps) i ≡ asked p
 named_is first index ps i at p is lt found =
     ap (λ (n : ℕ). question_at (questions ps) n) (sym is) ∙ question_of_pair ps at p lt found
 

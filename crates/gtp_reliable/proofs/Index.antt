@@ -58,9 +58,12 @@ module _ (first : ℕ) (index : List ℕ) (ps : List Question) (is : IsIndex fir
   key_here = ap (λ (m : ℕ). get_or (ps ++ p ∷ []) (after first m) nobody) (get_or-insert_at index i n 0 gap.within) ∙ (ap (λ (k : ℕ). get_or (ps ++ p ∷ []) k nobody) back ∙ questions_last ps p)
 
   key_above : (j : ℕ) → i ≤ j → j < length index → named_at first more (ps ++ p ∷ []) (j + 1) ≡ named_at first index ps j
-  key_above j h lt = ap (λ (m : ℕ). get_or (ps ++ p ∷ []) (after first m) nobody) (get_or-insert_above index i n 0 j h gap.within) ∙ questions_push ps p (after first (get_or index j 0)) (is.names j 0 lt)
+  key_above j h lt =
+      ap (λ (m : ℕ). get_or (ps ++ p ∷ []) (after first m) nobody) (get_or-insert_above index i n 0 j h gap.within)
+      ∙ questions_push ps p (after first (get_or index j 0)) (is.names j 0 lt)
 
-  less : (a b : ℕ) (x y : Question) → named_at first more (ps ++ p ∷ []) a ≡ x → named_at first more (ps ++ p ∷ []) b ≡ y → question_cmp x y ≡ Less → question_cmp (named_at first more (ps ++ p ∷ []) a) (named_at first more (ps ++ p ∷ []) b) ≡ Less
+  less : (a b : ℕ) (x y : Question) → named_at first more (ps ++ p ∷ []) a ≡ x → named_at first more (ps ++ p ∷ []) b ≡ y → question_cmp x y ≡ Less
+      → question_cmp (named_at first more (ps ++ p ∷ []) a) (named_at first more (ps ++ p ∷ []) b) ≡ Less
   less a b x y e f h = (λ t. question_cmp (e t) (f t)) ∙ h
 
   len : length more ≡ length index + 1
@@ -79,12 +82,15 @@ module _ (first : ℕ) (index : List ℕ) (ps : List Question) (is : IsIndex fir
       by (At e) (At f) = absurd (omega (arith, e, f, lt))
       by (At e) (Above k le f) =
           let ltk : k < length index = omega (arith, f, within, len) in
-          less a b _ _ (ap (λ (j : ℕ). named_at first more (ps ++ p ∷ []) j) e ∙ key_here) (ap (λ (j : ℕ). named_at first more (ps ++ p ∷ []) j) f ∙ key_above k le ltk) (reversed p (named_at first index ps k) Greater (gap.higher k le ltk))
+          less a b _ _ (ap (λ (j : ℕ). named_at first more (ps ++ p ∷ []) j) e ∙ key_here)
+          (ap (λ (j : ℕ). named_at first more (ps ++ p ∷ []) j) f ∙ key_above k le ltk)
+          (reversed p (named_at first index ps k) Greater (gap.higher k le ltk))
       by (Above j lj e) (Below k) = absurd (omega (arith, lj, e, k, lt))
       by (Above j lj e) (At f) = absurd (omega (arith, lj, e, f, lt))
       by (Above j lj e) (Above k le f) =
           let ltk : k < length index = omega (arith, f, within, len) in
-          less a b _ _ (ap (λ (m : ℕ). named_at first more (ps ++ p ∷ []) m) e ∙ key_above j lj (omega (arith, e, f, lt, ltk))) (ap (λ (m : ℕ). named_at first more (ps ++ p ∷ []) m) f ∙ key_above k le ltk) (is.order j k (omega (arith, e, f, lt)) ltk)
+          less a b _ _ (ap (λ (m : ℕ). named_at first more (ps ++ p ∷ []) m) e ∙ key_above j lj (omega (arith, e, f, lt, ltk)))
+          (ap (λ (m : ℕ). named_at first more (ps ++ p ∷ []) m) f ∙ key_above k le ltk) (is.order j k (omega (arith, e, f, lt)) ltk)
 
   longer : length (ps ++ p ∷ []) ≡ length ps + 1
   longer = length-append ps (p ∷ [])
@@ -114,7 +120,8 @@ module _ (first : ℕ) (index : List ℕ) (ps : List Question) (is : IsIndex fir
 
 -- ---- what isn't found isn't held
 
-pub not_held : (first : ℕ) (index : List ℕ) (ps : List Question) (request : Question) (i : ℕ) → IsIndex first index ps → IsGap first index ps request i → (k : ℕ) → k < length ps → get_or ps k nobody ≡ request → ⊥
+pub not_held : (first : ℕ) (index : List ℕ) (ps : List Question) (request : Question) (i : ℕ) → IsIndex first index ps → IsGap first index ps request i → (k : ℕ)
+    → k < length ps → get_or ps k nobody ≡ request → ⊥
 not_held first index ps request i is gap k lt e = let c = is.covers k lt in by c (side i c.at)
   where
     same : (c : Names first index k) → question_cmp (named_at first index ps c.at) request ≡ Equal
@@ -130,7 +137,8 @@ not_held first index ps request i is gap k lt e = let c = is.covers k lt in by c
 
 -- ---- the front pair goes
 
-module _ (first : ℕ) (index : List ℕ) (p : Question) (qs : List Question) (is : IsIndex first index (p ∷ qs)) (low : first < 2 ^ 64) (i : ℕ) (within : i < length index) (found : named_at first index (p ∷ qs) i ≡ p) where
+module _ (first : ℕ) (index : List ℕ) (p : Question) (qs : List Question) (is : IsIndex first index (p ∷ qs)) (low : first < 2 ^ 64) (i : ℕ)
+    (within : i < length index) (found : named_at first index (p ∷ qs) i ≡ p) where
   abbrev fewer : List ℕ
   fewer = remove index i
 
@@ -142,7 +150,10 @@ module _ (first : ℕ) (index : List ℕ) (p : Question) (qs : List Question) (i
   alike a b la lb e = by (side a b)
     where
       unless : (x y : ℕ) → x < y → y < length index → named_at first index (p ∷ qs) x ≡ named_at first index (p ∷ qs) y → ⊥
-      unless x y lt ly h = let c : Equal ≡ Less = sym (tied_itself question_total (named_at first index (p ∷ qs) y)) ∙ (ap (λ (r : Question). question_cmp r (named_at first index (p ∷ qs) y)) (sym h) ∙ is.order x y lt ly) in absurd cc
+      unless x y lt ly h =
+          let c : Equal ≡ Less = sym (tied_itself question_total (named_at first index (p ∷ qs) y)) ∙
+          (ap (λ (r : Question). question_cmp r (named_at first index (p ∷ qs) y)) (sym h) ∙ is.order x y lt ly) in
+          absurd cc
 
       by : Side a b → a ≡ b
       by (Below h) = absurd (unless b a h la (sym e))
@@ -224,11 +235,17 @@ module _ (first : ℕ) (index : List ℕ) (p : Question) (qs : List Question) (i
       by : (c : Names first index (k + 1)) → Side i c.at → Names next (remove index i) k
       by c (Below h) = record { at = c.at; within = omega (arith, h, within, left); is = ap (after next) (get_or-remove_below index i 0 c.at h within) ∙ at c }
       by c (At e) = absurd (other c e)
-      by c (Above j le e) = record { at = j; within = omega (arith, c.within, left, e); is = ap (after next) (get_or-remove_above index i 0 j le within ∙ ap (λ (m : ℕ). get_or index m 0) (sym e)) ∙ at c }
+      by c (Above j le e) =
+          record {
+            at = j;
+            within = omega (arith, c.within, left, e);
+            is = ap (after next) (get_or-remove_above index i 0 j le within ∙ ap (λ (m : ℕ). get_or index m 0) (sym e)) ∙ at c;
+          }
 
   pub popped : IsIndex ((first + 1) % 2 ^ 64) (remove index i) qs
   popped = record { names = popped_names; order = popped_order; covers = popped_covers; count = omega (arith, left, is.count) }
 
-pub popped_front : (first : ℕ) (index : List ℕ) (ps : List Question) → 0 < length ps → IsIndex first index ps → first < 2 ^ 64 → (i : ℕ) → i < length index → named_at first index ps i ≡ question_at ps 0 → IsIndex ((first + 1) % 2 ^ 64) (remove index i) (drop 1 ps)
+pub popped_front : (first : ℕ) (index : List ℕ) (ps : List Question) → 0 < length ps → IsIndex first index ps → first < 2 ^ 64 → (i : ℕ) → i < length index
+    → named_at first index ps i ≡ question_at ps 0 → IsIndex ((first + 1) % 2 ^ 64) (remove index i) (drop 1 ps)
 popped_front first index [] some is low i within found = absurd (omega arith)
 popped_front first index (p ∷ qs) some is low i within found = popped first index p qs is low i within found

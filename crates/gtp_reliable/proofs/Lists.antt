@@ -35,11 +35,14 @@ filter_map_next h (x ∷ xs) zero d lt = refl
 filter_map_next h (x ∷ xs) (suc i) d lt = ap (cons_option (h x)) (filter_map_next h xs i d (omega arith)) ∙ sym (cons_append (h x) (filter_map h (take i xs)) (cons_option (h (get_or xs i d)) []))
 
 -- an element that gives something, and one that gives nothing
-pub filter_map_some : {X Y : Type 0} (h : X → Option Y) (xs : List X) (i : ℕ) (d : X) (y : Y) → i < length xs → h (get_or xs i d) ≡ Some y → filter_map h (take (i + 1) xs) ≡ filter_map h (take i xs) ++ y ∷ []
+pub filter_map_some : {X Y : Type 0} (h : X → Option Y) (xs : List X) (i : ℕ) (d : X) (y : Y) → i < length xs → h (get_or xs i d) ≡ Some y
+    → filter_map h (take (i + 1) xs) ≡ filter_map h (take i xs) ++ y ∷ []
 filter_map_some h xs i d y lt e = ap (λ (n : ℕ). filter_map h (take n xs)) (add-one i) ∙ (filter_map_next h xs i d lt ∙ ap (λ o. filter_map h (take i xs) ++ cons_option o []) e)
 
 pub filter_map_none : {X Y : Type 0} (h : X → Option Y) (xs : List X) (i : ℕ) (d : X) → i < length xs → h (get_or xs i d) ≡ None → filter_map h (take (i + 1) xs) ≡ filter_map h (take i xs)
-filter_map_none h xs i d lt e = ap (λ (n : ℕ). filter_map h (take n xs)) (add-one i) ∙ (filter_map_next h xs i d lt ∙ (ap (λ o. filter_map h (take i xs) ++ cons_option o []) e ∙ append-nil (filter_map h (take i xs))))
+filter_map_none h xs i d lt e =
+    ap (λ (n : ℕ). filter_map h (take n xs)) (add-one i)
+    ∙ (filter_map_next h xs i d lt ∙ (ap (λ o. filter_map h (take i xs) ++ cons_option o []) e ∙ append-nil (filter_map h (take i xs))))
 
 pub none_of : {X : Type 0} (o : Option X) → is_some o ≡ false → o ≡ None
 none_of None h = refl

@@ -55,7 +55,9 @@ here_less k d n m e h = by_test (nat_le (k + 1) d) (nat_le k d) refl refl where
   by_test true b s t = absurd (grind (arith, nat_tests))
   by_test false false s t = absurd (grind (arith, nat_tests))
 
-less_by : {P : Type 0} (start k n : ℕ) (w : Waiting P) (ws : List (Waiting P)) → distance start n ≡ k → (list_any (λ v. v.seq == n) ws ≡ true → ahead start (k + 1) ws < ahead start k ws) → (b : Bool) → (w.seq == n) ≡ b → (b || list_any (λ v. v.seq == n) ws) ≡ true
+less_by : {P : Type 0} (start k n : ℕ) (w : Waiting P) (ws : List (Waiting P)) → distance start n ≡ k
+    → (list_any (λ v. v.seq == n) ws ≡ true → ahead start (k + 1) ws < ahead start k ws) → (b : Bool) → (w.seq == n) ≡ b
+    → (b || list_any (λ v. v.seq == n) ws) ≡ true
     → cond (nat_le (k + 1) (distance start w.seq)) (suc (ahead start (k + 1) ws)) (ahead start (k + 1) ws) < cond (nat_le k (distance start w.seq)) (suc (ahead start k ws)) (ahead start k ws)
 less_by start k n w ws e others true t p =
     let same : w.seq ≡ n = grind (arith, nat_tests) in
@@ -105,7 +107,9 @@ reached_next {P} start ws n s r h =
     by_place : (j : ℕ) → j < distance start n + 1 → (start + distance start n) % numbers ≡ n → is_pending ((start + j) % numbers) ws ≡ true
     by_place j lt here = elim (cases_lt j (distance start n)) [
       | inl less ↦ r.taken j less
-      | inr le ↦ let last : distance start n ≡ j = omega (arith, lt, le) in subst (λ (i : ℕ). is_pending ((start + i) % numbers) ws ≡ true) last (subst (λ (i : ℕ). is_pending i ws ≡ true) (sym here) h)
+      | inr le ↦ let last : distance start n ≡ j =
+          omega (arith, lt, le) in subst (λ (i : ℕ). is_pending ((start + i) % numbers) ws ≡ true) last
+          (subst (λ (i : ℕ). is_pending i ws ≡ true) (sym here) h)
     ]
 
 pub reached_free : {P : Type 0} (start : ℕ) (ws : List (Waiting P)) (n : ℕ) → start < numbers → IsReached start ws n → is_pending n ws ≡ false → IsNextFree start ws n

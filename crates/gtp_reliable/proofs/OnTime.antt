@@ -18,10 +18,12 @@ no a b h = grind (arith, nat_tests)
 abbrev sent : {P : Type 0} → ℕ → Endpoint → List ℕ → P → ℕ → ℕ → Waiting P
 sent seq to octets purpose k r = record { seq = seq; to = to; octets = octets; purpose = purpose; waited = k; resent = r }
 
-waits_on : {P : Type 0} (t3 n3 seq : ℕ) (to : Endpoint) (octets : List ℕ) (purpose : P) (k r : ℕ) → k + 1 < t3 → after_tick t3 n3 (sent seq to octets purpose k r) ≡ Some (sent seq to octets purpose (k + 1) r)
+waits_on : {P : Type 0} (t3 n3 seq : ℕ) (to : Endpoint) (octets : List ℕ) (purpose : P) (k r : ℕ) → k + 1 < t3
+    → after_tick t3 n3 (sent seq to octets purpose k r) ≡ Some (sent seq to octets purpose (k + 1) r)
 waits_on t3 n3 seq to octets purpose k r h = let t = yes (k + 1) t3 h in rw t refl
 
-again : {P : Type 0} (t3 n3 seq : ℕ) (to : Endpoint) (octets : List ℕ) (purpose : P) (k r : ℕ) → t3 ≤ k + 1 → r < n3 → after_tick t3 n3 (sent seq to octets purpose k r) ≡ Some (sent seq to octets purpose 0 (r + 1))
+again : {P : Type 0} (t3 n3 seq : ℕ) (to : Endpoint) (octets : List ℕ) (purpose : P) (k r : ℕ) → t3 ≤ k + 1 → r < n3
+    → after_tick t3 n3 (sent seq to octets purpose k r) ≡ Some (sent seq to octets purpose 0 (r + 1))
 again t3 n3 seq to octets purpose k r h l = let t = no (k + 1) t3 h in let s = yes r n3 l in rw (t, s) refl
 
 over : {P : Type 0} (t3 n3 seq : ℕ) (to : Endpoint) (octets : List ℕ) (purpose : P) (k r : ℕ) → t3 ≤ k + 1 → n3 ≤ r → after_tick t3 n3 (sent seq to octets purpose k r) ≡ None
@@ -37,11 +39,13 @@ within : {P : Type 0} (t3 n3 seq : ℕ) (to : Endpoint) (octets : List ℕ) (pur
     → (k : ℕ) → k < t3 → after_ticks t3 n3 (n + k) (just_sent seq to octets purpose) ≡ Some (sent seq to octets purpose k r)
 within t3 n3 seq to octets purpose r n h zero l = ap (λ (i : ℕ). after_ticks t3 n3 i (just_sent seq to octets purpose)) (omega arith) ∙ h
 within t3 n3 seq to octets purpose r n h (suc k) l =
-    one_more t3 n3 (n + k) (n + suc k) (just_sent seq to octets purpose) (sent seq to octets purpose k r) (Some (sent seq to octets purpose (suc k) r)) (omega arith) (within t3 n3 seq to octets purpose r n h k (omega arith))
+    one_more t3 n3 (n + k) (n + suc k) (just_sent seq to octets purpose) (sent seq to octets purpose k r)
+    (Some (sent seq to octets purpose (suc k) r)) (omega arith) (within t3 n3 seq to octets purpose r n h k (omega arith))
     (waits_on t3 n3 seq to octets purpose k r (omega arith) ∙ ap (λ (i : ℕ). Some (sent seq to octets purpose i r)) (omega arith))
 
 -- the last tick of a wait
-last : {P : Type 0} (t3 n3 seq : ℕ) (to : Endpoint) (octets : List ℕ) (purpose : P) (r n : ℕ) → 0 < t3 → after_ticks t3 n3 n (just_sent seq to octets purpose) ≡ Some (sent seq to octets purpose 0 r) → (m : ℕ) → m ≡ n + t3
+last : {P : Type 0} (t3 n3 seq : ℕ) (to : Endpoint) (octets : List ℕ) (purpose : P) (r n : ℕ) → 0 < t3
+    → after_ticks t3 n3 n (just_sent seq to octets purpose) ≡ Some (sent seq to octets purpose 0 r) → (m : ℕ) → m ≡ n + t3
     → (o : Option (Waiting P)) → ((k : ℕ) → t3 ≡ suc k → after_tick t3 n3 (sent seq to octets purpose k r) ≡ o) → after_ticks t3 n3 m (just_sent seq to octets purpose) ≡ o
 last zero n3 seq to octets purpose r n s h m e o f = absurd (omega arith)
 last (suc t) n3 seq to octets purpose r n s h m e o f =
@@ -51,14 +55,16 @@ times : (r t3 : ℕ) → suc r * t3 ≡ r * t3 + t3
 times r t3 = grind arith
 
 -- each time that it is sent again
-begun : {P : Type 0} (t3 n3 seq : ℕ) (to : Endpoint) (octets : List ℕ) (purpose : P) (r : ℕ) → 0 < t3 → r ≤ n3 → after_ticks t3 n3 (r * t3) (just_sent seq to octets purpose) ≡ Some (sent seq to octets purpose 0 r)
+begun : {P : Type 0} (t3 n3 seq : ℕ) (to : Endpoint) (octets : List ℕ) (purpose : P) (r : ℕ) → 0 < t3 → r ≤ n3
+    → after_ticks t3 n3 (r * t3) (just_sent seq to octets purpose) ≡ Some (sent seq to octets purpose 0 r)
 unfolding after_ticks
 begun t3 n3 seq to octets purpose zero s l = let none : 0 * t3 ≡ 0 = omega arith in ap (λ (i : ℕ). after_ticks t3 n3 i (just_sent seq to octets purpose)) none
 begun t3 n3 seq to octets purpose (suc r) s l =
     last t3 n3 seq to octets purpose r (r * t3) s (begun t3 n3 seq to octets purpose r s (omega arith)) (suc r * t3) (times r t3) (Some (sent seq to octets purpose 0 (suc r)))
     (λ k e. again t3 n3 seq to octets purpose k r (omega arith) (omega arith) ∙ ap (λ (i : ℕ). Some (sent seq to octets purpose 0 i)) (omega arith))
 
-pub sent_on_time : {P : Type 0} (t3 n3 r k seq : ℕ) (to : Endpoint) (octets : List ℕ) (purpose : P) → r ≤ n3 → k < t3 → after_ticks t3 n3 (r * t3 + k) (just_sent seq to octets purpose) ≡ Some (sent seq to octets purpose k r)
+pub sent_on_time : {P : Type 0} (t3 n3 r k seq : ℕ) (to : Endpoint) (octets : List ℕ) (purpose : P) → r ≤ n3 → k < t3
+    → after_ticks t3 n3 (r * t3 + k) (just_sent seq to octets purpose) ≡ Some (sent seq to octets purpose k r)
 sent_on_time t3 n3 r k seq to octets purpose l h = within t3 n3 seq to octets purpose r (r * t3) (begun t3 n3 seq to octets purpose r (omega arith) l) k h
 
 times_one : (n t3 : ℕ) → (n + 1) * t3 ≡ n * t3 + t3
@@ -66,7 +72,8 @@ times_one n t3 = grind arith
 
 pub given_up_on_time : {P : Type 0} (t3 n3 seq : ℕ) (to : Endpoint) (octets : List ℕ) (purpose : P) → 0 < t3 → after_ticks t3 n3 ((n3 + 1) * t3) (just_sent seq to octets purpose) ≡ None
 given_up_on_time t3 n3 seq to octets purpose s =
-    last t3 n3 seq to octets purpose n3 (n3 * t3) s (begun t3 n3 seq to octets purpose n3 s (omega arith)) ((n3 + 1) * t3) (times_one n3 t3) None (λ k e. over t3 n3 seq to octets purpose k n3 (omega arith) (omega arith))
+    last t3 n3 seq to octets purpose n3 (n3 * t3) s (begun t3 n3 seq to octets purpose n3 s (omega arith)) ((n3 + 1) * t3) (times_one n3 t3) None
+    (λ k e. over t3 n3 seq to octets purpose k n3 (omega arith) (omega arith))
 
 -- ---- held answers
 
@@ -83,12 +90,15 @@ pub held_on_time : (hold k : ℕ) (source : Endpoint) (request answer : List ℕ
 unfolding held_after
 held_on_time hold zero source request answer h = refl
 held_on_time hold (suc k) source request answer h =
-    ap (then_tick (held.after_tick hold)) (held_on_time hold k source request answer (omega arith)) ∙ (ages hold source request answer k (omega arith) ∙ ap (λ (i : ℕ). Some (kept source request answer i)) (omega arith))
+    ap (then_tick (held.after_tick hold)) (held_on_time hold k source request answer (omega arith))
+    ∙ (ages hold source request answer k (omega arith) ∙ ap (λ (i : ℕ). Some (kept source request answer i)) (omega arith))
 
 pub forgotten_on_time : (hold : ℕ) (source : Endpoint) (request answer : List ℕ) → 0 < hold → held_after hold hold (just_kept source request answer) ≡ None
 unfolding held_after
 forgotten_on_time zero source request answer h = absurd (omega arith)
-forgotten_on_time (suc k) source request answer h = ap (then_tick (held.after_tick (suc k))) (held_on_time (suc k) k source request answer (omega arith)) ∙ gone (suc k) source request answer k (omega arith)
+forgotten_on_time (suc k) source request answer h =
+    ap (then_tick (held.after_tick (suc k))) (held_on_time (suc k) k source request answer (omega arith))
+    ∙ gone (suc k) source request answer k (omega arith)
 
 -- ---- what one tick tells
 

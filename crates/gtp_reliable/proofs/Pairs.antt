@@ -1,11 +1,12 @@
 -- Pairs after a change: they stay apart, and a tick keeps and moves them.
-use Rattle.std.proofs.Common.{◌≡◌, ℕ, zero, suc, ◌+◌, ◌<◌, ◌≤◌, ◌%◌, ◌^◌, Bool, true, false, cond, List, [], ◌∷◌, ◌++◌, length, map, take, drop, get_or, insert, remove, Option, Some, None, refl, sym, ap, subst, ◌∙◌, arith, ◌⊎◌, inl, inr}
+use Rattle.std.proofs.Common.{◌≡◌, ℕ, zero, suc, ◌+◌, ◌<◌, ◌≤◌, ◌%◌, ◌^◌, Bool, true, false, cond, List, [], ◌∷◌, ◌++◌, length, map, take, drop}
+use Rattle.std.proofs.Common.{get_or, insert, remove, Option, Some, None, refl, sym, ap, subst, ◌∙◌, arith, ◌⊎◌, inl, inr}
 use Rattle.std.specs.Prelude.{filter, is_some, unwrap_or, nat_lt}
 use Rattle.std.specs.List.{filter_map, cons_option}
 use Rattle.std.proofs.lemmas.List.{map_push, length-map}
 use Rattle.gtp_values.specs.declared.address.Endpoint.{Endpoint}
 use Rattle.gtp_reliable.specs.declared.held.Request.{Request}
-use Rattle.gtp_reliable.specs.declared.pair.Pair.{Pair}
+use Rattle.gtp_reliable.specs.declared.held_answer.Pair.{Pair}
 use Rattle.gtp_reliable.specs.Held.{HeldPair, just_kept, after_tick, Question, forgotten, IsFor, IsHeld, HasAnswer, AreApart}
 use Rattle.gtp_reliable.specs.Index.{after, asked, question, questions, question_at, named_at, IsIndex, IsGap}
 use Rattle.gtp_reliable.specs.Aging.{seen}
@@ -71,8 +72,11 @@ passed_same hold p = by_test (nat_lt (p.age + 1) hold) where
 
 apart_map : (f : HeldPair → HeldPair) (ps : List HeldPair) → ((p : HeldPair) → SameRequest (f p) p) → AreApart ps → AreApart (map f ps)
 apart_map f [] same d = tt
-apart_map f (q ∷ qs) same d =
-    (λ h. d.0 (subst (λ (s : Endpoint). IsHeld s q.request qs) (same q).source (subst (λ (r : List ℕ). IsHeld (f q).source r qs) (same q).request (held_map (f q).source (f q).request f qs same h))), apart_map f qs same d.1)
+apart_map f (q ∷ qs) same d = (
+  λ h. d.0 (subst (λ (s : Endpoint). IsHeld s q.request qs) (same q).source
+      (subst (λ (r : List ℕ). IsHeld (f q).source r qs) (same q).request (held_map (f q).source (f q).request f qs same h))),
+  apart_map f qs same d.1,
+)
 
 -- after a tick there are no more of them, and they stay apart
 pub ticked_count : (hold : ℕ) (ps : List HeldPair) → length (filter_map (after_tick hold) ps) ≤ length ps
@@ -85,7 +89,8 @@ ticked_apart hold ps d =
 
 -- ---- the index of a queue after a change
 
-pub pushed_pair : (first : ℕ) (index : List ℕ) (ps : List Pair) → IsIndex first index (questions ps) → (p : Pair) (i n : ℕ) → IsGap first index (questions ps) (asked p) i → after first n ≡ length ps → IsIndex first (insert index i n) (questions (ps ++ p ∷ []))
+pub pushed_pair : (first : ℕ) (index : List ℕ) (ps : List Pair) → IsIndex first index (questions ps) → (p : Pair) (i n : ℕ)
+    → IsGap first index (questions ps) (asked p) i → after first n ≡ length ps → IsIndex first (insert index i n) (questions (ps ++ p ∷ []))
 pushed_pair first index ps is p i n gap back =
     subst (IsIndex first (insert index i n)) (sym (map_push asked ps p)) (pushed first index (questions ps) is (asked p) i n gap (back ∙ sym (same_count ps)))
 
@@ -93,7 +98,8 @@ drop_asked : (ps : List Pair) → drop 1 (questions ps) ≡ questions (drop 1 ps
 drop_asked [] = refl
 drop_asked (p ∷ ps) = refl
 
-pub popped_pair : (first : ℕ) (index : List ℕ) (ps : List Pair) → 0 < length ps → IsIndex first index (questions ps) → first < 2 ^ 64 → (i : ℕ) → i < length index → named_at first index (questions ps) i ≡ question_at (questions ps) 0 → IsIndex ((first + 1) % 2 ^ 64) (remove index i) (questions (drop 1 ps))
+pub popped_pair : (first : ℕ) (index : List ℕ) (ps : List Pair) → 0 < length ps → IsIndex first index (questions ps) → first < 2 ^ 64 → (i : ℕ) → i < length index
+    → named_at first index (questions ps) i ≡ question_at (questions ps) 0 → IsIndex ((first + 1) % 2 ^ 64) (remove index i) (questions (drop 1 ps))
 popped_pair first index ps some is low i within found =
     subst (IsIndex ((first + 1) % 2 ^ 64) (remove index i)) (drop_asked ps) (popped_front first index (questions ps) (omega (arith, same_count ps, some)) is low i within found)
 
@@ -103,7 +109,8 @@ same_question : (a b : Endpoint) (x y : List ℕ) → a ≡ b → x ≡ y → qu
 same_question a b x y e f = ap (λ n. question n x) e ∙ ap (question b) f
 
 -- the pair at a place of the queue has its answer
-pub answer_at : (now : ℕ) (s : Endpoint) (r : List ℕ) (ps : List Pair) (k : ℕ) (p : Pair) (a : List ℕ) → k < length ps → p ≡ get_or ps k p → question_at (questions ps) k ≡ question s r → a ≡ p.answer.items → HasAnswer s r a (map (seen now) ps)
+pub answer_at : (now : ℕ) (s : Endpoint) (r : List ℕ) (ps : List Pair) (k : ℕ) (p : Pair) (a : List ℕ) → k < length ps → p ≡ get_or ps k p
+    → question_at (questions ps) k ≡ question s r → a ≡ p.answer.items → HasAnswer s r a (map (seen now) ps)
 answer_at now s r [] k p a lt is same gives = absurd (omega arith)
 answer_at now s r (q ∷ qs) zero p a lt is same gives =
     inl ((ap (λ (x : Question). x.source) same, ap (λ (x : Question). x.octets) same), sym (ap (λ (x : Pair). x.answer.items) is) ∙ sym gives)
@@ -121,7 +128,8 @@ place_of_held now s r (q ∷ qs) (inl f) = (0, omega arith, same_question q.sour
 place_of_held now s r (q ∷ qs) (inr h) = let at = place_of_held now s r qs h in (suc at.0, omega (arith, at.1), at.2)
 
 -- what the index doesn't name isn't held
-pub none_held : (now first : ℕ) (index : List ℕ) (ps : List Pair) (s : Endpoint) (r : List ℕ) (i : ℕ) → IsIndex first index (questions ps) → IsGap first index (questions ps) (question s r) i → IsHeld s r (map (seen now) ps) → ⊥
+pub none_held : (now first : ℕ) (index : List ℕ) (ps : List Pair) (s : Endpoint) (r : List ℕ) (i : ℕ) → IsIndex first index (questions ps)
+    → IsGap first index (questions ps) (question s r) i → IsHeld s r (map (seen now) ps) → ⊥
 none_held now first index ps s r i is gap h =
     let at = place_of_held now s r ps h in
     not_held first index (questions ps) (question s r) i is gap at.0 (omega (arith, same_count ps, at.1)) at.2
@@ -162,14 +170,17 @@ filter_map_map : {X Y Z : Type 0} (h : Y → Option Z) (f : X → Y) (xs : List 
 filter_map_map h f [] = refl
 filter_map_map h f (x ∷ xs) = ap (cons_option (h (f x))) (filter_map_map h f xs)
 
-filter_map_seen : (now hold : ℕ) (ps : List Pair) (i : ℕ) (p : Pair) (q : Question) → i < length ps → forgotten hold (seen now (get_or ps i p)) ≡ Some q → filter_map (forgotten hold) (map (seen now) (take (i + 1) ps)) ≡ filter_map (forgotten hold) (map (seen now) (take i ps)) ++ q ∷ []
+filter_map_seen : (now hold : ℕ) (ps : List Pair) (i : ℕ) (p : Pair) (q : Question) → i < length ps → forgotten hold (seen now (get_or ps i p)) ≡ Some q
+    → filter_map (forgotten hold) (map (seen now) (take (i + 1) ps)) ≡ filter_map (forgotten hold) (map (seen now) (take i ps)) ++ q ∷ []
 filter_map_seen now hold ps i p q lt e =
     filter_map_map (forgotten hold) (seen now) (take (i + 1) ps)
     ∙ (filter_map_some (λ (x : Pair). forgotten hold (seen now x)) ps i p q lt e
     ∙ ap (λ (qs : List Question). qs ++ q ∷ []) (sym (filter_map_map (forgotten hold) (seen now) (take i ps))))
 
 -- the loop over the pairs that are due, from the front
-pub forgotten_more : (now hold : ℕ) (ps : List Pair) (i : ℕ) (p : Pair) (so_far more : List Request) (r : Request) → map question_of so_far ≡ filter_map (forgotten hold) (map (seen now) (take i ps)) → i < length ps → p ≡ get_or ps i p → is_some (after_tick hold (seen now p)) ≡ false
+pub forgotten_more : (now hold : ℕ) (ps : List Pair) (i : ℕ) (p : Pair) (so_far more : List Request) (r : Request)
+    → map question_of so_far ≡ filter_map (forgotten hold) (map (seen now) (take i ps)) → i < length ps → p ≡ get_or ps i p
+    → is_some (after_tick hold (seen now p)) ≡ false
     → more ≡ so_far ++ r ∷ [] → r.source ≡ p.source → r.octets.items ≡ p.request.items → map question_of more ≡ filter_map (forgotten hold) (map (seen now) (take (i + 1) ps))
 forgotten_more now hold ps i p so_far more r before lt is gone pushed s o =
     ap (map question_of) pushed

@@ -1,5 +1,6 @@
 -- Slots after a change: which requests they have, and where each number stands.
-use Rattle.std.proofs.Common.{◌≡◌, ℕ, zero, suc, ◌+◌, ◌%◌, ◌^◌, ◌<◌, ◌≤◌, Bool, true, false, cond, List, [], ◌∷◌, ◌++◌, length, length-append, take, drop, get_or, set, add-one, subst, Option, Some, None, refl, sym, ap, ◌∙◌, arith}
+use Rattle.std.proofs.Common.{◌≡◌, ℕ, zero, suc, ◌+◌, ◌%◌, ◌^◌, ◌<◌, ◌≤◌, Bool, true, false, cond, List, [], ◌∷◌, ◌++◌, length, length-append, take}
+use Rattle.std.proofs.Common.{drop, get_or, set, add-one, subst, Option, Some, None, refl, sym, ap, ◌∙◌, arith}
 use Rattle.std.specs.Prelude.{◌==◌, nat_eq, not, filter, is_some}
 use Rattle.std.specs.Map.{lookup}
 use Rattle.std.proofs.lemmas.List.{set-get_or, get_or_default}
@@ -43,7 +44,8 @@ row_cons : {P : Type 0} (n : ℕ) (r : Sent P) (rs : List (Sent P)) → row_of n
 unfolding row_of
 row_cons n r rs = refl
 
-slot_at_by : {P : Type 0} (n first p : ℕ) (r : Sent P) (slots : List (Option (Sent P))) → first < 2 ^ 64 → length slots + 1 < 2 ^ 63 → (b : Bool) → (r.seq == n) ≡ b → cond b (Some first) (slot_of n ((first + 1) % 2 ^ 64) slots) ≡ Some p
+slot_at_by : {P : Type 0} (n first p : ℕ) (r : Sent P) (slots : List (Option (Sent P))) → first < 2 ^ 64 → length slots + 1 < 2 ^ 63 → (b : Bool)
+    → (r.seq == n) ≡ b → cond b (Some first) (slot_of n ((first + 1) % 2 ^ 64) slots) ≡ Some p
     → (slot_of n ((first + 1) % 2 ^ 64) slots ≡ Some p → IsAt n ((first + 1) % 2 ^ 64) p slots) → IsAt n first p (Some r ∷ slots)
 slot_at_by n first p r slots small few true e g rest =
     let here : first ≡ p = cc in
@@ -83,7 +85,8 @@ slot_at {P} n first p (None ∷ slots) small few h =
       number = k.number;
     }
 slot_at n first p (Some r ∷ slots) small few h =
-    slot_at_by n first p r slots small (omega arith) (r.seq == n) refl h (λ (g : slot_of n ((first + 1) % 2 ^ 64) slots ≡ Some p). slot_at n ((first + 1) % 2 ^ 64) p slots (omega arith) (omega arith) g)
+    slot_at_by n first p r slots small (omega arith) (r.seq == n) refl h
+    (λ (g : slot_of n ((first + 1) % 2 ^ 64) slots ≡ Some p). slot_at n ((first + 1) % 2 ^ 64) p slots (omega arith) (omega arith) g)
 
 -- ---- a request of another number
 
@@ -113,7 +116,8 @@ rows_push [] r = refl
 rows_push (None ∷ slots) r = rows_push slots r
 rows_push (Some q ∷ slots) r = ap (λ (l : List _). q ∷ l) (rows_push slots r)
 
-pub slot_push : {P : Type 0} (n first : ℕ) (slots : List (Option (Sent P))) (r : Sent P) → first < 2 ^ 64 → row_of r.seq (rows_of slots) ≡ None → slot_of n first (slots ++ Some r ∷ []) ≡ cond (nat_eq r.seq n) (Some ((first + length slots) % 2 ^ 64)) (slot_of n first slots)
+pub slot_push : {P : Type 0} (n first : ℕ) (slots : List (Option (Sent P))) (r : Sent P) → first < 2 ^ 64 → row_of r.seq (rows_of slots) ≡ None
+    → slot_of n first (slots ++ Some r ∷ []) ≡ cond (nat_eq r.seq n) (Some ((first + length slots) % 2 ^ 64)) (slot_of n first slots)
 unfolding slot_of row_of
 slot_push n first [] r small none = ap (λ (k : ℕ). cond (r.seq == n) (Some k) None) (omega arith)
 slot_push n first (None ∷ slots) r small none =
@@ -121,7 +125,8 @@ slot_push n first (None ∷ slots) r small none =
     ∙ ap (λ (k : ℕ). cond (r.seq == n) (Some k) (slot_of n ((first + 1) % 2 ^ 64) slots)) (omega arith)
 slot_push n first (Some q ∷ slots) r small none =
     let parts = none_parts (q.seq == r.seq) q (row_of r.seq (rows_of slots)) none in
-    either_order first (Some ((first + suc (length slots)) % 2 ^ 64)) (slot_of n ((first + 1) % 2 ^ 64) (slots ++ Some r ∷ [])) (slot_of n ((first + 1) % 2 ^ 64) slots) (q.seq == n) (r.seq == n) (not_both q.seq r.seq n parts.test)
+    either_order first (Some ((first + suc (length slots)) % 2 ^ 64)) (slot_of n ((first + 1) % 2 ^ 64) (slots ++ Some r ∷ []))
+    (slot_of n ((first + 1) % 2 ^ 64) slots) (q.seq == n) (r.seq == n) (not_both q.seq r.seq n parts.test)
     (slot_push n ((first + 1) % 2 ^ 64) slots r (omega arith) parts.rest ∙ ap (λ (k : ℕ). cond (r.seq == n) (Some k) (slot_of n ((first + 1) % 2 ^ 64) slots)) (omega arith))
 
 none_push : {P : Type 0} (n : ℕ) (rs : List (Sent P)) (r : Sent P) → row_of n rs ≡ None → (r.seq == n) ≡ false → row_of n (rs ++ r ∷ []) ≡ None
@@ -188,7 +193,8 @@ gap_front_by first o a true same none = none refl
 gap_front_by first o true false same none = absurd cc
 gap_front_by first o false false same none = refl
 
-pub gap_slot : {P : Type 0} (n first : ℕ) (slots : List (Option (Sent P))) (i : ℕ) (r : Sent P) → AreApart (rows_of slots) → get_or slots i None ≡ Some r → slot_of n first (set slots i None) ≡ cond (nat_eq r.seq n) None (slot_of n first slots)
+pub gap_slot : {P : Type 0} (n first : ℕ) (slots : List (Option (Sent P))) (i : ℕ) (r : Sent P) → AreApart (rows_of slots) → get_or slots i None ≡ Some r
+    → slot_of n first (set slots i None) ≡ cond (nat_eq r.seq n) None (slot_of n first slots)
 unfolding slot_of
 gap_slot n first [] i r a is = absurd cc
 gap_slot n first (None ∷ slots) zero r a is = absurd cc
@@ -232,26 +238,31 @@ cut_length meets (suc k) [] = refl
 cut_length meets (suc k) (slot ∷ slots) = ap (λ (n : ℕ). suc n) (cut_length meets k slots)
 
 -- one more, at which the test is met or not
-cut_next : {P : Type 0} (meets : P → Bool) (k : ℕ) (slots : List (Option (Sent P))) (d : Option (Sent P)) → k < length slots → cut_first meets (suc k) slots ≡ set (cut_first meets k slots) k (cut meets (get_or slots k d))
+cut_next : {P : Type 0} (meets : P → Bool) (k : ℕ) (slots : List (Option (Sent P))) (d : Option (Sent P)) → k < length slots
+    → cut_first meets (suc k) slots ≡ set (cut_first meets k slots) k (cut meets (get_or slots k d))
 unfolding cut_first
 cut_next meets k [] d lt = absurd (omega arith)
 cut_next meets zero (slot ∷ slots) d lt = refl
 cut_next meets (suc k) (slot ∷ slots) d lt = ap (λ (l : List _). cut meets slot ∷ l) (cut_next meets k slots d (omega arith))
 
-pub cut_one : {P : Type 0} (meets : P → Bool) (k : ℕ) (slots : List (Option (Sent P))) (slot : Option (Sent P)) (n : ℕ) → k < length slots → slot ≡ get_or slots k slot → number_where meets slot ≡ Some n → cut_first meets (k + 1) slots ≡ set (cut_first meets k slots) k None
+pub cut_one : {P : Type 0} (meets : P → Bool) (k : ℕ) (slots : List (Option (Sent P))) (slot : Option (Sent P)) (n : ℕ) → k < length slots
+    → slot ≡ get_or slots k slot → number_where meets slot ≡ Some n → cut_first meets (k + 1) slots ≡ set (cut_first meets k slots) k None
 cut_one meets k slots slot n lt is met =
     ap (λ (i : ℕ). cut_first meets i slots) (add-one k)
     ∙ (cut_next meets k slots slot lt
     ∙ ap (λ (s : Option _). set (cut_first meets k slots) k s) (ap (cut meets) (sym is) ∙ ap (λ (o : Option ℕ). cond (is_some o) None slot) met))
 
-pub cut_none : {P : Type 0} (meets : P → Bool) (k : ℕ) (slots : List (Option (Sent P))) (slot : Option (Sent P)) → k < length slots → slot ≡ get_or slots k slot → number_where meets slot ≡ None → cut_first meets (k + 1) slots ≡ cut_first meets k slots
+pub cut_none : {P : Type 0} (meets : P → Bool) (k : ℕ) (slots : List (Option (Sent P))) (slot : Option (Sent P)) → k < length slots → slot ≡ get_or slots k slot
+    → number_where meets slot ≡ None → cut_first meets (k + 1) slots ≡ cut_first meets k slots
 cut_none meets k slots slot lt is other =
     ap (λ (i : ℕ). cut_first meets i slots) (add-one k)
     ∙ (cut_next meets k slots slot lt
     ∙ (ap (λ (s : Option _). set (cut_first meets k slots) k s) (ap (cut meets) (sym is) ∙ (ap (λ (o : Option ℕ). cond (is_some o) None slot) other ∙ (is ∙ sym (cut_at meets k slots slot))))
     ∙ set-get_or (cut_first meets k slots) k slot))
 
-cut_other : {P : Type 0} (meets : P → Bool) (r : Sent P) (slots : List (Option (Sent P))) (rs : List (Sent P)) → rows_of slots ≡ others_of meets rs → (b : Bool) → meets r.purpose ≡ b → rows_of (cond (is_some (cond b (Some r.seq) None)) None (Some r) ∷ slots) ≡ cond (not b) (r ∷ others_of meets rs) (others_of meets rs)
+cut_other : {P : Type 0} (meets : P → Bool) (r : Sent P) (slots : List (Option (Sent P))) (rs : List (Sent P)) → rows_of slots ≡ others_of meets rs
+    → (b : Bool) → meets r.purpose ≡ b
+    → rows_of (cond (is_some (cond b (Some r.seq) None)) None (Some r) ∷ slots) ≡ cond (not b) (r ∷ others_of meets rs) (others_of meets rs)
 cut_other meets r slots rs h true e = h
 cut_other meets r slots rs h false e = ap (λ (l : List _). r ∷ l) h
 
@@ -265,7 +276,10 @@ cut_all meets (suc k) (Some r ∷ slots) le = cut_other meets r (cut_first meets
 
 -- ---- how many do not meet a test
 
-others_next : {P : Type 0} (meets : P → Bool) (k : ℕ) (slots : List (Option (Sent P))) (d : Option (Sent P)) → k < length slots → length (others_of meets (rows_of (take (suc k) slots))) ≡ cond (is_other meets (get_or slots k d)) (suc (length (others_of meets (rows_of (take k slots))))) (length (others_of meets (rows_of (take k slots))))
+others_next : {P : Type 0} (meets : P → Bool) (k : ℕ) (slots : List (Option (Sent P))) (d : Option (Sent P)) → k < length slots
+    → length (others_of meets (rows_of (take (suc k) slots)))
+    ≡ cond (is_other meets (get_or slots k d)) (suc (length (others_of meets (rows_of (take k slots)))))
+    (length (others_of meets (rows_of (take k slots))))
 others_next meets k [] d lt = absurd (omega arith)
 others_next meets zero (None ∷ slots) d lt = refl
 others_next meets zero (Some r ∷ slots) d lt = by (not (meets r.purpose))
@@ -276,12 +290,18 @@ others_next meets zero (Some r ∷ slots) d lt = by (not (meets r.purpose))
 others_next meets (suc k) (None ∷ slots) d lt = others_next meets k slots d (omega arith)
 others_next {P} meets (suc k) (Some r ∷ slots) d lt = by (not (meets r.purpose)) (is_other meets (get_or slots k d)) (others_next meets k slots d (omega arith))
   where
-    by : (b o : Bool) → length (others_of meets (rows_of (take (suc k) slots))) ≡ cond o (suc (length (others_of meets (rows_of (take k slots))))) (length (others_of meets (rows_of (take k slots)))) → length (cond b (r ∷ others_of meets (rows_of (take (suc k) slots))) (others_of meets (rows_of (take (suc k) slots)))) ≡ cond o (suc (length (cond b (r ∷ others_of meets (rows_of (take k slots))) (others_of meets (rows_of (take k slots)))))) (length (cond b (r ∷ others_of meets (rows_of (take k slots))) (others_of meets (rows_of (take k slots)))))
+    by : (b o : Bool) → length (others_of meets (rows_of (take (suc k) slots)))
+        ≡ cond o (suc (length (others_of meets (rows_of (take k slots))))) (length (others_of meets (rows_of (take k slots))))
+        → length (cond b (r ∷ others_of meets (rows_of (take (suc k) slots))) (others_of meets (rows_of (take (suc k) slots))))
+        ≡ cond o (suc (length (cond b (r ∷ others_of meets (rows_of (take k slots))) (others_of meets (rows_of (take k slots))))))
+        (length (cond b (r ∷ others_of meets (rows_of (take k slots))) (others_of meets (rows_of (take k slots)))))
     by false o h = h
     by true true h = ap (λ (n : ℕ). suc n) h
     by true false h = ap (λ (n : ℕ). suc n) h
 
-pub others_more : {P : Type 0} (meets : P → Bool) (k : ℕ) (slots : List (Option (Sent P))) (slot : Option (Sent P)) (b : Bool) → k < length slots → slot ≡ get_or slots k slot → is_other meets slot ≡ b → length (others_of meets (rows_of (take (k + 1) slots))) ≡ cond b (suc (length (others_of meets (rows_of (take k slots))))) (length (others_of meets (rows_of (take k slots))))
+pub others_more : {P : Type 0} (meets : P → Bool) (k : ℕ) (slots : List (Option (Sent P))) (slot : Option (Sent P)) (b : Bool) → k < length slots
+    → slot ≡ get_or slots k slot → is_other meets slot ≡ b → length (others_of meets (rows_of (take (k + 1) slots)))
+    ≡ cond b (suc (length (others_of meets (rows_of (take k slots))))) (length (others_of meets (rows_of (take k slots))))
 others_more meets k slots slot b lt is e =
     ap (λ (i : ℕ). length (others_of meets (rows_of (take i slots)))) (add-one k)
     ∙ (others_next meets k slots slot lt
@@ -315,7 +335,9 @@ back_by : (b : Bool) (first new : ℕ) (o : Option ℕ) → cond b (Some new) (c
 back_by true first new o = refl
 back_by false first new o = refl
 
-pub back_slot : {P : Type 0} (n first : ℕ) (rest : List (Option (Sent P))) (r b : Sent P) → AreApart (rows_of (Some r ∷ rest)) → b.seq ≡ r.seq → cond (nat_eq r.seq n) (Some (((first + 1) % 2 ^ 64 + length rest) % 2 ^ 64)) (slot_of n first (Some r ∷ rest)) ≡ slot_of n ((first + 1) % 2 ^ 64) (rest ++ Some b ∷ [])
+pub back_slot : {P : Type 0} (n first : ℕ) (rest : List (Option (Sent P))) (r b : Sent P) → AreApart (rows_of (Some r ∷ rest)) → b.seq ≡ r.seq
+    → cond (nat_eq r.seq n) (Some (((first + 1) % 2 ^ 64 + length rest) % 2 ^ 64)) (slot_of n first (Some r ∷ rest))
+    ≡ slot_of n ((first + 1) % 2 ^ 64) (rest ++ Some b ∷ [])
 unfolding slot_of
 back_slot n first rest r b apart same =
     back_by (r.seq == n) first (((first + 1) % 2 ^ 64 + length rest) % 2 ^ 64) (slot_of n ((first + 1) % 2 ^ 64) rest)
@@ -330,7 +352,9 @@ back_count rest b = omega (arith, ap length (rows_push rest b), length-append (r
 
 -- ---- a request that ends
 
-pub cut_names : {P : Type 0} (names new : List (ℕ × ℕ)) (first : ℕ) (slots : List (Option (Sent P))) (i : ℕ) (r : Sent P) → AreNamed names first slots → AreApart (rows_of slots) → get_or slots i None ≡ Some r → ((n : ℕ) → lookup (nat_eq n) new ≡ cond (nat_eq r.seq n) None (lookup (nat_eq n) names)) → AreNamed new first (set slots i None)
+pub cut_names : {P : Type 0} (names new : List (ℕ × ℕ)) (first : ℕ) (slots : List (Option (Sent P))) (i : ℕ) (r : Sent P) → AreNamed names first slots
+    → AreApart (rows_of slots) → get_or slots i None ≡ Some r
+    → ((n : ℕ) → lookup (nat_eq n) new ≡ cond (nat_eq r.seq n) None (lookup (nat_eq n) names)) → AreNamed new first (set slots i None)
 cut_names names new first slots i r named apart is taken = λ n. taken n ∙ (ap (λ (o : Option ℕ). cond (nat_eq r.seq n) None o) (named n) ∙ sym (gap_slot n first slots i r apart is))
 
 pub cut_apart : {P : Type 0} (slots : List (Option (Sent P))) (i : ℕ) (r : Sent P) → AreApart (rows_of slots) → get_or slots i None ≡ Some r → AreApart (rows_of (set slots i None))
@@ -380,8 +404,10 @@ pub record AreCut {P : Type 0} (meets : P → Bool) (k : ℕ) (all : List (Optio
   pub apart : AreApart (rows_of slots)
   pub count : length names ≡ length (rows_of slots)
 
-pub cut_step : {P : Type 0} (meets : P → Bool) (k : ℕ) (all slots : List (Option (Sent P))) (names new : List (ℕ × ℕ)) (first : ℕ) (slot : Option (Sent P)) (n : ℕ) (o : Option ℕ) → AreCut meets k all names first slots → k < length all → slot ≡ get_or slots k slot → number_where meets slot ≡ Some n
-    → o ≡ lookup (nat_eq n) names → ((q : ℕ) → lookup (nat_eq q) new ≡ cond (nat_eq n q) None (lookup (nat_eq q) names)) → length new + cond (is_some o) 1 0 ≡ length names → AreCut meets (k + 1) all new first (set slots k None)
+pub cut_step : {P : Type 0} (meets : P → Bool) (k : ℕ) (all slots : List (Option (Sent P))) (names new : List (ℕ × ℕ)) (first : ℕ) (slot : Option (Sent P))
+    (n : ℕ) (o : Option ℕ) → AreCut meets k all names first slots → k < length all → slot ≡ get_or slots k slot → number_where meets slot ≡ Some n
+    → o ≡ lookup (nat_eq n) names → ((q : ℕ) → lookup (nat_eq q) new ≡ cond (nat_eq n q) None (lookup (nat_eq q) names))
+    → length new + cond (is_some o) 1 0 ≡ length names → AreCut meets (k + 1) all new first (set slots k None)
 cut_step meets k all slots names new first slot n o before lt is goes was taken fewer =
     let m = met meets slot n goes in
     let within : k < length slots = omega (arith, ap length before.is_cut, cut_length meets k all) in

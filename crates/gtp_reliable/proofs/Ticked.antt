@@ -1,5 +1,6 @@
 -- What a tick makes of the rows, and of the requests that contracts see.
-use Rattle.std.proofs.Common.{◌≡◌, ℕ, zero, suc, ◌+◌, ◌-◌, ◌*◌, ◌%◌, ◌^◌, ◌<◌, ◌≤◌, Bool, true, false, cond, List, [], ◌∷◌, ◌++◌, length, map, take, drop, get_or, Option, Some, None, refl, sym, ap, subst, ◌∙◌, arith, ◌⊎◌, inl, inr}
+use Rattle.std.proofs.Common.{◌≡◌, ℕ, zero, suc, ◌+◌, ◌-◌, ◌*◌, ◌%◌, ◌^◌, ◌<◌, ◌≤◌, Bool, true, false, cond, List, [], ◌∷◌, ◌++◌, length, map, take}
+use Rattle.std.proofs.Common.{drop, get_or, Option, Some, None, refl, sym, ap, subst, ◌∙◌, arith, ◌⊎◌, inl, inr}
 use Rattle.std.specs.Prelude.{not, nat_lt, filter, option_to_list, option_map, slice_get}
 use Rattle.std.specs.List.{AllByRecursion, filter_map, cons_option}
 use Rattle.std.proofs.lemmas.List.{append-nil, append_assoc, map-append, drop_more, take_more, drop_all, take_all}
@@ -153,7 +154,8 @@ module _ {P : Type 0} (t3 n3 now : ℕ) where
   all_new [] = tt
   all_new (r ∷ rs) = by (waits_on t3 now r) (nat_lt r.resent n3) (all_new rs)
     where
-      by : (a b : Bool) → AllByRecursion IsNew (later (renewed t3 n3 now rs)) → AllByRecursion IsNew (later (cons_option (cond a None (cond b (Some (record r { sent = next now; resent = r.resent + 1 })) None)) (renewed t3 n3 now rs)))
+      by : (a b : Bool) → AllByRecursion IsNew (later (renewed t3 n3 now rs)) → AllByRecursion IsNew
+          (later (cons_option (cond a None (cond b (Some (record r { sent = next now; resent = r.resent + 1 })) None)) (renewed t3 n3 now rs)))
       by true b h = h
       by false true h = (just_now now, h)
       by false false h = h
@@ -179,11 +181,13 @@ module _ {P : Type 0} (t3 n3 now : ℕ) where
 
   -- ---- still in turn
 
-  turn_calm_one : (r : Sent P) (rs : List (Sent P)) → since r.sent now + 1 < t3 → t3 ≤ 1000 → AllByRecursion (IsBefore (seen now r)) (map (seen now) rs) → AllByRecursion (IsBefore (seen (next now) r)) (later (calm t3 now rs))
+  turn_calm_one : (r : Sent P) (rs : List (Sent P)) → since r.sent now + 1 < t3 → t3 ≤ 1000 → AllByRecursion (IsBefore (seen now r)) (map (seen now) rs)
+      → AllByRecursion (IsBefore (seen (next now) r)) (later (calm t3 now rs))
   turn_calm_one r [] lt few all = tt
   turn_calm_one r (q ∷ rs) lt few all = by (waits_on t3 now q) refl (turn_calm_one r rs lt few all.1)
     where
-      by : (b : Bool) → waits_on t3 now q ≡ b → AllByRecursion (IsBefore (seen (next now) r)) (later (calm t3 now rs)) → AllByRecursion (IsBefore (seen (next now) r)) (later (cond b (q ∷ calm t3 now rs) (calm t3 now rs)))
+      by : (b : Bool) → waits_on t3 now q ≡ b → AllByRecursion (IsBefore (seen (next now) r)) (later (calm t3 now rs))
+          → AllByRecursion (IsBefore (seen (next now) r)) (later (cond b (q ∷ calm t3 now rs) (calm t3 now rs)))
       by true e h =
           let less = on_is q e in
           let one = one_later r.sent now (omega (arith, lt, few)) in
@@ -203,12 +207,15 @@ module _ {P : Type 0} (t3 n3 now : ℕ) where
           (omega (arith, one, lt), turn_calm_one r rs lt few turn.1, h)
       by false e h = h
 
-  turn_renewed_one : (r : Sent P) (rs : List (Sent P)) → t3 ≤ since r.sent now + 1 → since r.sent now < t3 → AllByRecursion (IsBefore (seen now r)) (map (seen now) rs) → AllByRecursion (IsBefore (record (seen now r) { waited = 0; resent = r.resent + 1 })) (later (renewed t3 n3 now rs))
+  turn_renewed_one : (r : Sent P) (rs : List (Sent P)) → t3 ≤ since r.sent now + 1 → since r.sent now < t3
+      → AllByRecursion (IsBefore (seen now r)) (map (seen now) rs)
+      → AllByRecursion (IsBefore (record (seen now r) { waited = 0; resent = r.resent + 1 })) (later (renewed t3 n3 now rs))
   turn_renewed_one r [] last lt all = tt
   turn_renewed_one r (q ∷ rs) last lt all = by (waits_on t3 now q) (nat_lt q.resent n3) refl (turn_renewed_one r rs last lt all.1)
     where
       by : (a b : Bool) → waits_on t3 now q ≡ a → AllByRecursion (IsBefore (record (seen now r) { waited = 0; resent = r.resent + 1 })) (later (renewed t3 n3 now rs))
-          → AllByRecursion (IsBefore (record (seen now r) { waited = 0; resent = r.resent + 1 })) (later (cons_option (cond a None (cond b (Some (record q { sent = next now; resent = q.resent + 1 })) None)) (renewed t3 n3 now rs)))
+          → AllByRecursion (IsBefore (record (seen now r) { waited = 0; resent = r.resent + 1 }))
+          (later (cons_option (cond a None (cond b (Some (record q { sent = next now; resent = q.resent + 1 })) None)) (renewed t3 n3 now rs)))
       by true b e h = h
       by false true e h =
           let due = due_is q e in
@@ -222,11 +229,16 @@ module _ {P : Type 0} (t3 n3 now : ℕ) where
   turn_renewed [] some turn = tt
   turn_renewed (r ∷ rs) some turn = by (waits_on t3 now r) (nat_lt r.resent n3) refl (turn_renewed rs some turn.2)
     where
-      by : (a b : Bool) → waits_on t3 now r ≡ a → AreInTurn t3 (later (renewed t3 n3 now rs)) → AreInTurn t3 (later (cons_option (cond a None (cond b (Some (record r { sent = next now; resent = r.resent + 1 })) None)) (renewed t3 n3 now rs)))
+      by : (a b : Bool) → waits_on t3 now r ≡ a → AreInTurn t3 (later (renewed t3 n3 now rs)) → AreInTurn t3
+          (later (cons_option (cond a None (cond b (Some (record r { sent = next now; resent = r.resent + 1 })) None)) (renewed t3 n3 now rs)))
       by true b e h = h
       by false true e h =
-          let none = just_now now in
-          (omega (arith, none, some), subst (λ (n : ℕ). AllByRecursion (IsBefore (record (seen now r) { waited = n; resent = r.resent + 1 })) (later (renewed t3 n3 now rs))) (sym none) (turn_renewed_one r rs (due_is r e) turn.0 turn.1), h)
+          let none = just_now now in (
+            omega (arith, none, some),
+            subst (λ (n : ℕ). AllByRecursion (IsBefore (record (seen now r) { waited = n; resent = r.resent + 1 })) (later (renewed t3 n3 now rs)))
+                (sym none) (turn_renewed_one r rs (due_is r e) turn.0 turn.1),
+            h,
+          )
       by false false e h = h
 
   old_before : (w : Waiting P) (vs : List (Waiting P)) → IsOld w → AllByRecursion IsNew vs → AllByRecursion (IsBefore w) vs
@@ -369,7 +381,8 @@ module _ {P : Type 0} (t3 n3 now : ℕ) where
   ticked_off (suc m) rs e = ap (λ (b : Bool). cond b (ticked t3 n3 now m (ticked_front n3 now rs)) rs) e
 
   -- one turn: what is left of so many
-  pub ticked_more : (n i : ℕ) (rs new all : List (Sent P)) → i < n → ticked t3 n3 now (n - i) rs ≡ all → front_is_due t3 now rs ≡ true → new ≡ ticked t3 n3 now 1 rs → ticked t3 n3 now (n - (i + 1)) new ≡ all
+  pub ticked_more : (n i : ℕ) (rs new all : List (Sent P)) → i < n → ticked t3 n3 now (n - i) rs ≡ all → front_is_due t3 now rs ≡ true → new ≡ ticked t3 n3 now 1 rs
+      → ticked t3 n3 now (n - (i + 1)) new ≡ all
   ticked_more n i rs new all lt before due is =
       let e : n - i ≡ suc (n - (i + 1)) = omega (arith, lt) in
       ap (ticked t3 n3 now (n - (i + 1))) is ∙ (sym (ticked_on (n - (i + 1)) rs due) ∙ (ap (λ (m : ℕ). ticked t3 n3 now m rs) (sym e) ∙ before))
@@ -383,7 +396,8 @@ module _ {P : Type 0} (t3 n3 now : ℕ) where
 
 -- ---- each request behind all others once
 
-pub turned_on : {P : Type 0} (rs : List (Sent P)) (i : ℕ) (r : Sent P) → i < length rs → Some r ≡ slice_get (drop i rs ++ take i rs) 0 → moved r.sent r.resent (drop i rs ++ take i rs) ≡ drop (i + 1) rs ++ take (i + 1) rs
+pub turned_on : {P : Type 0} (rs : List (Sent P)) (i : ℕ) (r : Sent P) → i < length rs → Some r ≡ slice_get (drop i rs ++ take i rs) 0
+    → moved r.sent r.resent (drop i rs ++ take i rs) ≡ drop (i + 1) rs ++ take (i + 1) rs
 turned_on {P} rs i r lt h =
     let x = get_or rs i r in
     let here : drop i rs ++ take i rs ≡ x ∷ (drop (i + 1) rs ++ take i rs) = ap (λ (l : List (Sent P)). l ++ take i rs) (drop_more rs i r lt) in

@@ -26,11 +26,13 @@ filter_twice f g (x ∷ xs) = filter_cons f (g x) x (filter g xs) ∙ ap (λ (l 
 
 -- ---- rows as contracts see them
 
-pub seen_filter : {P : Type 0} (now : ℕ) (p : Waiting P → Bool) (q : Sent P → Bool) (rs : List (Sent P)) → ((r : Sent P) → p (seen now r) ≡ q r) → map (seen now) (filter q rs) ≡ filter p (map (seen now) rs)
+pub seen_filter : {P : Type 0} (now : ℕ) (p : Waiting P → Bool) (q : Sent P → Bool) (rs : List (Sent P)) → ((r : Sent P) → p (seen now r) ≡ q r)
+    → map (seen now) (filter q rs) ≡ filter p (map (seen now) rs)
 seen_filter now p q [] same = refl
 seen_filter {P} now p q (r ∷ rs) same = by (q r) (seen_filter now p q rs same) ∙ ap (λ (b : Bool). cond b (seen now r ∷ filter p (map (seen now) rs)) (filter p (map (seen now) rs))) (sym (same r))
   where
-    by : (b : Bool) → map (seen now) (filter q rs) ≡ filter p (map (seen now) rs) → map (seen now) (cond b (r ∷ filter q rs) (filter q rs)) ≡ cond b (seen now r ∷ filter p (map (seen now) rs)) (filter p (map (seen now) rs))
+    by : (b : Bool) → map (seen now) (filter q rs) ≡ filter p (map (seen now) rs)
+        → map (seen now) (cond b (r ∷ filter q rs) (filter q rs)) ≡ cond b (seen now r ∷ filter p (map (seen now) rs)) (filter p (map (seen now) rs))
     by true h = ap (λ (l : List (Waiting P)). seen now r ∷ l) h
     by false h = h
 
@@ -39,7 +41,8 @@ unfolding row_of purpose_of
 seen_purpose now n [] = refl
 seen_purpose {P} now n (r ∷ rs) = by (r.seq == n) (seen_purpose now n rs)
   where
-    by : (b : Bool) → option_map (λ (x : Sent P). x.purpose) (row_of n rs) ≡ purpose_of n (map (seen now) rs) → option_map (λ (x : Sent P). x.purpose) (cond b (Some r) (row_of n rs)) ≡ cond b (Some r.purpose) (purpose_of n (map (seen now) rs))
+    by : (b : Bool) → option_map (λ (x : Sent P). x.purpose) (row_of n rs) ≡ purpose_of n (map (seen now) rs)
+        → option_map (λ (x : Sent P). x.purpose) (cond b (Some r) (row_of n rs)) ≡ cond b (Some r.purpose) (purpose_of n (map (seen now) rs))
     by true h = refl
     by false h = h
 
@@ -48,7 +51,8 @@ unfolding row_of is_pending
 seen_pending now n [] = refl
 seen_pending {P} now n (r ∷ rs) = by (r.seq == n) (seen_pending now n rs)
   where
-    by : (b : Bool) → is_some (row_of n rs) ≡ list_any (λ (w : Waiting P). w.seq == n) (map (seen now) rs) → is_some (cond b (Some r) (row_of n rs)) ≡ (b || list_any (λ (w : Waiting P). w.seq == n) (map (seen now) rs))
+    by : (b : Bool) → is_some (row_of n rs) ≡ list_any (λ (w : Waiting P). w.seq == n) (map (seen now) rs)
+        → is_some (cond b (Some r) (row_of n rs)) ≡ (b || list_any (λ (w : Waiting P). w.seq == n) (map (seen now) rs))
     by true h = refl
     by false h = h
 

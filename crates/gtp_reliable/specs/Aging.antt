@@ -1,7 +1,7 @@
 -- The ages of held pairs, told by the tick that it is.
 use Rattle.std.specs.Prelude.{ℕ, ◌+◌, ◌<◌, ◌≤◌, Bool, false, not, nat_lt, List, [], ◌∷◌, map}
 use Rattle.std.specs.List.{AllByRecursion}
-use Rattle.gtp_reliable.specs.declared.pair.Pair.{Pair}
+use Rattle.gtp_reliable.specs.declared.held_answer.Pair.{Pair}
 use Rattle.gtp_reliable.specs.Index.{after}
 use Rattle.gtp_reliable.specs.Held.{HeldPair, Answers}
 

@@ -4,7 +4,7 @@ use Rattle.std.specs.Prelude.{slice_index_or}
 use Rattle.std.specs.declared.cmp.Ordering.TheVariants.{Less, Greater}
 use Rattle.gtp_values.specs.declared.address.Ip.TheVariants.{V4}
 use Rattle.gtp_values.specs.declared.address.Endpoint.{Endpoint}
-use Rattle.gtp_reliable.specs.declared.pair.Pair.{Pair}
+use Rattle.gtp_reliable.specs.declared.held_answer.Pair.{Pair}
 use Rattle.gtp_reliable.specs.Held.{Question}
 use Rattle.gtp_reliable.specs.Order.{question_cmp}
 

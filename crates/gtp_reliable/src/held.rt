@@ -9,7 +9,7 @@ ghost use Rattle.gtp_reliable.specs.Held.{AreAnswers, HasAnswer, IsHold, IsReady
 ghost use Rattle.gtp_reliable.specs.Forgotten.{question_of};
 
 use crate::fault::ReliableFault;
-use crate::pair::Pair;
+use crate::held_answer::Pair;
 use crate::queue::{find, forgotten_by_tick, keep, place_of, tick_all};
 use gtp_values::Endpoint;
 use std::alloc::Global;

@@ -4,9 +4,9 @@
 
 mod fault;
 mod held;
+mod held_answer;
 pub mod laws;
 mod numbered;
-mod pair;
 mod pending;
 mod queue;
 mod rows;

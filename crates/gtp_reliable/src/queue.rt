@@ -11,7 +11,7 @@ ghost use Rattle.gtp_reliable.specs.Index.{AreLower, AreHigher, IsGap, IsIndex};
 ghost use Rattle.gtp_reliable.specs.Aging.{seen, is_due, AreAging};
 
 use crate::held::Request;
-use crate::pair::Pair;
+use crate::held_answer::Pair;
 use gtp_values::Endpoint;
 use std::alloc::{AllocError, Global};
 use std::cmp::Ordering;

@@ -45,6 +45,8 @@ fitting : (frames : List WrittenDatagram) → All Fits (map sent_of frames) → 
 fitting [] h = All-nil IsFitting
 fitting (s ∷ frames) h = All-cons IsFitting s frames (All-head Fits (sent_of s) (map sent_of frames) h) (fitting frames (All-tail Fits (sent_of s) (map sent_of frames) h))
 
-pub all_fitting : (frames held : List WrittenDatagram) (datagrams : List (By Datagram)) (notes : List EventRecord) → HavePackets datagrams → held ≡ frames → map sent_of frames ≡ frames_from 0 (enumerate_from 0 datagrams) notes → All IsFitting held
+pub all_fitting : (frames held : List WrittenDatagram) (datagrams : List (By Datagram)) (notes : List EventRecord) → HavePackets datagrams → held ≡ frames
+    → map sent_of frames ≡ frames_from 0 (enumerate_from 0 datagrams) notes → All IsFitting held
 all_fitting frames held datagrams notes has same are =
-    subst (λ l. All IsFitting l) (sym same) (fitting frames (subst (λ l. All Fits l) (sym are) (all_fit (enumerate_from 0 datagrams) (frames_from 0 (enumerate_from 0 datagrams) notes) (all_framed datagrams notes has))))
+    subst (λ l. All IsFitting l) (sym same) (fitting frames (subst (λ l. All Fits l) (sym are)
+    (all_fit (enumerate_from 0 datagrams) (frames_from 0 (enumerate_from 0 datagrams) notes) (all_framed datagrams notes has))))

@@ -29,7 +29,8 @@ one_verdict false true there back = back refl
 one_verdict false false there back = refl
 
 -- lines that say the same of each
-each_one : {X : Type 0} (P Q : X → Type 0) (line : X → Bool → List ℕ) (xs : List X) (a b : List ℕ) → ((x : X) → P x → Q x) → ((x : X) → Q x → P x) → TellsEach P line xs a → TellsEach Q line xs b → a ≡ b
+each_one : {X : Type 0} (P Q : X → Type 0) (line : X → Bool → List ℕ) (xs : List X) (a b : List ℕ) → ((x : X) → P x → Q x) → ((x : X) → Q x → P x)
+    → TellsEach P line xs a → TellsEach Q line xs b → a ≡ b
 each_one P Q line [] a b there back r s = r ∙ sym s
 each_one P Q line (x ∷ xs) a b there back (v, others, holds, rest, is) (w, others_too, holds_too, rest_too, is_too) =
     let verdict : v ≡ w = one_verdict v w (λ t. holds_too.1 (there x (holds.0 t))) (λ t. holds.1 (back x (holds_too.0 t))) in
@@ -51,21 +52,30 @@ report_one events one other text other_text alike r s =
     (λ e o. subst (λ (l : Log). WasOwed l e) alike.log o)
     (λ e o. subst (λ (l : Log). WasOwed l e) (sym alike.log) o)
     r.owed (subst (λ (l : Log). TellsEach (WasOwed other.log) taken_line l.accepted s.taken) (sym alike.log) s.owed) in
-    r.whole ∙ ((λ i. events_text events (alike.log i).datagrams (alike.log i).notes ++ node_text Serving (serving i) ++ node_text Packet (packet i) ++ agreeing i ++ owed i ++ late_line (alike.log i).late) ∙ sym s.whole)
+    r.whole ∙ ((λ i.
+    events_text events (alike.log i).datagrams (alike.log i).notes ++ node_text Serving (serving i) ++ node_text Packet (packet i) ++ agreeing i
+    ++ owed i ++ late_line (alike.log i).late) ∙ sym s.whole)
 
-scenario_forms : (form other : Form) (scenario : Scenario) (text other_text : List ℕ) (verdict other_verdict : Verdict) → TellsScenario form scenario text verdict → TellsScenario other scenario other_text other_verdict → (verdict ≡ other_verdict) × OfOneRun form other scenario text other_text
+scenario_forms : (form other : Form) (scenario : Scenario) (text other_text : List ℕ) (verdict other_verdict : Verdict) → TellsScenario form scenario text verdict
+    → TellsScenario other scenario other_text other_verdict → (verdict ≡ other_verdict) × OfOneRun form other scenario text other_text
 scenario_forms form other scenario text other_text verdict other_verdict r s =
     let alike = follow_one scenario.setup (events_of scenario) r.world s.world r.run.comes s.run.comes in (
       r.verdict_is ∙ (ap (λ (l : Log). verdict_by (first_unmet scenario.entries l.notes)) alike.log ∙ sym s.verdict_is),
       record { world = r.world; other_world = s.world; alike = alike; text_is = r.text_is; other_is = s.text_is },
     )
 
-forms_by : (form other : Form) (text other_text : List ℕ) (verdict other_verdict : Verdict) (reading : Result Scenario Refusal) → TellsReading form reading text verdict → TellsReading other reading other_text other_verdict → (verdict ≡ other_verdict) × MatchResult reading (λ scenario. OfOneRun form other scenario text other_text) (λ _. text ≡ other_text)
+forms_by : (form other : Form) (text other_text : List ℕ) (verdict other_verdict : Verdict) (reading : Result Scenario Refusal)
+    → TellsReading form reading text verdict → TellsReading other reading other_text other_verdict
+    → (verdict ≡ other_verdict) × MatchResult reading (λ scenario. OfOneRun form other scenario text other_text) (λ _. text ≡ other_text)
 forms_by form other text other_text verdict other_verdict (Ok scenario) p q = scenario_forms form other scenario text other_text verdict other_verdict p q
 forms_by form other text other_text verdict other_verdict (Err refusal) p q = (p.verdict_is ∙ sym q.verdict_is, p.line ∙ sym q.line)
 
 pub forms_one : FormsAreOfOneRun
 forms_one form other octets text other_text verdict other_verdict r s =
     let same = one_reading octets s.reading r.reading s.of r.of in
-    let both = forms_by form other text other_text verdict other_verdict r.reading r.tells (subst (λ (o : Result Scenario Refusal). TellsReading other o other_text other_verdict) same s.tells) in
-    (both.0, λ reading is. subst (λ (o : Result Scenario Refusal). MatchResult o (λ scenario. OfOneRun form other scenario text other_text) (λ _. text ≡ other_text)) (one_reading octets r.reading reading r.of is) both.1)
+    let both = forms_by form other text other_text verdict other_verdict r.reading r.tells (subst (λ (o : Result Scenario Refusal). TellsReading other o other_text other_verdict) same s.tells) in (
+      both.0,
+      λ reading is.
+          subst (λ (o : Result Scenario Refusal). MatchResult o (λ scenario. OfOneRun form other scenario text other_text) (λ _. text ≡ other_text))
+          (one_reading octets r.reading reading r.of is) both.1,
+    )

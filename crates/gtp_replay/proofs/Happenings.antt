@@ -8,13 +8,15 @@ use Rattle.gtp_replay.specs.Rows.{Happened, all_from}
 use Rattle.gtp_outcomes.proofs.Numbered.{front_is, rest_is}
 
 -- nothing is left once a list has ended
-pub no_more : {E N : Type 0} (event_of : E → Event) (told_by : N → EventRecord) (sent : List (ℕ × By Datagram)) (events : List E) (notes : List N) → (events ≡ []) ⊎ (notes ≡ []) → all_from sent (map event_of events) (map told_by notes) ≡ []
+pub no_more : {E N : Type 0} (event_of : E → Event) (told_by : N → EventRecord) (sent : List (ℕ × By Datagram)) (events : List E) (notes : List N)
+    → (events ≡ []) ⊎ (notes ≡ []) → all_from sent (map event_of events) (map told_by notes) ≡ []
 no_more event_of told_by sent events notes (inl is) = ap (λ l. all_from sent (map event_of l) (map told_by notes)) is
 no_more event_of told_by sent [] notes (inr is) = refl
 no_more event_of told_by sent (event ∷ events) notes (inr is) = ap (λ l. all_from sent (map event_of (event ∷ events)) (map told_by l)) is
 
 -- an event more
-pub one_more : {D : Type 0} (f : D → By Datagram) (next count : ℕ) (rest front back : List D) (event : Event) (told : EventRecord) (h : Happened) (events_left events : List Event) (notes_left notes : List EventRecord) (before mid new : List Happened)
+pub one_more : {D : Type 0} (f : D → By Datagram) (next count : ℕ) (rest front back : List D) (event : Event) (told : EventRecord) (h : Happened)
+    (events_left events : List Event) (notes_left notes : List EventRecord) (before mid new : List Happened)
     → count ≡ min (length rest) told.sent → front ≡ take count rest → back ≡ drop count rest
     → h ≡ record { event = event; told = told; sent = enumerate_from next (map f front) }
     → new ≡ mid ++ h ∷ []

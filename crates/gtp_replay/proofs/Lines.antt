@@ -8,13 +8,16 @@ use Rattle.gtp_replay.specs.Events.{event_lines, lines_from}
 use Rattle.gtp_outcomes.proofs.Numbered.{front_is, rest_is}
 
 -- nothing is left once a list has ended
-pub no_lines : {D E N : Type 0} (f : D → By Datagram) (event_of : E → Event) (told_by : N → EventRecord) (place next : ℕ) (rest : List D) (events : List E) (notes : List N) → (events ≡ []) ⊎ (notes ≡ []) → lines_from place (enumerate_from next (map f rest)) (map event_of events) (map told_by notes) ≡ []
+pub no_lines : {D E N : Type 0} (f : D → By Datagram) (event_of : E → Event) (told_by : N → EventRecord) (place next : ℕ) (rest : List D) (events : List E)
+    (notes : List N) → (events ≡ []) ⊎ (notes ≡ [])
+    → lines_from place (enumerate_from next (map f rest)) (map event_of events) (map told_by notes) ≡ []
 no_lines f event_of told_by place next rest events notes (inl is) = ap (λ l. lines_from place (enumerate_from next (map f rest)) (map event_of l) (map told_by notes)) is
 no_lines f event_of told_by place next rest [] notes (inr is) = refl
 no_lines f event_of told_by place next rest (event ∷ events) notes (inr is) = ap (λ l. lines_from place (enumerate_from next (map f rest)) (map event_of (event ∷ events)) (map told_by l)) is
 
 -- an event more
-pub one_event : {D : Type 0} (f : D → By Datagram) (at place after next count : ℕ) (rest front back : List D) (event : Event) (told : EventRecord) (events_left events : List Event) (notes_left notes : List EventRecord) (before mid new : List ℕ)
+pub one_event : {D : Type 0} (f : D → By Datagram) (at place after next count : ℕ) (rest front back : List D) (event : Event) (told : EventRecord)
+    (events_left events : List Event) (notes_left notes : List EventRecord) (before mid new : List ℕ)
     → place ≡ at → after ≡ at + 1
     → count ≡ min (length rest) told.sent → front ≡ take count rest → back ≡ drop count rest
     → new ≡ mid ++ event_lines place (enumerate_from next (map f front)) event told

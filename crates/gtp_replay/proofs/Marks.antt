@@ -1,5 +1,6 @@
 -- Which datagrams come, event by event.
-use Rattle.std.proofs.Common.{arith, ◌≡◌, ◌∷◌, ◌++◌, append_assoc, ℕ, ◌+◌, ◌<◌, ◌==◌, Bool, true, false, ◌||◌, if◌then◌else◌, List, map, length, take, drop, get_or, slice_get, option_map, Option, Some, None, option_and_then, refl, sym, ap, ◌∙◌, subst}
+use Rattle.std.proofs.Common.{arith, ◌≡◌, ◌∷◌, ◌++◌, append_assoc, ℕ, ◌+◌, ◌<◌, ◌==◌, Bool, true, false, ◌||◌, if◌then◌else◌, List, map, length, take}
+use Rattle.std.proofs.Common.{drop, get_or, slice_get, option_map, Option, Some, None, option_and_then, refl, sym, ap, ◌∙◌, subst}
 use Rattle.std.specs.Option.{option_map_or}
 use Rattle.std.specs.List.{flat_map, list_any}
 use Rattle.std.proofs.lemmas.Option.{slice_get_within, slice_get-map, slice_get-get_or}
@@ -37,13 +38,15 @@ pub marks_more : (xs : List Datagram) (all : List Happened) (i : ℕ) (h : Happe
     → slice_get all i ≡ Some h → length flags ≡ length xs
     → AreFlags (comes_by (numbered xs) (take i all)) flags → AreFlags (comes_by (numbered xs) (take (i + 1) all)) (marked flags (brought_by (numbered xs) h))
 marks_more xs all i h flags there count are n =
-    elim (brought_by (numbered xs) h) as (λ o. brought_by (numbered xs) h ≡ o → get_or (marked flags o) n false ≡ (list_any (brings (numbered xs) n) (take i all) || option_map_or (λ (e : Numbered). e.0 == n) o false)) [
+    elim (brought_by (numbered xs) h) as (λ o. brought_by (numbered xs) h ≡ o → get_or (marked flags o) n false ≡
+    (list_any (brings (numbered xs) n) (take i all) || option_map_or (λ (e : Numbered). e.0 == n) o false)) [
       | Some d ↦ λ is. let lt = brought_within xs h d is in set_one (comes_by (numbered xs) (take i all)) flags d.0 (omega (arith, lt, count)) are n
       | None ↦ λ is. are n ∙ sym (or-false (list_any (brings (numbered xs) n) (take i all)))
     ] refl ∙ sym (any_more (brings (numbered xs)) all i h n there)
 
 -- pieces one after the other, of which one more is there
-pub flat_more : {X Y : Type 0} (g : X → List Y) (x : X) (left rest : List X) (before mid new : List Y) → new ≡ mid ++ g x → left ≡ x ∷ rest → mid ++ flat_map g left ≡ before → new ++ flat_map g rest ≡ before
+pub flat_more : {X Y : Type 0} (g : X → List Y) (x : X) (left rest : List X) (before mid new : List Y) → new ≡ mid ++ g x → left ≡ x ∷ rest
+    → mid ++ flat_map g left ≡ before → new ++ flat_map g rest ≡ before
 flat_more g x left rest before mid new is next so_far =
     ap (λ l. l ++ flat_map g rest) is ∙ (append_assoc mid (g x) (flat_map g rest) ∙ (sym (ap (λ l. mid ++ flat_map g l) next) ∙ so_far))
 
@@ -55,9 +58,11 @@ pub loop_more : (xs : List Datagram) (all : List Program) (i : ℕ) (one : Progr
     → AreFlags (comes_by (numbered xs) (map happened_of (take (i + 1) all))) new
 loop_more xs all i one flags new is lt count are marks =
     let there : slice_get (map happened_of all) i ≡ Some (happened_of one) = slice_get-map happened_of all i ∙ ap (option_map happened_of) (slice_get-get_or all i one lt ∙ ap Some (sym is)) in
-    let before : AreFlags (comes_by (numbered xs) (take i (map happened_of all))) flags = subst (λ (hs : List Happened). AreFlags (comes_by (numbered xs) hs) flags) (sym (take-map happened_of i all)) are in
+    let before : AreFlags (comes_by (numbered xs) (take i (map happened_of all))) flags =
+    subst (λ (hs : List Happened). AreFlags (comes_by (numbered xs) hs) flags) (sym (take-map happened_of i all)) are in
     let after = marks_more xs (map happened_of all) i (happened_of one) flags there count before in
-    subst (λ (hs : List Happened). AreFlags (comes_by (numbered xs) hs) new) (take-map happened_of (i + 1) all) (subst (λ (f : List Bool). AreFlags (comes_by (numbered xs) (take (i + 1) (map happened_of all))) f) (sym marks) after)
+    subst (λ (hs : List Happened). AreFlags (comes_by (numbered xs) hs) new) (take-map happened_of (i + 1) all)
+    (subst (λ (f : List Bool). AreFlags (comes_by (numbered xs) (take (i + 1) (map happened_of all))) f) (sym marks) after)
 
 pub marked_length : (flags : List Bool) (d : Option Numbered) → length (marked flags d) ≡ length flags
 marked_length flags None = refl

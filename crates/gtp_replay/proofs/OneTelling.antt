@@ -21,17 +21,20 @@ text_one Svg events one other text other_text alike r s = svg_one events one oth
 text_one Capture events one other text other_text alike r s = capture_one one other text other_text alike r s
 text_one Json events one other text other_text alike r s = json_one events one other text other_text alike r s
 
-scenario_one : (form : Form) (scenario : Scenario) (text other_text : List ℕ) (verdict other_verdict : Verdict) → TellsScenario form scenario text verdict → TellsScenario form scenario other_text other_verdict → (text ≡ other_text) × (verdict ≡ other_verdict)
+scenario_one : (form : Form) (scenario : Scenario) (text other_text : List ℕ) (verdict other_verdict : Verdict) → TellsScenario form scenario text verdict
+    → TellsScenario form scenario other_text other_verdict → (text ≡ other_text) × (verdict ≡ other_verdict)
 scenario_one form scenario text other_text verdict other_verdict r s =
     let alike = follow_one scenario.setup (events_of scenario) r.world s.world r.run.comes s.run.comes in (
       text_one form (events_of scenario) r.world s.world text other_text alike r.text_is s.text_is,
       r.verdict_is ∙ (ap (λ (l : Log). verdict_by (first_unmet scenario.entries l.notes)) alike.log ∙ sym s.verdict_is),
     )
 
-refusal_one : (refusal : Refusal) (text other_text : List ℕ) (verdict other_verdict : Verdict) → TellsRefusal refusal text verdict → TellsRefusal refusal other_text other_verdict → (text ≡ other_text) × (verdict ≡ other_verdict)
+refusal_one : (refusal : Refusal) (text other_text : List ℕ) (verdict other_verdict : Verdict) → TellsRefusal refusal text verdict
+    → TellsRefusal refusal other_text other_verdict → (text ≡ other_text) × (verdict ≡ other_verdict)
 refusal_one refusal text other_text verdict other_verdict r s = (r.line ∙ sym s.line, r.verdict_is ∙ sym s.verdict_is)
 
-tell_by : (form : Form) (text other_text : List ℕ) (verdict other_verdict : Verdict) (reading : Result Scenario Refusal) → TellsReading form reading text verdict → TellsReading form reading other_text other_verdict → (text ≡ other_text) × (verdict ≡ other_verdict)
+tell_by : (form : Form) (text other_text : List ℕ) (verdict other_verdict : Verdict) (reading : Result Scenario Refusal)
+    → TellsReading form reading text verdict → TellsReading form reading other_text other_verdict → (text ≡ other_text) × (verdict ≡ other_verdict)
 tell_by form text other_text verdict other_verdict (Ok scenario) p q = scenario_one form scenario text other_text verdict other_verdict p q
 tell_by form text other_text verdict other_verdict (Err refusal) p q = refusal_one refusal text other_text verdict other_verdict p q
 

@@ -80,7 +80,9 @@ line_one (Idles place node count) a b line line_too = line ∙ sym line_too
 
 row_svg_one : (row : Row) (a b : List ℕ) → IsRowSvg row a → IsRowSvg row b → a ≡ b
 row_svg_one (Comes place d coming told) a b (label, is, piece) (other, is_too, piece_too) =
-    piece ∙ (ap (λ (l : List ℕ). place_svg place ++ (arrow_svg d (coming_class coming) (arrow_path d.1.role) (l ++ coming_text coming) ++ told_svg told)) (label_one d label other is is_too) ∙ sym piece_too)
+    piece
+    ∙ (ap (λ (l : List ℕ). place_svg place ++ (arrow_svg d (coming_class coming) (arrow_path d.1.role) (l ++ coming_text coming) ++ told_svg told))
+    (label_one d label other is is_too) ∙ sym piece_too)
 row_svg_one (Lost d) a b (label, is, piece) (other, is_too, piece_too) =
     piece ∙ (ap (λ (l : List ℕ). arrow_svg d (codes " lost") (short_path d.1.role) l) (label_one d label other is is_too) ∙ sym piece_too)
 row_svg_one (Happens place event told) a b piece piece_too = piece ∙ sym piece_too
@@ -102,7 +104,9 @@ diagram_one events one other a b alike r s = diagram_same (rows_in events other)
 svg_same : (events : List Event) (world : WorldRecord) (a b : List ℕ)
     → IsSvg (own_in world Serving) (own_in world Packet) (rows_in events world) a → IsSvg (own_in world Serving) (own_in world Packet) (rows_in events world) b → a ≡ b
 svg_same events world a b (groups, each, is) (others, each_too, is_too) =
-    is ∙ (ap (λ (l : List ℕ). svg_head (own_in world Serving) (own_in world Packet) (height_of (length (rows_in events world))) ++ (l ++ codes "</svg>\n")) (each_one IsGroup group_one (enumerate_from 0 (rows_in events world)) groups others each each_too) ∙ sym is_too)
+    is ∙ (ap
+    (λ (l : List ℕ). svg_head (own_in world Serving) (own_in world Packet) (height_of (length (rows_in events world))) ++ (l ++ codes "</svg>\n"))
+    (each_one IsGroup group_one (enumerate_from 0 (rows_in events world)) groups others each each_too) ∙ sym is_too)
 
 pub svg_one : (events : List Event) (one other : WorldRecord) (a b : List ℕ) → WorldsAlike one other
     → IsSvg (own_in one Serving) (own_in one Packet) (rows_in events one) a → IsSvg (own_in other Serving) (own_in other Packet) (rows_in events other) b → a ≡ b
@@ -143,7 +147,8 @@ capture_one one other a b alike r s =
 -- ---- JSON
 
 -- what is said of each is one
-judged_one : {X : Type 0} (P Q : X → Type 0) (shape : X → Bool → Json) (xs : List X) (a b : List Json) → ((x : X) → P x → Q x) → ((x : X) → Q x → P x) → JudgesEach P shape xs a → JudgesEach Q shape xs b → a ≡ b
+judged_one : {X : Type 0} (P Q : X → Type 0) (shape : X → Bool → Json) (xs : List X) (a b : List Json) → ((x : X) → P x → Q x) → ((x : X) → Q x → P x)
+    → JudgesEach P shape xs a → JudgesEach Q shape xs b → a ≡ b
 judged_one P Q shape [] a b there back r s = r ∙ sym s
 judged_one P Q shape (x ∷ xs) a b there back (v, others, holds, rest, is) (w, others_too, holds_too, rest_too, is_too) =
     let verdict : v ≡ w = one_verdict v w (λ t. holds_too.1 (there x (holds.0 t))) (λ t. holds.1 (back x (holds_too.0 t))) in

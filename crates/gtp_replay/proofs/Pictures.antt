@@ -47,17 +47,21 @@ pub none_drawn : (head text : List ℕ) → text ≡ head → DrawnSoFar head []
 none_drawn head text is = record { groups = []; each = refl; whole = is ∙ sym (append-nil head) }
 
 -- a group more
-pub group_more : (head : List ℕ) (rows : List Row) (row : Row) (place : ℕ) (text group new : List ℕ) → length rows ≡ place → DrawnSoFar head rows text → IsGroup (place, row) group → new ≡ text ++ group → DrawnSoFar head (rows ++ row ∷ []) new
+pub group_more : (head : List ℕ) (rows : List Row) (row : Row) (place : ℕ) (text group new : List ℕ) → length rows ≡ place → DrawnSoFar head rows text
+    → IsGroup (place, row) group → new ≡ text ++ group → DrawnSoFar head (rows ++ row ∷ []) new
 group_more head rows row place text group new at so is more =
     let number : place ≡ 0 + length rows = omega (arith, at) in
     let here : (place, row) ≡ (0 + length rows, row) = ap (λ (n : ℕ). (n, row)) number in
     record {
       groups = so.groups ++ group;
-      each = subst (λ rs. EachHas IsGroup rs (so.groups ++ group)) (sym (enumerate_push 0 rows row)) (each_more IsGroup (enumerate_from 0 rows) (0 + length rows, row) so.groups group so.each (subst (λ r. IsGroup r group) here is));
+      each =
+          subst (λ rs. EachHas IsGroup rs (so.groups ++ group)) (sym (enumerate_push 0 rows row))
+          (each_more IsGroup (enumerate_from 0 rows) (0 + length rows, row) so.groups group so.each (subst (λ r. IsGroup r group) here is));
       whole = more ∙ (ap (λ l. l ++ group) so.whole ∙ append_assoc head so.groups group);
     }
 
 -- and the end
-pub all_drawn : (serving packet : Addresses) (rows : List Row) (text new : List ℕ) → DrawnSoFar (svg_head serving packet (height_of (length rows))) rows text → new ≡ text ++ codes "</svg>\n" → IsSvg serving packet rows new
+pub all_drawn : (serving packet : Addresses) (rows : List Row) (text new : List ℕ) → DrawnSoFar (svg_head serving packet (height_of (length rows))) rows text
+    → new ≡ text ++ codes "</svg>\n" → IsSvg serving packet rows new
 all_drawn serving packet rows text new so is =
     (so.groups, so.each, is ∙ (ap (λ l. l ++ codes "</svg>\n") so.whole ∙ append_assoc (svg_head serving packet (height_of (length rows))) so.groups (codes "</svg>\n")))

@@ -11,7 +11,8 @@ use Rattle.gtp_machine.specs.declared.role.Role.TheVariants.{Serving, Packet}
 use Rattle.gtp_tables.specs.declared.context.Session.{Session}
 use Rattle.gtp_tables.specs.declared.context.Bearer.{Bearer}
 use Rattle.gtp_machine.specs.declared.outcome.DropReason.{DropReason}
-use Rattle.gtp_machine.specs.declared.outcome.DropReason.TheVariants.{Undecodable, OldCounter, NoPending, Mismatch, ContextNotActive, UnknownContext, AfterEnd, HeldFull, Unexpected, UnknownExtension, NotPeer}
+use Rattle.gtp_machine.specs.declared.outcome.DropReason.TheVariants.{Undecodable, OldCounter, NoPending, Mismatch, ContextNotActive, UnknownContext}
+use Rattle.gtp_machine.specs.declared.outcome.DropReason.TheVariants.{AfterEnd, HeldFull, Unexpected, UnknownExtension, NotPeer}
 use Rattle.gtp_machine.specs.declared.outcome.Outcome.{Outcome}
 use Rattle.gtp_machine.specs.declared.outcome.Outcome.TheVariants.{Begun, GoneOut, Refused, Answered, Echoed, Repeated, Opened, Closed, Clash, Rejected, Alive, Accepted, Ended, Broken, Dropped}
 use Rattle.gtp_machine.specs.World.{By, Event, EventOutcome, Came_to, Ticked, Restarted, No_such_datagram, Restarts_used, Cut_too_long}
@@ -22,7 +23,8 @@ use Rattle.gtp_json.specs.Tree.{member, object_of, array_of, items_of, number_of
 use Rattle.gtp_json.specs.Values.{hexadecimal, teid_value}
 use Rattle.gtp_json.proofs.Shallow.{Within, join, object_depth}
 use Rattle.gtp_run_json.specs.Members.{where_some, word_member, number_member, teid_member}
-use Rattle.gtp_run_json.specs.Happened.{drop_members, outcome_details, outcome_members, event_details, came_members, second_members, told_members, sent_json, forgot_json, head_members, left_members, event_json}
+use Rattle.gtp_run_json.specs.Happened.{drop_members, outcome_details, outcome_members, event_details, came_members, second_members, told_members}
+use Rattle.gtp_run_json.specs.Happened.{sent_json, forgot_json, head_members, left_members, event_json}
 use Rattle.gtp_run_json.specs.Contexts.{ends_members, session_json, bearer_json, sessions_members, bearers_members}
 use Rattle.gtp_run_json.specs.Verdicts.{JudgesEach, mutual_json, accepted_json}
 use Rattle.gtp_run_json.specs.Ending.{IsEndJson}
@@ -48,7 +50,8 @@ shallow_both : (n : ℕ) (a b : List Json) → Shallow n a → Shallow n b → S
 shallow_both n [] b h k = k
 shallow_both n (j ∷ js) b h k = (h.0, shallow_both n js b h.1 k)
 
-shallow_judged : {X : Type 0} (n : ℕ) (Holds : X → Type 0) (shape : X → Bool → Json) (xs : List X) (js : List Json) → ((x : X) (b : Bool) → depth (shape x b) ≤ n) → JudgesEach Holds shape xs js → Shallow n js
+shallow_judged : {X : Type 0} (n : ℕ) (Holds : X → Type 0) (shape : X → Bool → Json) (xs : List X) (js : List Json) → ((x : X) (b : Bool) → depth (shape x b) ≤ n)
+    → JudgesEach Holds shape xs js → Shallow n js
 shallow_judged n Holds shape [] js h none = subst (Shallow n) (sym none) tt
 shallow_judged n Holds shape (x ∷ xs) js h (verdict, others, is, tells, whole) = subst (Shallow n) (sym whole) (h x verdict, shallow_judged n Holds shape xs others h tells)
 
@@ -162,9 +165,11 @@ bearer_depth node e =
 
 mutual_depth : (pair : Pair) (agree : Bool) → depth (mutual_json pair agree) ≤ 1
 mutual_depth (Sessions serving packet) agree =
-    object_depth 0 _ (join 0 _ _ (word_within 0 (codes "kind") _) (join 0 _ _ (teid_within 0 (codes "serving") _) (join 0 _ _ (teid_within 0 (codes "packet") _) (flag_within 0 (codes "agree") agree))))
+    object_depth 0 _ (join 0 _ _ (word_within 0 (codes "kind") _)
+    (join 0 _ _ (teid_within 0 (codes "serving") _) (join 0 _ _ (teid_within 0 (codes "packet") _) (flag_within 0 (codes "agree") agree))))
 mutual_depth (Bearers serving packet) agree =
-    object_depth 0 _ (join 0 _ _ (word_within 0 (codes "kind") _) (join 0 _ _ (teid_within 0 (codes "serving") _) (join 0 _ _ (teid_within 0 (codes "packet") _) (flag_within 0 (codes "agree") agree))))
+    object_depth 0 _ (join 0 _ _ (word_within 0 (codes "kind") _)
+    (join 0 _ _ (teid_within 0 (codes "serving") _) (join 0 _ _ (teid_within 0 (codes "packet") _) (flag_within 0 (codes "agree") agree))))
 
 accepted_depth : (a : By Entry) (owed : Bool) → depth (accepted_json a owed) ≤ 1
 accepted_depth a owed =
@@ -174,13 +179,15 @@ sessions_within : (v : WorldRecord) → Within 2 (sessions_members v)
 sessions_within v =
     let serving = entries v.serving.state.node.sessions in
     let packet = entries v.packet.state.node.sessions in
-    one 2 (codes "sessions") _ (array_depth 1 _ (shallow_both 1 _ _ (shallow_map 1 (session_json Serving) serving (session_depth Serving)) (shallow_map 1 (session_json Packet) packet (session_depth Packet))))
+    one 2 (codes "sessions") _ (array_depth 1 _ (shallow_both 1 _ _ (shallow_map 1 (session_json Serving) serving (session_depth Serving))
+    (shallow_map 1 (session_json Packet) packet (session_depth Packet))))
 
 bearers_within : (v : WorldRecord) → Within 2 (bearers_members v)
 bearers_within v =
     let serving = entries v.serving.state.node.bearers in
     let packet = entries v.packet.state.node.bearers in
-    one 2 (codes "bearers") _ (array_depth 1 _ (shallow_both 1 _ _ (shallow_map 1 (bearer_json Serving) serving (bearer_depth Serving)) (shallow_map 1 (bearer_json Packet) packet (bearer_depth Packet))))
+    one 2 (codes "bearers") _ (array_depth 1 _ (shallow_both 1 _ _ (shallow_map 1 (bearer_json Serving) serving (bearer_depth Serving))
+    (shallow_map 1 (bearer_json Packet) packet (bearer_depth Packet))))
 
 pub end_depth : (v : WorldRecord) (j : Json) → IsEndJson v j → depth j ≤ 3
 end_depth v j is =

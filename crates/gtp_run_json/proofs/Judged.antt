@@ -12,14 +12,17 @@ use Rattle.gtp_run_json.specs.Verdicts.{JudgesEach}
 use Rattle.gtp_run_json.proofs.Arrays.{items_tokens}
 
 -- the tokens are those of objects
-objects_of : {X : Type 0} (Holds : X → Type 0) (shape : X → Bool → Json) (xs : List X) (ts : List Token) → TellsEach Holds (λ x verdict. json_tokens (shape x verdict)) xs ts → (js : List Json) × JudgesEach Holds shape xs js × (ts ≡ flat_map json_tokens js)
+objects_of : {X : Type 0} (Holds : X → Type 0) (shape : X → Bool → Json) (xs : List X) (ts : List Token)
+    → TellsEach Holds (λ x verdict. json_tokens (shape x verdict)) xs ts
+    → (js : List Json) × JudgesEach Holds shape xs js × (ts ≡ flat_map json_tokens js)
 objects_of Holds shape [] ts none = ([], refl, none)
 objects_of Holds shape (x ∷ xs) ts (verdict, others, is, tells, whole) =
     let rest = objects_of Holds shape xs others tells in
     (shape x verdict ∷ rest.0, (verdict, rest.0, is, rest.1, refl), whole ∙ ap (λ (l : List Token). json_tokens (shape x verdict) ++ l) rest.2)
 
 -- a member that is an array of them
-pub judged_member : {X : Type 0} (Holds : X → Type 0) (shape : X → Bool → Json) (xs : List X) (name : List ℕ) (o k a p n : List Token) → k ≡ o ++ keyed name → a ≡ k ++ array_opened → AddsEach Holds (λ x verdict. json_tokens (shape x verdict)) xs a p → n ≡ p ++ array_closed
+pub judged_member : {X : Type 0} (Holds : X → Type 0) (shape : X → Bool → Json) (xs : List X) (name : List ℕ) (o k a p n : List Token) → k ≡ o ++ keyed name
+    → a ≡ k ++ array_opened → AddsEach Holds (λ x verdict. json_tokens (shape x verdict)) xs a p → n ≡ p ++ array_closed
     → (js : List Json) × JudgesEach Holds shape xs js × (n ≡ o ++ written (member name (array_of js)))
 judged_member Holds shape xs name o k a p n one two (ts, tells, adds) three =
     let found = objects_of Holds shape xs ts tells in

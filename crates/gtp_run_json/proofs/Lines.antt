@@ -11,13 +11,16 @@ use Rattle.gtp_run_json.specs.Run.{ReadsAsItself, AllRead}
 use Rattle.gtp_run_json.specs.Happened.{event_json, events_from}
 
 -- nothing is left once a list has ended
-pub no_lines : {D E N : Type 0} (f : D → By Datagram) (event_of : E → Event) (told_by : N → EventRecord) (place next : ℕ) (rest : List D) (events : List E) (notes : List N) → (events ≡ []) ⊎ (notes ≡ []) → events_from place (enumerate_from next (map f rest)) (map event_of events) (map told_by notes) ≡ []
+pub no_lines : {D E N : Type 0} (f : D → By Datagram) (event_of : E → Event) (told_by : N → EventRecord) (place next : ℕ) (rest : List D) (events : List E)
+    (notes : List N) → (events ≡ []) ⊎ (notes ≡ [])
+    → events_from place (enumerate_from next (map f rest)) (map event_of events) (map told_by notes) ≡ []
 no_lines f event_of told_by place next rest events notes (inl is) = ap (λ l. events_from place (enumerate_from next (map f rest)) (map event_of l) (map told_by notes)) is
 no_lines f event_of told_by place next rest [] notes (inr is) = refl
 no_lines f event_of told_by place next rest (event ∷ events) notes (inr is) = ap (λ l. events_from place (enumerate_from next (map f rest)) (map event_of (event ∷ events)) (map told_by l)) is
 
 -- an event more
-pub one_event : {D : Type 0} (f : D → By Datagram) (at place after next count : ℕ) (rest front back : List D) (event : Event) (told : EventRecord) (events_left events : List Event) (notes_left notes : List EventRecord) (before mid line new : List ℕ)
+pub one_event : {D : Type 0} (f : D → By Datagram) (at place after next count : ℕ) (rest front back : List D) (event : Event) (told : EventRecord)
+    (events_left events : List Event) (notes_left notes : List EventRecord) (before mid line new : List ℕ)
     → place ≡ at → after ≡ at + 1
     → count ≡ min (length rest) told.sent → front ≡ take count rest → back ≡ drop count rest
     → line ≡ line_of (event_json place (enumerate_from next (map f front)) event told) → new ≡ mid ++ line
@@ -36,7 +39,8 @@ one_event f at place after next count rest front back event told events_left eve
     ∙ (sym (ap₂ (λ e n. mid ++ flat_map line_of (events_from at sent e n)) events_are notes_are) ∙ so_far)))
 
 -- and its line reads back
-pub one_read : {D : Type 0} (f : D → By Datagram) (at place after next count : ℕ) (rest front back : List D) (event : Event) (told : EventRecord) (events_left events : List Event) (notes_left notes : List EventRecord) (all : List Json)
+pub one_read : {D : Type 0} (f : D → By Datagram) (at place after next count : ℕ) (rest front back : List D) (event : Event) (told : EventRecord)
+    (events_left events : List Event) (notes_left notes : List EventRecord) (all : List Json)
     → place ≡ at → after ≡ at + 1
     → count ≡ min (length rest) told.sent → front ≡ take count rest → back ≡ drop count rest
     → ReadsAsItself (event_json place (enumerate_from next (map f front)) event told)
@@ -47,8 +51,11 @@ one_read f at place after next count rest front back event told events_left even
     let sent = enumerate_from next (map f rest) in
     let fronts : enumerate_from next (map f front) ≡ take told.sent sent = ap (λ l. enumerate_from next (map f l)) first ∙ front_is f next count told.sent rest is in
     let backs : enumerate_from (next + count) (map f back) ≡ drop told.sent sent = ap (λ l. enumerate_from (next + count) (map f l)) others ∙ rest_is f next count told.sent rest is in
-    let own : ReadsAsItself (event_json at (take told.sent sent) event told) = subst (λ n. ReadsAsItself (event_json n (take told.sent sent) event told)) here (subst (λ l. ReadsAsItself (event_json place l event told)) fronts reads) in
-    let others : AllRead (events_from (at + 1) (drop told.sent sent) events notes) = subst (λ n. AllRead (events_from n (drop told.sent sent) events notes)) then (subst (λ l. AllRead (events_from after l events notes)) backs left) in
+    let own : ReadsAsItself (event_json at (take told.sent sent) event told) =
+    subst (λ n. ReadsAsItself (event_json n (take told.sent sent) event told)) here
+    (subst (λ l. ReadsAsItself (event_json place l event told)) fronts reads) in
+    let others : AllRead (events_from (at + 1) (drop told.sent sent) events notes) =
+    subst (λ n. AllRead (events_from n (drop told.sent sent) events notes)) then (subst (λ l. AllRead (events_from after l events notes)) backs left) in
     so_far (subst (λ l. AllRead (events_from at sent l notes_left)) (sym events_are) (subst (λ l. AllRead (events_from at sent (event ∷ events) l)) (sym notes_are) (own, others)))
 
 -- of two parts

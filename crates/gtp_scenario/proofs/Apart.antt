@@ -73,7 +73,9 @@ none_then o f is = rw is refl
 
 pub deliver_none : (d : Data) (name : Name) → datagram_at d ≡ Some name → deliver_of d ≡ None
 unfolding deliver_of datagram_at
-deliver_none d name h = gated_none (has_only (codes "do" ∷ codes "expect" ∷ codes "datagram" ∷ []) d) (number_at (codes "datagram") d >>= λ n. Some (Deliver n)) (λ only. none_then (number_at (codes "datagram") d) (λ n. Some (Deliver n)) (no_number (get (codes "datagram") d) name h))
+deliver_none d name h =
+    gated_none (has_only (codes "do" ∷ codes "expect" ∷ codes "datagram" ∷ []) d) (number_at (codes "datagram") d >>= λ n. Some (Deliver n))
+    (λ only. none_then (number_at (codes "datagram") d) (λ n. Some (Deliver n)) (no_number (get (codes "datagram") d) name h))
 
 lone_none : (d : Data) → is_some (get (codes "session") d) ≡ true → lone_teid_of d ≡ None
 unfolding lone_teid_of

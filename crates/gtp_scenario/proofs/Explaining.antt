@@ -73,11 +73,28 @@ there_is d e halted h is = (let both : Some (halts_here h.setup h.items halted h
 
 pub too_many_at : (d e : Data) (halted : Halted) (h : IsHaltedIn d halted) → get_item halted.place h.items ≡ Some e → halted.halt ≡ halts.TooMany → IsEventAt d halted.place event.TooMany
 too_many_at d e halted h there is =
-    record { setup = h.setup; head = h.head; items = h.items; list = h.list; entry = e; there = there; flawed = subst (λ k. IsListRead h.setup h.items (Err (record { place = halted.place; halt = k }))) is h.halts }
+    record {
+      setup = h.setup;
+      head = h.head;
+      items = h.items;
+      list = h.list;
+      entry = e;
+      there = there;
+      flawed = subst (λ k. IsListRead h.setup h.items (Err (record { place = halted.place; halt = k }))) is h.halts;
+    }
 
-pub nothing_at : (d e : Data) (halted : Halted) (name : Name) (h : IsHaltedIn d halted) → get_item halted.place h.items ≡ Some e → halted.halt ≡ halts.Nothing → name_of e ≡ Some name → IsEventAt d halted.place (event.Nothing name)
+pub nothing_at : (d e : Data) (halted : Halted) (name : Name) (h : IsHaltedIn d halted) → get_item halted.place h.items ≡ Some e → halted.halt ≡ halts.Nothing
+    → name_of e ≡ Some name → IsEventAt d halted.place (event.Nothing name)
 nothing_at d e halted name h there is named =
-    record { setup = h.setup; head = h.head; items = h.items; list = h.list; entry = e; there = there; flawed = (named, subst (λ k. IsListRead h.setup h.items (Err (record { place = halted.place; halt = k }))) is h.halts) }
+    record {
+      setup = h.setup;
+      head = h.head;
+      items = h.items;
+      list = h.list;
+      entry = e;
+      there = there;
+      flawed = (named, subst (λ k. IsListRead h.setup h.items (Err (record { place = halted.place; halt = k }))) is h.halts);
+    }
 
 pub named_at : (d e : Data) (halted : Halted) (h : IsHaltedIn d halted) → get_item halted.place h.items ≡ Some e → halted.halt ≡ halts.Nothing → is_some (name_of e) ≡ true
 named_at d e halted h there is =
@@ -99,7 +116,8 @@ flaw_at d e halted (event.Named kind flaw) h there is = record { setup = h.setup
 flaw_at d e halted (event.Nothing name) h there is = absurd is
 flaw_at d e halted event.TooMany h there is = absurd is
 
-nothing_by : (d e : Data) (halted : Halted) (flaw : EventFlaw) (h : IsHaltedIn d halted) → get_item halted.place h.items ≡ Some e → halted.halt ≡ halts.Nothing → IsNothing e flaw → IsEventAt d halted.place flaw
+nothing_by : (d e : Data) (halted : Halted) (flaw : EventFlaw) (h : IsHaltedIn d halted) → get_item halted.place h.items ≡ Some e → halted.halt ≡ halts.Nothing
+    → IsNothing e flaw → IsEventAt d halted.place flaw
 nothing_by d e halted (event.Nothing name) h there is named = nothing_at d e halted name h there is named
 nothing_by d e halted (event.Entry flaw) h there is named = absurd named
 nothing_by d e halted (event.NoEvent word) h there is named = absurd named
@@ -107,7 +125,8 @@ nothing_by d e halted (event.Keys kind flaw) h there is named = absurd named
 nothing_by d e halted (event.Named kind flaw) h there is named = absurd named
 nothing_by d e halted event.TooMany h there is named = absurd named
 
-many_by : (d e : Data) (halted : Halted) (flaw : EventFlaw) (h : IsHaltedIn d halted) → get_item halted.place h.items ≡ Some e → halted.halt ≡ halts.TooMany → IsTooMany flaw → IsEventAt d halted.place flaw
+many_by : (d e : Data) (halted : Halted) (flaw : EventFlaw) (h : IsHaltedIn d halted) → get_item halted.place h.items ≡ Some e → halted.halt ≡ halts.TooMany
+    → IsTooMany flaw → IsEventAt d halted.place flaw
 many_by d e halted event.TooMany h there is many = too_many_at d e halted h there is
 many_by d e halted (event.Nothing name) h there is many = absurd many
 many_by d e halted (event.Entry flaw) h there is many = absurd many
@@ -115,7 +134,8 @@ many_by d e halted (event.NoEvent word) h there is many = absurd many
 many_by d e halted (event.Keys kind flaw) h there is many = absurd many
 many_by d e halted (event.Named kind flaw) h there is many = absurd many
 
-pub flaw_by : (halt : Halt) (d e : Data) (halted : Halted) (flaw : EventFlaw) (h : IsHaltedIn d halted) → get_item halted.place h.items ≡ Some e → halted.halt ≡ halt → IsFlawFor halt e flaw → IsEventAt d halted.place flaw
+pub flaw_by : (halt : Halt) (d e : Data) (halted : Halted) (flaw : EventFlaw) (h : IsHaltedIn d halted) → get_item halted.place h.items ≡ Some e
+    → halted.halt ≡ halt → IsFlawFor halt e flaw → IsEventAt d halted.place flaw
 flaw_by halts.Nothing d e halted flaw h there is so = nothing_by d e halted flaw h there is so
 flaw_by halts.Wrong d e halted flaw h there is so = flaw_at d e halted flaw h there so
 flaw_by halts.TooMany d e halted flaw h there is so = many_by d e halted flaw h there is so

@@ -16,7 +16,9 @@ use Rattle.gtp_scenario.specs.Steps.{◌>>=◌}
 use Rattle.gtp_scenario.specs.Events.{tft_at, qos}
 use Rattle.gtp_scenario.specs.Json.{text_at, whole_number, within, is_among, all_among, has_only, count_of}
 use Rattle.gtp_scenario.specs.Texts.{apn_of, address_of}
-use Rattle.gtp_scenario.specs.Heads.{PacketHead, address_at, addresses_at, counter_at, access_points_in, access_points_at, pool_at, prefixes_at, pools_at, time_at, timers_at, serving_of, packet_of, set_up, template_of, configured, with_this, with_each, with_those, with_templates_at, setup_of, events_at}
+use Rattle.gtp_scenario.specs.Heads.{PacketHead, address_at, addresses_at, counter_at, access_points_in, access_points_at, pool_at, prefixes_at}
+use Rattle.gtp_scenario.specs.Heads.{pools_at, time_at, timers_at, serving_of, packet_of, set_up, template_of, configured, with_this, with_each}
+use Rattle.gtp_scenario.specs.Heads.{with_those, with_templates_at, setup_of, events_at}
 use Rattle.gtp_scenario.specs.Keys.{key_text, may_be_absent, is_met, is_met_by, scenario_keys, serving_keys, packet_keys, template_keys}
 use Rattle.gtp_scenario.specs.Reasons.{fits, names_one_of}
 use Rattle.gtp_scenario.specs.reading.Faultless.{is_template, are_templates, AreTemplatesOf, IsPacket, IsPacketAt, IsServingAt}
@@ -26,7 +28,9 @@ use Rattle.gtp_scenario.proofs.Whole.{chain, pinned, gated, mapped, joined, some
 
 control_met : (d : Data) → is_met d keys.Control ≡ true → is_some (address_at (codes "control") d) ≡ true
 unfolding address_at
-control_met d met = mapped V4 _ (joined (get (codes "control") d) as_str address_of (needed keys.Control d (get (codes "control") d) (λ v. as_str v >>= address_of) refl (λ v. by_text address_of (as_str v)) met))
+control_met d met =
+    mapped V4 _ (joined (get (codes "control") d) as_str address_of
+    (needed keys.Control d (get (codes "control") d) (λ v. as_str v >>= address_of) refl (λ v. by_text address_of (as_str v)) met))
 
 user_met : (d : Data) → is_met d keys.User ≡ true → is_some (address_at (codes "user") d) ≡ true
 unfolding address_at
@@ -44,7 +48,8 @@ serving_read : (d : Data) → fits serving_keys d ≡ true → is_some (serving_
 unfolding serving_of
 serving_read d h =
     let met = met_in serving_keys d h in
-    gated _ _ (parts serving_keys d h).only (chain (addresses_at d) _ (addresses_met d (met 0 keys.Control refl) (met 1 keys.User refl)) (λ own. chain (counter_at d) _ (counter_met d (met 2 keys.Counter refl)) (λ counter. refl)))
+    gated _ _ (parts serving_keys d h).only (chain (addresses_at d) _ (addresses_met d (met 0 keys.Control refl) (met 1 keys.User refl))
+    (λ own. chain (counter_at d) _ (counter_met d (met 2 keys.Counter refl)) (λ counter. refl)))
 
 -- ---- the packet gateway
 
@@ -60,7 +65,8 @@ pub record IsPacketRead (d : Data) : Type 0 where
   pub read : packet_of d ≡ Some head
   pub names : access_points_at d ≡ Some head.access_points
 
-pub packet_is : (d : Data) (own : Addresses) (counter : ℕ) (names : List (List ℕ)) (v4 : Range) (v6 : Prefixes) → has_only (map key_text packet_keys) d ≡ true → addresses_at d ≡ Some own → counter_at d ≡ Some counter → access_points_at d ≡ Some names → pool_at d ≡ Some v4 → prefixes_at d ≡ Some v6
+pub packet_is : (d : Data) (own : Addresses) (counter : ℕ) (names : List (List ℕ)) (v4 : Range) (v6 : Prefixes) → has_only (map key_text packet_keys) d ≡ true
+    → addresses_at d ≡ Some own → counter_at d ≡ Some counter → access_points_at d ≡ Some names → pool_at d ≡ Some v4 → prefixes_at d ≡ Some v6
     → packet_of d ≡ Some (record { own = own; counter = counter; access_points = names; pools = record { v4 = v4; v6 = v6 } })
 unfolding packet_of pools_at
 packet_is d own counter names v4 v6 only a b c e f = rw (only, a, b, c, e, f) refl
@@ -92,7 +98,8 @@ record IsWithThis (names : List (List ℕ)) (d : Data) (s : Settings) : Type 0 w
   read : with_this d s ≡ Some next
   same : next.config.access_points ≡ names
 
-pub template_is : (d : Data) (name tft : List ℕ) → has_only (map key_text template_keys) d ≡ true → (text_at (codes "apn") d >>= apn_of) ≡ Some name → tft_at d ≡ Some tft → template_of d ≡ Some (record { access_point = name; tft = tft; qos = qos })
+pub template_is : (d : Data) (name tft : List ℕ) → has_only (map key_text template_keys) d ≡ true → (text_at (codes "apn") d >>= apn_of) ≡ Some name
+    → tft_at d ≡ Some tft → template_of d ≡ Some (record { access_point = name; tft = tft; qos = qos })
 unfolding template_of
 template_is d name tft only a b = rw (only, a, b) refl
 
@@ -118,7 +125,8 @@ each_read names (item d items) s h same =
     let one = with_one names d s b.left same in
     pinned (with_this d s) one.next (with_each items) one.read (each_read names items one.next b.right one.same)
 
-pub templates_read : (d : Data) (s : Settings) (names : List (List ℕ)) → is_met d keys.Templates ≡ true → AreTemplatesOf d → access_points_at d ≡ Some names → s.config.access_points ≡ names → is_some (with_templates_at d s) ≡ true
+pub templates_read : (d : Data) (s : Settings) (names : List (List ℕ)) → is_met d keys.Templates ≡ true → AreTemplatesOf d → access_points_at d ≡ Some names
+    → s.config.access_points ≡ names → is_some (with_templates_at d s) ≡ true
 unfolding with_templates_at
 templates_read d s names said each of same = by (get (codes "templates") d) refl said
   where
@@ -149,7 +157,9 @@ abbrev other_order : List (List ℕ)
 other_order = codes "serving" ∷ codes "packet" ∷ codes "t3" ∷ codes "n3" ∷ codes "hold" ∷ codes "events" ∷ []
 
 among_both : (key : List ℕ) → is_among (map key_text scenario_keys) key ≡ is_among other_order key
-among_both key = turned (bytes_eq key (codes "t3")) (bytes_eq key (codes "n3")) (bytes_eq key (codes "hold")) (bytes_eq key (codes "serving")) (bytes_eq key (codes "packet")) (bytes_eq key (codes "events"))
+among_both key =
+    turned (bytes_eq key (codes "t3")) (bytes_eq key (codes "n3")) (bytes_eq key (codes "hold")) (bytes_eq key (codes "serving"))
+    (bytes_eq key (codes "packet")) (bytes_eq key (codes "events"))
 
 all_both : (ms : Members) → all_among (map key_text scenario_keys) ms ≡ all_among other_order ms
 all_both no_members = refl
@@ -189,7 +199,9 @@ setup_read d h serving_is packet_is =
     (λ t. chain (get (codes "serving") d >>= serving_of) _ (pinned (get (codes "serving") d) serving.0 serving_of serving.1 (serving_read serving.0 (serving_is serving.0 serving.1)))
     (λ s. pinned (get (codes "packet") d) packet.0 _ packet.1
     (pinned (packet_of packet.0) p.head _ p.read
-    (chain (with_templates_at packet.0 (set_up t s p.head).packet) _ (templates_read packet.0 (set_up t s p.head).packet p.head.access_points (met_in packet_keys packet.0 is.keys 8 keys.Templates refl) is.templates p.names refl) (λ x. refl))))))
+    (chain (with_templates_at packet.0 (set_up t s p.head).packet) _
+    (templates_read packet.0 (set_up t s p.head).packet p.head.access_points (met_in packet_keys packet.0 is.keys 8 keys.Templates refl) is.templates
+    p.names refl) (λ x. refl))))))
 
 events_met : (d : Data) → is_met d keys.Events ≡ true → is_some (events_at d) ≡ true
 unfolding events_at

@@ -22,7 +22,8 @@ use Rattle.gtp_scenario.specs.Names.{session_name_of, bearer_name_of}
 use Rattle.gtp_scenario.specs.Named.{delivery, expected_of, IsRightBeside, IsRight, session_at, bearer_at, bearer_sent_on, datagrams_said, datagram_at, name_for, name_of}
 use Rattle.gtp_scenario.specs.Past.{Past}
 use Rattle.gtp_scenario.specs.Scenarios.{most_events, one_within, entry_or, whole_entry, named_entry, HasHappened, AreDelivered, IsReadBy, IsRead, AreRead, IsListRead}
-use Rattle.gtp_scenario.proofs.Apart.{none_then, deliver_none, session_there, bearer_there, sent_on_there, delete_session_none, release_session_none, create_bearer_none, delete_bearer_none, end_marker_none, send_none}
+use Rattle.gtp_scenario.proofs.Apart.{none_then, deliver_none, session_there, bearer_there, sent_on_there, delete_session_none, release_session_none}
+use Rattle.gtp_scenario.proofs.Apart.{create_bearer_none, delete_bearer_none, end_marker_none, send_none}
 use Rattle.gtp_scenario.proofs.Whole.{named, of_kind, mapped}
 
 -- ---- the item at which it stops
@@ -154,7 +155,8 @@ abbrev wrong : Result (List Entry) Halt
 wrong = Err halts.Wrong
 
 -- what is expected of all deliveries is read, so they are not wrong
-all_right : (IsPast : Past → Type 0) (room : ℕ) (o : Option (Option (List ℕ))) → is_some o ≡ true → MatchOption o (wrong ≡ wrong) (λ expect. (past : Past) × IsPast past × AreDelivered room expect past wrong) → ⊥
+all_right : (IsPast : Past → Type 0) (room : ℕ) (o : Option (Option (List ℕ))) → is_some o ≡ true
+    → MatchOption o (wrong ≡ wrong) (λ expect. (past : Past) × IsPast past × AreDelivered room expect past wrong) → ⊥
 all_right IsPast room None right read = absurd cc
 all_right IsPast room (Some expect) right (past, is, (numbers, end, delivers, more, full, many)) = (let e : halts.Wrong ≡ halts.TooMany = many in cc)
 

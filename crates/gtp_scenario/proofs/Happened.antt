@@ -20,7 +20,8 @@ pub happen_one : (old : Past) (event : Event) (new : Past) → Happens old event
 happen_one old event new happens = (new, happens, refl)
 
 -- one more is delivered
-pub delivers_on : (old : Past) (numbers : List ℕ) (mid : Past) (number : ℕ) (others : List ℕ) (new : Past) → DeliversFirst old numbers mid → mid.waiting ≡ number ∷ others → Happens mid (Deliver number) new → DeliversFirst old (numbers ++ (number ∷ [])) new
+pub delivers_on : (old : Past) (numbers : List ℕ) (mid : Past) (number : ℕ) (others : List ℕ) (new : Past) → DeliversFirst old numbers mid
+    → mid.waiting ≡ number ∷ others → Happens mid (Deliver number) new → DeliversFirst old (numbers ++ (number ∷ [])) new
 delivers_on old [] mid number others new is first happens =
     subst (λ (p : Past). DeliversFirst p (number ∷ []) new) is (others, first, new, happens, refl)
 delivers_on old (n ∷ numbers) mid number others new (rest, at, next, comes, later) first happens =
@@ -52,9 +53,11 @@ parted (suc f) k n [] es is within = absurd (let no : suc f ≤ 0 = within in om
 parted (suc f) k zero (b ∷ before) es is within = absurd (omega arith)
 parted (suc f) k (suc n) (b ∷ before) es is within = ap (λ l. b ∷ l) (parted f k n before es (omega arith) (let w : suc f ≤ suc (length before) = within in omega arith))
 
-pub happened_on : (setup : Setup) (f k : ℕ) (before es : List Entry) (past new : Past) → f ≤ length before → HasHappened setup (take f before) past → Follow past (take k (drop f before ++ es)) new → HasHappened setup (take (f + k) (before ++ es)) new
+pub happened_on : (setup : Setup) (f k : ℕ) (before es : List Entry) (past new : Past) → f ≤ length before → HasHappened setup (take f before) past
+    → Follow past (take k (drop f before ++ es)) new → HasHappened setup (take (f + k) (before ++ es)) new
 happened_on setup f k before es past new within happened more =
-    subst (λ (l : List Entry). HasHappened setup l new) (sym (parted f k (f + k) before es refl within)) (follow_on (just_begun setup) (take f before) (take k (drop f before ++ es)) past new happened more)
+    subst (λ (l : List Entry). HasHappened setup l new) (sym (parted f k (f + k) before es refl within))
+    (follow_on (just_begun setup) (take f before) (take k (drop f before ++ es)) past new happened more)
 
 -- the first of those that wait, and that none does
 pub first_is : (n : ℕ) (ns : List ℕ) → Some n ≡ slice_get ns 0 → ns ≡ n ∷ drop 1 ns

@@ -20,7 +20,9 @@ use Rattle.gtp_scenario.specs.Json.{text_at, text_if, whole_number, number_at}
 use Rattle.gtp_scenario.specs.declared.reason.wanted.Wanted.TheVariants as wanted
 use Rattle.gtp_scenario.specs.Keys.{key_text, is_good_text, is_met, is_met_by, kind_of, event_keys, named_keys, has_name, keys_in}
 use Rattle.gtp_scenario.specs.Names.{session_name_of, bearer_name_of}
-use Rattle.gtp_scenario.specs.Named.{IsRightBeside, IsRightNamed, IsRight, datagrams_said, datagram_at, expected_of, session_at, bearer_at, bearer_sent_on, name_for, name_of, delete_session_named, release_session_named, create_bearer_named, delete_bearer_named, end_marker_named, send_named, event_about, entry_about}
+use Rattle.gtp_scenario.specs.Named.{IsRightBeside, IsRightNamed, IsRight, datagrams_said, datagram_at, expected_of, session_at, bearer_at}
+use Rattle.gtp_scenario.specs.Named.{bearer_sent_on, name_for, name_of, delete_session_named, release_session_named, create_bearer_named}
+use Rattle.gtp_scenario.specs.Named.{delete_bearer_named, end_marker_named, send_named, event_about, entry_about}
 use Rattle.gtp_scenario.specs.Reasons.{fits}
 use Rattle.gtp_scenario.proofs.Whole.{is_numbered, chain, pinned, gated, needed, parts, met_in, node_met, ebi_met, tft_met, payload_met, expect_met, entry_read, by_some}
 
@@ -91,10 +93,16 @@ event_met : (kind : EventKind) (teid : ℕ) (d : Data) → has_name d kind ≡ t
 unfolding delete_session_named release_session_named create_bearer_named delete_bearer_named end_marker_named send_named
 event_met kinds.DeleteSession teid d has h = gated _ _ (parts (named_keys kinds.DeleteSession) d h).only refl
 event_met kinds.ReleaseSession teid d has h = gated _ _ (parts (named_keys kinds.ReleaseSession) d h).only refl
-event_met kinds.CreateBearer teid d has h = gated _ _ (parts (named_keys kinds.CreateBearer) d h).only (chain (tft_at d) _ (tft_met d (met_in (named_keys kinds.CreateBearer) d h 3 keys.Tft refl)) (λ f. refl))
-event_met kinds.DeleteBearer teid d has h = gated _ _ (parts (named_keys kinds.DeleteBearer) d h).only (chain (ebi_at d) _ (ebi_met d (met_in (named_keys kinds.DeleteBearer) d h 3 keys.Ebi refl)) (λ e. refl))
+event_met kinds.CreateBearer teid d has h =
+    gated _ _ (parts (named_keys kinds.CreateBearer) d h).only
+    (chain (tft_at d) _ (tft_met d (met_in (named_keys kinds.CreateBearer) d h 3 keys.Tft refl)) (λ f. refl))
+event_met kinds.DeleteBearer teid d has h =
+    gated _ _ (parts (named_keys kinds.DeleteBearer) d h).only
+    (chain (ebi_at d) _ (ebi_met d (met_in (named_keys kinds.DeleteBearer) d h 3 keys.Ebi refl)) (λ e. refl))
 event_met kinds.EndMarker teid d has h = gated _ _ (parts (named_keys kinds.EndMarker) d h).only refl
-event_met kinds.Send teid d has h = gated _ _ (parts (named_keys kinds.Send) d h).only (chain (node_at d) _ (node_met d (met_in (named_keys kinds.Send) d h 2 keys.Node refl)) (λ n. chain (payload_at d) _ (payload_met d (met_in (named_keys kinds.Send) d h 4 keys.Payload refl)) (λ p. refl)))
+event_met kinds.Send teid d has h =
+    gated _ _ (parts (named_keys kinds.Send) d h).only (chain (node_at d) _ (node_met d (met_in (named_keys kinds.Send) d h 2 keys.Node refl))
+    (λ n. chain (payload_at d) _ (payload_met d (met_in (named_keys kinds.Send) d h 4 keys.Payload refl)) (λ p. refl)))
 event_met kinds.CreateSession teid d has h = absurd cc
 event_met kinds.Echo teid d has h = absurd cc
 event_met kinds.Restart teid d has h = absurd cc
@@ -127,7 +135,10 @@ named_right d word kind said is has h =
     record {
       name = c.name;
       named = bound (text_at (codes "do") d >>= kind_of) kind (λ k. name_for k d) c.name at c.is;
-      beside = context_beside c.name d c.context (λ teid. pinned (text_at (codes "do") d >>= kind_of) kind _ at (chain (event_about kind teid d) _ (event_met kind teid d has h) (λ e. chain (text_if (get (codes "expect") d)) _ (expect_met d (get (codes "expect") d) (expect_at kind d has h)) (λ x. refl))));
+      beside =
+          context_beside c.name d c.context
+          (λ teid. pinned (text_at (codes "do") d >>= kind_of) kind _ at (chain (event_about kind teid d) _ (event_met kind teid d has h)
+          (λ e. chain (text_if (get (codes "expect") d)) _ (expect_met d (get (codes "expect") d) (expect_at kind d has h)) (λ x. refl))));
     }
 
 -- ---- deliveries
@@ -156,7 +167,8 @@ delivered d met not = by (get (codes "datagram") d) refl met not
     by None at m n = record { name = Newest; is = ap datagrams_said at; beside = λ right. right }
     by (Some v) at m n = record { name = All; is = ap datagrams_said at ∙ said_all v (or_right (is_some (whole_number v)) _ n m); beside = λ right. right }
 
-delivery_right : (d : Data) (word : List ℕ) → text_at (codes "do") d ≡ Some word → kind_of word ≡ Some kinds.Deliver → is_some (number_at (codes "datagram") d) ≡ false → fits (event_keys kinds.Deliver) d ≡ true → IsRightNamed d
+delivery_right : (d : Data) (word : List ℕ) → text_at (codes "do") d ≡ Some word → kind_of word ≡ Some kinds.Deliver
+    → is_some (number_at (codes "datagram") d) ≡ false → fits (event_keys kinds.Deliver) d ≡ true → IsRightNamed d
 unfolding name_of expected_of
 delivery_right d word said is not h =
     let found = delivered d (met_in (event_keys kinds.Deliver) d h 2 keys.DatagramOrAll refl) not in
@@ -167,7 +179,8 @@ delivery_right d word said is not h =
     }
 
 -- only a delivery may have no number
-delivery_named : (d : Data) (word : List ℕ) (kind : EventKind) → text_at (codes "do") d ≡ Some word → kind_of word ≡ Some kind → is_numbered kind d ≡ false → fits (event_keys kind) d ≡ true → IsRightNamed d
+delivery_named : (d : Data) (word : List ℕ) (kind : EventKind) → text_at (codes "do") d ≡ Some word → kind_of word ≡ Some kind → is_numbered kind d ≡ false
+    → fits (event_keys kind) d ≡ true → IsRightNamed d
 delivery_named d word kinds.Deliver said is not h = delivery_right d word said is not h
 delivery_named d word kinds.CreateSession said is not h = absurd cc
 delivery_named d word kinds.DeleteSession said is not h = absurd cc

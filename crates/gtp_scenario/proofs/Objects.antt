@@ -1,5 +1,6 @@
 -- What is found at the keys of an object.
-use Rattle.std.proofs.Common.{◌≡◌, Bor, ℕ, List, [], ◌∷◌, map, Bool, true, false, cond, Option, Some, None, MatchOption, option_map, bytes_eq, refl, sym, ap, subst, ◌∙◌, ◌&&◌, ◌+◌, ◌-◌, ◌≤◌, suc, arith}
+use Rattle.std.proofs.Common.{◌≡◌, Bor, ℕ, List, [], ◌∷◌, map, Bool, true, false, cond, Option, Some, None, MatchOption, option_map, bytes_eq, refl}
+use Rattle.std.proofs.Common.{sym, ap, subst, ◌∙◌, ◌&&◌, ◌+◌, ◌-◌, ◌≤◌, suc, arith}
 use Rattle.std.specs.Prelude.{codes, is_some, find, not}
 use Rattle.std.specs.Option.{option_map_or}
 use Rattle.std.proofs.lemmas.Slice.Eq.{bytes_eq-Decides}
@@ -33,7 +34,9 @@ no_object (json.string s) h = refl
 no_object (json.array js) h = refl
 no_object (json.object ms) h = absurd cc
 
-pub object_found : (ts : List Token) (r : Option (List Token)) → HasValue ts → ((j : json.Json) → BeginsWith ts j → MatchOption r (finds.as_object j ≡ None) (λ us. (ms : json.Members) × (j ≡ json.object ms) × InMembers us ms)) → is_some r ≡ is_some (as_object (view ts))
+pub object_found : (ts : List Token) (r : Option (List Token)) → HasValue ts → ((j : json.Json) → BeginsWith ts j
+    → MatchOption r (finds.as_object j ≡ None) (λ us. (ms : json.Members) × (j ≡ json.object ms) × InMembers us ms))
+    → is_some r ≡ is_some (as_object (view ts))
 object_found ts None has found = no_object has.0 (found has.0 has.1) ∙ ap (λ j. is_some (as_object (data_of j))) (sym (json_is ts has.0 has.1))
 object_found ts (Some us) has found =
     let f = found has.0 has.1 in
@@ -71,11 +74,13 @@ abbrev pub TellsOf : List Key → Data → Option (Bor (List ℕ)) → Type 0
 TellsOf known d r = MatchOption r (is_some (as_object d) ≡ true → has_only (map key_text known) d ≡ true) (λ text. IsUnknown known d text.now)
 
 pub unknown_found : (known : List Key) (ts : List Token) (has : HasValue ts) (ms : json.Members) (r : Option (Bor (List ℕ))) → has.0 ≡ json.object ms
-    → MatchOption r (all_among (map key_text known) (members_said ms no_members) ≡ true) (λ text. (is_some (get_member text.now (members_said ms no_members)) ≡ true) × (is_among (map key_text known) text.now ≡ false))
+    → MatchOption r (all_among (map key_text known) (members_said ms no_members) ≡ true)
+    (λ text. (is_some (get_member text.now (members_said ms no_members)) ≡ true) × (is_among (map key_text known) text.now ≡ false))
     → TellsOf known (view ts) r
 unknown_found known ts has ms r is told = subst (λ d. TellsOf known d r) (sym (ap data_of (json_is ts has.0 has.1 ∙ is))) (at r told)
   where
-    at : (r : Option (Bor (List ℕ))) → MatchOption r (all_among (map key_text known) (members_said ms no_members) ≡ true) (λ text. (is_some (get_member text.now (members_said ms no_members)) ≡ true) × (is_among (map key_text known) text.now ≡ false))
+    at : (r : Option (Bor (List ℕ))) → MatchOption r (all_among (map key_text known) (members_said ms no_members) ≡ true)
+        (λ text. (is_some (get_member text.now (members_said ms no_members)) ≡ true) × (is_among (map key_text known) text.now ≡ false))
         → TellsOf known (data_of (json.object ms)) r
     at None h = λ _. h
     at (Some text) h = record { there = h.0; unknown = h.1 }
@@ -115,12 +120,14 @@ all_met : (known : List Key) (d : Data) → find (is_unmet d) known ≡ None →
 all_met [] d none = refl
 all_met (key ∷ known) d none = by (is_met d key) refl none (all_met known d)
   where
-    by : (b : Bool) → is_met d key ≡ b → cond (not b) (Some key) (find (is_unmet d) known) ≡ None → (find (is_unmet d) known ≡ None → list_all (is_met d) known ≡ true) → is_met d key && list_all (is_met d) known ≡ true
+    by : (b : Bool) → is_met d key ≡ b → cond (not b) (Some key) (find (is_unmet d) known) ≡ None
+        → (find (is_unmet d) known ≡ None → list_all (is_met d) known ≡ true) → is_met d key && list_all (is_met d) known ≡ true
     by true is none later = rw is (later none)
     by false is none later = absurd cc
 
 -- nothing is wrong where none of the three looks finds anything
-pub fits_where : (known : List Key) (d : Data) → is_some (as_object d) ≡ true → (is_some (as_object d) ≡ true → has_only (map key_text known) d ≡ true) → find (is_unmet d) known ≡ None → fits known d ≡ true
+pub fits_where : (known : List Key) (d : Data) → is_some (as_object d) ≡ true → (is_some (as_object d) ≡ true → has_only (map key_text known) d ≡ true)
+    → find (is_unmet d) known ≡ None → fits known d ≡ true
 fits_where known d object only none = rw (only object) (all_met known d none)
 
 -- ---- a key whose value says nothing
@@ -169,5 +176,6 @@ first_item : (o : Option Data) (rest : Items) → get_item 0 (unless_empty o res
 first_item None rest = refl
 first_item (Some d) rest = refl
 
-pub last_place : (place counter : ℕ) (all left rest : Items) (o : Option Data) → ((k : ℕ) → get_item (counter + k) all ≡ get_item k left) → counter ≡ place → left ≡ unless_empty o rest → o ≡ get_item place all
+pub last_place : (place counter : ℕ) (all left rest : Items) (o : Option Data) → ((k : ℕ) → get_item (counter + k) all ≡ get_item k left) → counter ≡ place
+    → left ≡ unless_empty o rest → o ≡ get_item place all
 last_place place counter all left rest o at same is = sym (ap (λ n. get_item n all) (let e : place ≡ counter + 0 = omega arith in e) ∙ at 0 ∙ ap (get_item 0) is ∙ first_item o rest)

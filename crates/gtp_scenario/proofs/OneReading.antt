@@ -6,7 +6,7 @@ use Rattle.gtp_machine.specs.World.{Event, Deliver}
 use Rattle.gtp_machine.specs.declared.role.Role.{Role}
 use Rattle.gtp_machine.specs.declared.role.Role.TheVariants.{Serving, Packet}
 use Rattle.gtp_machine.specs.Node.{Node}
-use Rattle.gtp_world.specs.Determined.{HalvesAlike, WorldsAlike}
+use Rattle.gtp_world.specs.Determined.{GatewaysAlike, WorldsAlike}
 use Rattle.gtp_world.specs.Record.{GatewayRecord, WorldRecord, Log}
 use Rattle.gtp_world.specs.Runs.{Setup, begun}
 use Rattle.gtp_world.proofs.Determined.Lasting.{BothLast, comes_last, begun_last}
@@ -20,7 +20,8 @@ use Rattle.gtp_scenario.specs.declared.name.Name.TheVariants.{Newest, All, Sessi
 use Rattle.gtp_scenario.specs.Entries.{Entry, events_in}
 use Rattle.gtp_scenario.specs.Named.{name_of, expected_of, entry_about, delivery}
 use Rattle.gtp_scenario.specs.Past.{Past, just_begun, sent_in, sent_between, undelivered, Happens, Happen, last_before, newest, session_named, bearer_named, node_in, DeliversFirst}
-use Rattle.gtp_scenario.specs.Scenarios.{Scenario, Head, json_of, head_in, count_in, named_entry, delivery_of, AreDelivered, HasHappened, IsReadBy, IsRead, AreRead, scenario_by, IsReadOn, IsReadIn, IsReadFrom, IsReading}
+use Rattle.gtp_scenario.specs.Scenarios.{Scenario, Head, json_of, head_in, count_in, named_entry, delivery_of, AreDelivered, HasHappened, IsReadBy}
+use Rattle.gtp_scenario.specs.Scenarios.{IsRead, AreRead, scenario_by, IsReadOn, IsReadIn, IsReadFrom, IsReading}
 
 -- ---- pasts that are alike
 
@@ -31,8 +32,8 @@ record Alike (one other : Past) : Type 0 where
   lasts : BothLast one.world
   lasts_too : BothLast other.world
 
-half_itself : (h : GatewayRecord) → HalvesAlike h h
-half_itself h = record {
+gateway_itself : (h : GatewayRecord) → GatewaysAlike h h
+gateway_itself h = record {
   settings = refl;
   state = record { role = refl; node = refl; timers = refl; next = refl; waiting = refl; held = refl };
   first = refl;
@@ -44,7 +45,7 @@ half_itself h = record {
 
 begun_alike : (setup : Setup) → Alike (just_begun setup) (just_begun setup)
 begun_alike setup = record {
-  worlds = record { serving = half_itself (begun setup).serving; packet = half_itself (begun setup).packet; log = refl };
+  worlds = record { serving = gateway_itself (begun setup).serving; packet = gateway_itself (begun setup).packet; log = refl };
   waiting = refl;
   lasts = begun_last setup;
   lasts_too = begun_last setup;
@@ -94,7 +95,8 @@ record OneEnd (numbers others : List ℕ) (end left : Past) : Type 0 where
   numbers_same : numbers ≡ others
   alike : Alike end left
 
-one_end : (room : ℕ) (one other : Past) (numbers others : List ℕ) (end left : Past) → Alike one other → DeliversFirst one numbers end → DeliversFirst other others left → AtEnd room numbers end → AtEnd room others left → OneEnd numbers others end left
+one_end : (room : ℕ) (one other : Past) (numbers others : List ℕ) (end left : Past) → Alike one other → DeliversFirst one numbers end
+    → DeliversFirst other others left → AtEnd room numbers end → AtEnd room others left → OneEnd numbers others end left
 one_end room one other [] [] end left alike is also at at_too =
     record { numbers_same = refl; alike = subst (λ (p : Past). Alike p left) (sym is) (subst (λ (p : Past). Alike one p) (sym also) alike) }
 one_end room one other [] (m ∷ others) end left alike is (rest, first, mid, happens, later) at at_too =
@@ -113,7 +115,10 @@ one_end (suc room) one other (n ∷ numbers) (m ∷ others) end left alike (rest
     let next = happens_alike one other (Deliver n) mid mid_too alike happens (subst (λ k. Happens other (Deliver k) mid_too) (sym same) happens_too) in
     let ends = one_end room mid mid_too numbers others end left next later later_too
     (record { few = (let few : suc (length numbers) ≤ suc room = at.few in omega (arith, few)); over = λ k ns w. (let full : suc (length numbers) ≡ suc room = at.over k ns w in omega (arith, full)) })
-    (record { few = (let few : suc (length others) ≤ suc room = at_too.few in omega (arith, few)); over = λ k ns w. (let full : suc (length others) ≡ suc room = at_too.over k ns w in omega (arith, full)) }) in
+    (record {
+      few = (let few : suc (length others) ≤ suc room = at_too.few in omega (arith, few));
+      over = λ k ns w. (let full : suc (length others) ≡ suc room = at_too.over k ns w in omega (arith, full));
+    }) in
     record { numbers_same = (λ i. same i ∷ ends.numbers_same i); alike = ends.alike }
 
 done : (room : ℕ) (numbers : List ℕ) (end : Past) → end.waiting ≡ [] → length numbers ≤ room → AtEnd room numbers end
@@ -122,7 +127,8 @@ done room numbers end none few = record { few = few; over = λ n ns w. absurd (c
 full : (room : ℕ) (numbers : List ℕ) (end : Past) → length numbers ≡ room → AtEnd room numbers end
 full room numbers end as_many = record { few = omega (arith, as_many); over = λ n ns w. as_many }
 
-delivered_one : (room : ℕ) (expect : Option (List ℕ)) (one other : Past) (reading also : Result (List Entry) Halt) → Alike one other → AreDelivered room expect one reading → AreDelivered room expect other also → reading ≡ also
+delivered_one : (room : ℕ) (expect : Option (List ℕ)) (one other : Past) (reading also : Result (List Entry) Halt) → Alike one other
+    → AreDelivered room expect one reading → AreDelivered room expect other also → reading ≡ also
 delivered_one room expect one other (Ok xs) (Ok ys) alike (ns, end, d, none, few, are) (ms, left, e, none_too, few_too, are_too) =
     let ends = one_end room one other ns ms end left alike d e (done room ns end none few) (done room ms left none_too few_too) in
     ap (λ es. Ok es) (are ∙ (ap (map (delivery expect)) ends.numbers_same ∙ sym are_too))
@@ -144,7 +150,8 @@ all_one None setup before room reading also h k = h ∙ sym k
 all_one (Some expect) setup before room reading also (one, happened, is) (other, happened_too, is_too) =
     delivered_one room expect one other reading also (past_alike setup before one other happened happened_too) is is_too
 
-read_one : (name : Option Name) (setup : Setup) (before : List Entry) (room : ℕ) (d : Data) (reading also : Result (List Entry) Halt) → IsReadBy name (HasHappened setup before) room d reading → IsReadBy name (HasHappened setup before) room d also → reading ≡ also
+read_one : (name : Option Name) (setup : Setup) (before : List Entry) (room : ℕ) (d : Data) (reading also : Result (List Entry) Halt)
+    → IsReadBy name (HasHappened setup before) room d reading → IsReadBy name (HasHappened setup before) room d also → reading ≡ also
 read_one None setup before room d reading also h k = h ∙ sym k
 read_one (Some Newest) setup before room d reading also (one, happened, is) (other, happened_too, is_too) =
     let alike = past_alike setup before one other happened happened_too in
@@ -159,13 +166,17 @@ read_one (Some (Bearer node name)) setup before room d reading also (one, happen
 
 -- ---- a list
 
-list_one : (setup : Setup) (place : ℕ) (before : List Entry) (room : ℕ) (items : Items) (reading also : Result (List Entry) Halted) → AreRead setup place before room items reading → AreRead setup place before room items also → reading ≡ also
+list_one : (setup : Setup) (place : ℕ) (before : List Entry) (room : ℕ) (items : Items) (reading also : Result (List Entry) Halted)
+    → AreRead setup place before room items reading → AreRead setup place before room items also → reading ≡ also
 list_one setup place before room no_items reading also h k = h ∙ sym k
 list_one setup place before room (item d items) reading also (Ok es, is, rest) (Ok fs, is_too, rest_too) =
     let same : es ≡ fs = (let e = read_one (name_of d) setup before room d (Ok es) (Ok fs) is is_too in cc) in
-    list_one setup (place + 1) (before ++ es) (room - count_in es) items reading also rest (subst (λ (l : List Entry). AreRead setup (place + 1) (before ++ l) (room - count_in l) items also) (sym same) rest_too)
-list_one setup place before room (item d items) reading also (Ok es, is, rest) (Err halt, is_too, rest_too) = absurd (let e = read_one (name_of d) setup before room d (Ok es) (Err halt) is is_too in cc)
-list_one setup place before room (item d items) reading also (Err halt, is, rest) (Ok es, is_too, rest_too) = absurd (let e = read_one (name_of d) setup before room d (Err halt) (Ok es) is is_too in cc)
+    list_one setup (place + 1) (before ++ es) (room - count_in es) items reading also rest
+    (subst (λ (l : List Entry). AreRead setup (place + 1) (before ++ l) (room - count_in l) items also) (sym same) rest_too)
+list_one setup place before room (item d items) reading also (Ok es, is, rest) (Err halt, is_too, rest_too) =
+    absurd (let e = read_one (name_of d) setup before room d (Ok es) (Err halt) is is_too in cc)
+list_one setup place before room (item d items) reading also (Err halt, is, rest) (Ok es, is_too, rest_too) =
+    absurd (let e = read_one (name_of d) setup before room d (Err halt) (Ok es) is is_too in cc)
 list_one setup place before room (item d items) reading also (Err halt, is, rest) (Err stop, is_too, rest_too) =
     let same : halt ≡ stop = (let e = read_one (name_of d) setup before room d (Err halt) (Err stop) is is_too in cc) in
     rest ∙ (ap (λ h. Err (record { place = place; halt = h })) same ∙ sym rest_too)

@@ -1,5 +1,6 @@
 -- What an entry comes to.
-use Rattle.std.proofs.Common.{◌≡◌, ◌≤◌, ◌+◌, ◌-◌, ℕ, Bool, true, false, cond, List, [], ◌∷◌, ◌++◌, map, length, replicate, Option, Some, None, option_map, Result, Ok, Err, MatchOption, refl, sym, ap, subst, ◌∙◌, arith}
+use Rattle.std.proofs.Common.{◌≡◌, ◌≤◌, ◌+◌, ◌-◌, ℕ, Bool, true, false, cond, List, [], ◌∷◌, ◌++◌, map, length, replicate, Option, Some, None}
+use Rattle.std.proofs.Common.{option_map, Result, Ok, Err, MatchOption, refl, sym, ap, subst, ◌∙◌, arith}
 use Rattle.std.specs.Prelude.{nat_le}
 use Rattle.std.specs.List.{flat_map}
 use Rattle.std.proofs.lemmas.Bool.Decides.{nat_tests}
@@ -50,7 +51,8 @@ delivered_fit room expect past es (numbers, end, delivered, none, few, are) =
     let count : count_in es ≡ length numbers = ap count_in are ∙ (ap length (delivered_events expect numbers) ∙ length-map numbers Deliver) in
     omega (arith, count, few)
 
-all_fit : (o : Option (Option (List ℕ))) (IsPast : Past → Type 0) (room : ℕ) (es : List Entry) → MatchOption o (Ok es ≡ Err halts.Wrong) (λ expect. (past : Past) × IsPast past × AreDelivered room expect past (Ok es)) → count_in es ≤ room
+all_fit : (o : Option (Option (List ℕ))) (IsPast : Past → Type 0) (room : ℕ) (es : List Entry)
+    → MatchOption o (Ok es ≡ Err halts.Wrong) (λ expect. (past : Past) × IsPast past × AreDelivered room expect past (Ok es)) → count_in es ≤ room
 all_fit None IsPast room es h = absurd cc
 all_fit (Some expect) IsPast room es (past, is, delivered) = delivered_fit room expect past es delivered
 
@@ -64,11 +66,14 @@ read_fits (Some (Bearer node name)) IsPast room d es (past, is, h) = named_fits 
 
 -- ---- a past by another account of it
 
-all_by : (o : Option (Option (List ℕ))) (P Q : Past → Type 0) (room : ℕ) (reading : Result (List Entry) Halt) → ((p : Past) → P p → Q p) → MatchOption o (reading ≡ Err halts.Wrong) (λ expect. (past : Past) × P past × AreDelivered room expect past reading) → MatchOption o (reading ≡ Err halts.Wrong) (λ expect. (past : Past) × Q past × AreDelivered room expect past reading)
+all_by : (o : Option (Option (List ℕ))) (P Q : Past → Type 0) (room : ℕ) (reading : Result (List Entry) Halt) → ((p : Past) → P p → Q p)
+    → MatchOption o (reading ≡ Err halts.Wrong) (λ expect. (past : Past) × P past × AreDelivered room expect past reading)
+    → MatchOption o (reading ≡ Err halts.Wrong) (λ expect. (past : Past) × Q past × AreDelivered room expect past reading)
 all_by None P Q room reading so h = h
 all_by (Some expect) P Q room reading so (past, is, delivered) = (past, so past is, delivered)
 
-pub read_by : (name : Option Name) (P Q : Past → Type 0) (room : ℕ) (d : Data) (reading : Result (List Entry) Halt) → ((p : Past) → P p → Q p) → IsReadBy name P room d reading → IsReadBy name Q room d reading
+pub read_by : (name : Option Name) (P Q : Past → Type 0) (room : ℕ) (d : Data) (reading : Result (List Entry) Halt) → ((p : Past) → P p → Q p)
+    → IsReadBy name P room d reading → IsReadBy name Q room d reading
 read_by None P Q room d reading so h = h
 read_by (Some Newest) P Q room d reading so (past, is, h) = (past, so past is, h)
 read_by (Some All) P Q room d reading so h = all_by (expected_of d) P Q room reading so h
@@ -77,15 +82,20 @@ read_by (Some (Bearer node name)) P Q room d reading so (past, is, h) = (past, s
 
 -- ---- lists
 
-pub read_more : (setup : Setup) (place : ℕ) (before es : List Entry) (room : ℕ) (d : Data) (items : Items) (reading : Result (List Entry) Halted) → IsRead setup before room d (Ok es) → AreRead setup (place + 1) (before ++ es) (room - count_in es) items reading → AreRead setup place before room (item d items) reading
+pub read_more : (setup : Setup) (place : ℕ) (before es : List Entry) (room : ℕ) (d : Data) (items : Items) (reading : Result (List Entry) Halted)
+    → IsRead setup before room d (Ok es) → AreRead setup (place + 1) (before ++ es) (room - count_in es) items reading
+    → AreRead setup place before room (item d items) reading
 read_more setup place before es room d items reading read more = (Ok es, read, more)
 
-pub read_halts : (setup : Setup) (place : ℕ) (before : List Entry) (halt : Halt) (room : ℕ) (d : Data) (items : Items) → IsRead setup before room d (Err halt) → AreRead setup place before room (item d items) (Err (record { place = place; halt = halt }))
+pub read_halts : (setup : Setup) (place : ℕ) (before : List Entry) (halt : Halt) (room : ℕ) (d : Data) (items : Items) → IsRead setup before room d (Err halt)
+    → AreRead setup place before room (item d items) (Err (record { place = place; halt = halt }))
 read_halts setup place before halt room d items read = (Err halt, read, refl)
 
 -- ---- faults
 
-pub fault_at : {X Z Y : Type 0} (view : X → Y) (other : Z → Y) (place : ℕ) (fault : ItemFault) (P : Result Y Halt → Type 0) (Q : Result Y Halted → Type 0) → ((halt : Halt) → P (Err halt) → Q (Err (record { place = place; halt = halt }))) → ReadsItem view (Err fault) P → ReadsList other (Err (list_fault_for place fault)) Q
+pub fault_at : {X Z Y : Type 0} (view : X → Y) (other : Z → Y) (place : ℕ) (fault : ItemFault) (P : Result Y Halt → Type 0) (Q : Result Y Halted → Type 0)
+    → ((halt : Halt) → P (Err halt) → Q (Err (record { place = place; halt = halt }))) → ReadsItem view (Err fault) P
+    → ReadsList other (Err (list_fault_for place fault)) Q
 fault_at view other place item_faults.Memory P Q so h = tt
 fault_at view other place (item_faults.Halted halt) P Q so h = so halt h
 
@@ -96,5 +106,10 @@ reads_as view (Ok x) P Q so h = so (Ok (view x)) h
 reads_as view (Err item_faults.Memory) P Q so h = tt
 reads_as view (Err (item_faults.Halted halt)) P Q so h = so (Err halt) h
 
-pub all_read : (o : Option (Option (List ℕ))) (expect : Option (List ℕ)) (IsPast : Past → Type 0) (room : ℕ) (past : Past) (reading : Result (List Entry) Halt) → Some expect ≡ o → IsPast past → AreDelivered room expect past reading → MatchOption o (reading ≡ Err halts.Wrong) (λ expect. (past : Past) × IsPast past × AreDelivered room expect past reading)
-all_read o expect IsPast room past reading is at delivered = subst (λ (o : Option (Option (List ℕ))). MatchOption o (reading ≡ Err halts.Wrong) (λ expect. (past : Past) × IsPast past × AreDelivered room expect past reading)) is (past, at, delivered)
+pub all_read : (o : Option (Option (List ℕ))) (expect : Option (List ℕ)) (IsPast : Past → Type 0) (room : ℕ) (past : Past) (reading : Result (List Entry) Halt)
+    → Some expect ≡ o → IsPast past → AreDelivered room expect past reading
+    → MatchOption o (reading ≡ Err halts.Wrong) (λ expect. (past : Past) × IsPast past × AreDelivered room expect past reading)
+all_read o expect IsPast room past reading is at delivered =
+    subst (λ (o : Option (Option (List ℕ))).
+    MatchOption o (reading ≡ Err halts.Wrong) (λ expect. (past : Past) × IsPast past × AreDelivered room expect past reading)) is
+    (past, at, delivered)

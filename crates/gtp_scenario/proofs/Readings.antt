@@ -19,7 +19,8 @@ use Rattle.gtp_scenario.proofs.ReadBy.{read_fits}
 count_more : (before es : List Entry) → count_in (before ++ es) ≡ count_in before + count_in es
 count_more before es = ap length (flat_map-append events_in before es) ∙ length-append (flat_map events_in before) (flat_map events_in es)
 
-within_room : (setup : Setup) (place : ℕ) (before : List Entry) (room : ℕ) (items : Items) (entries : List Entry) → AreRead setup place before room items (Ok entries) → count_in entries ≤ count_in before + room
+within_room : (setup : Setup) (place : ℕ) (before : List Entry) (room : ℕ) (items : Items) (entries : List Entry)
+    → AreRead setup place before room items (Ok entries) → count_in entries ≤ count_in before + room
 within_room setup place before room no_items entries is =
     let same : count_in before ≡ count_in entries = ap count_in (ok_same Halted before entries (sym is)) in
     omega (arith, same)

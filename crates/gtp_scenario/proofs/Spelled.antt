@@ -18,7 +18,9 @@ use Rattle.gtp_machine.specs.Input.{Command, Create_session, Delete_session, Cre
 use Rattle.gtp_machine.specs.World.{Event, Does, Tick, Deliver, Cut, Restart}
 use Rattle.gtp_machine.specs.Element.{Subscriber}
 use Rattle.gtp_scenario.specs.Texts.{imsi_of, apn_of, teid_of, octets_of}
-use Rattle.gtp_scenario.specs.Events.{qos, session_for, node_at, teid_at, ebi_at, pdn_at, subscriber_at, tft_at, payload_at, create_session_of, lone_teid_of, delete_session_of, release_session_of, end_marker_of, create_bearer_of, delete_bearer_of, lone_node_of, echo_of, restart_of, tick_of, send_of, deliver_of, cut_of, event_named}
+use Rattle.gtp_scenario.specs.Events.{qos, session_for, node_at, teid_at, ebi_at, pdn_at, subscriber_at, tft_at, payload_at, create_session_of}
+use Rattle.gtp_scenario.specs.Events.{lone_teid_of, delete_session_of, release_session_of, end_marker_of, create_bearer_of, delete_bearer_of}
+use Rattle.gtp_scenario.specs.Events.{lone_node_of, echo_of, restart_of, tick_of, send_of, deliver_of, cut_of, event_named}
 use Rattle.gtp_scenario.specs.Entries.{Entry, entry_of}
 use Rattle.gtp_scenario.specs.Spelling.{spelling, IsCommand, IsEvent}
 use Rattle.gtp_scenario.proofs.Texts.{imsi_is, apn_is}
@@ -58,10 +60,27 @@ once event expect = record { event = event; times = 1; expect = expect }
 abbrev Again : Event → Option (List ℕ) → Type 0
 Again event expect = entry_of (spelling (once event expect)) ≡ Some (once event expect)
 
-create_session_again : (s : Subscriber) (pdn : ℕ) (expect : Option (List ℕ)) → IsImsi s.imsi → IsApn s.access_point → IsEbi s.identity → pdn ≤ 7 → Again (Does Serving (Create_session (session_for s pdn))) expect
+create_session_again : (s : Subscriber) (pdn : ℕ) (expect : Option (List ℕ)) → IsImsi s.imsi → IsApn s.access_point → IsEbi s.identity → pdn ≤ 7
+    → Again (Does Serving (Create_session (session_for s pdn))) expect
 unfolding entry_of event_named create_session_of subscriber_at ebi_at pdn_at
-create_session_again s pdn None imsi apn ebi small = rw (imsi_again s.imsi imsi, apn_again s.access_point apn, le-leb 5 s.identity ebi.least, le-leb s.identity 15 ebi.most, le-leb 0 pdn (omega arith), le-leb pdn 7 small) refl
-create_session_again s pdn (Some word) imsi apn ebi small = rw (imsi_again s.imsi imsi, apn_again s.access_point apn, le-leb 5 s.identity ebi.least, le-leb s.identity 15 ebi.most, le-leb 0 pdn (omega arith), le-leb pdn 7 small) refl
+create_session_again s pdn None imsi apn ebi small =
+    rw (
+      imsi_again s.imsi imsi,
+      apn_again s.access_point apn,
+      le-leb 5 s.identity ebi.least,
+      le-leb s.identity 15 ebi.most,
+      le-leb 0 pdn (omega arith),
+      le-leb pdn 7 small,
+    ) refl
+create_session_again s pdn (Some word) imsi apn ebi small =
+    rw (
+      imsi_again s.imsi imsi,
+      apn_again s.access_point apn,
+      le-leb 5 s.identity ebi.least,
+      le-leb s.identity 15 ebi.most,
+      le-leb 0 pdn (omega arith),
+      le-leb pdn 7 small,
+    ) refl
 
 delete_session_again : (teid : ℕ) (expect : Option (List ℕ)) → teid < 2 ^ 32 → Again (Does Serving (Delete_session teid)) expect
 unfolding entry_of event_named delete_session_of lone_teid_of teid_at
@@ -102,7 +121,9 @@ restart_again Serving (Some word) = refl
 restart_again Packet None = refl
 restart_again Packet (Some word) = refl
 
-tick_again : (node : Role) (times : ℕ) (expect : Option (List ℕ)) → 1 ≤ times → times ≤ 1000 → entry_of (spelling (record { event = Tick node; times = times; expect = expect })) ≡ Some (record { event = Tick node; times = times; expect = expect })
+tick_again : (node : Role) (times : ℕ) (expect : Option (List ℕ)) → 1 ≤ times → times ≤ 1000
+    → entry_of (spelling (record { event = Tick node; times = times; expect = expect }))
+    ≡ Some (record { event = Tick node; times = times; expect = expect })
 unfolding entry_of event_named tick_of node_at
 tick_again Serving times None low high = rw (le-leb 1 times low, le-leb times 1000 high) refl
 tick_again Serving times (Some word) low high = rw (le-leb 1 times low, le-leb times 1000 high) refl
@@ -141,7 +162,9 @@ command_again node (Send_user teid payload) expect is = send_again node teid pay
 pub entry_again : (entry : Entry) → IsEvent entry.event entry.times → entry_of (spelling entry) ≡ Some entry
 entry_again entry is = all entry.event entry.times entry.expect is
   where
-    all : (event : Event) (times : ℕ) (expect : Option (List ℕ)) → IsEvent event times → entry_of (spelling (record { event = event; times = times; expect = expect })) ≡ Some (record { event = event; times = times; expect = expect })
+    all : (event : Event) (times : ℕ) (expect : Option (List ℕ)) → IsEvent event times
+        → entry_of (spelling (record { event = event; times = times; expect = expect }))
+        ≡ Some (record { event = event; times = times; expect = expect })
     all (Does node command) times expect is = rw is.0 (command_again node command expect is.1)
     all (Tick node) times expect is = tick_again node times expect is.0 is.1
     all (Deliver datagram) times expect is = rw is (deliver_again datagram expect)

@@ -14,7 +14,9 @@ use Rattle.gtp_scenario.specs.declared.reason.flaw.ObjectFlaw.TheVariants as fla
 use Rattle.gtp_scenario.specs.Steps.{◌>>=◌}
 use Rattle.gtp_scenario.specs.Json.{text_at, text_if, whole_number, number_at, number_or, within, has_only}
 use Rattle.gtp_scenario.specs.Texts.{imsi_of, apn_of, teid_of, octets_of}
-use Rattle.gtp_scenario.specs.Events.{role_of, node_at, teid_at, ebi_at, pdn_at, subscriber_at, tft_at, payload_at, create_session_of, lone_teid_of, delete_session_of, release_session_of, end_marker_of, create_bearer_of, delete_bearer_of, lone_node_of, echo_of, restart_of, tick_of, send_of, deliver_of, cut_of, event_named}
+use Rattle.gtp_scenario.specs.Events.{role_of, node_at, teid_at, ebi_at, pdn_at, subscriber_at, tft_at, payload_at, create_session_of, lone_teid_of}
+use Rattle.gtp_scenario.specs.Events.{delete_session_of, release_session_of, end_marker_of, create_bearer_of, delete_bearer_of, lone_node_of, echo_of}
+use Rattle.gtp_scenario.specs.Events.{restart_of, tick_of, send_of, deliver_of, cut_of, event_named}
 use Rattle.gtp_scenario.specs.Entries.{entry_of}
 use Rattle.gtp_scenario.specs.Keys.{key_text, wanted_of, is_good, is_good_text, may_be_absent, is_met, is_met_by, kind_of, event_keys, named_keys, has_name, keys_in}
 use Rattle.gtp_scenario.specs.Reasons.{fits, IsWordless, IsFlaw}
@@ -54,11 +56,14 @@ with_key d key known met all = rw met all
 
 -- ---- keys
 
-pub kept : {A : Type 0} (key : Key) (d : Data) (o : Option Data) (read : Data → Option A) → ((v : Data) → is_good (wanted_of key) v ≡ is_some (read v)) → is_some (o >>= read) ≡ true → is_met_by d key o ≡ true
+pub kept : {A : Type 0} (key : Key) (d : Data) (o : Option Data) (read : Data → Option A) → ((v : Data) → is_good (wanted_of key) v ≡ is_some (read v))
+    → is_some (o >>= read) ≡ true → is_met_by d key o ≡ true
 kept key d None read good h = absurd cc
 kept key d (Some v) read good h = good v ∙ h
 
-pub kept_or : (key : Key) (d : Data) (o : Option Data) (standard low high : ℕ) → may_be_absent d key ≡ true → ((v : Data) → is_good (wanted_of key) v ≡ is_some (whole_number v >>= within low high)) → is_some (number_or standard o >>= within low high) ≡ true → is_met_by d key o ≡ true
+pub kept_or : (key : Key) (d : Data) (o : Option Data) (standard low high : ℕ) → may_be_absent d key ≡ true
+    → ((v : Data) → is_good (wanted_of key) v ≡ is_some (whole_number v >>= within low high))
+    → is_some (number_or standard o >>= within low high) ≡ true → is_met_by d key o ≡ true
 kept_or key d None standard low high may good h = may
 kept_or key d (Some v) standard low high may good h = good v ∙ h
 
@@ -151,7 +156,10 @@ create_session_fit d h =
     let imsi = step (text_at (codes "imsi") d >>= imsi_of) _ (subst (λ o. is_some o ≡ true) (sym all.is) refl) in
     let apn = step (text_at (codes "apn") d >>= apn_of) _ imsi.next in (
       gate _ _ h,
-      with_key d keys.Imsi (keys.Apn ∷ keys.Ebi ∷ keys.Pdn ∷ []) (imsi_kept d (by_value _ imsi.value imsi.is)) (with_key d keys.Apn (keys.Ebi ∷ keys.Pdn ∷ []) (apn_kept d (by_value _ apn.value apn.is)) (with_key d keys.Ebi (keys.Pdn ∷ []) (ebi_kept d (had (ebi_at d) _ apn.next)) (with_key d keys.Pdn [] (pdn_kept d (had (pdn_at d) _ all.next)) refl))),
+      with_key d keys.Imsi (keys.Apn ∷ keys.Ebi ∷ keys.Pdn ∷ []) (imsi_kept d (by_value _ imsi.value imsi.is))
+          (with_key d keys.Apn (keys.Ebi ∷ keys.Pdn ∷ []) (apn_kept d (by_value _ apn.value apn.is))
+          (with_key d keys.Ebi (keys.Pdn ∷ []) (ebi_kept d (had (ebi_at d) _ apn.next))
+          (with_key d keys.Pdn [] (pdn_kept d (had (pdn_at d) _ all.next)) refl))),
     )
   where
     by_value : {A : Type 0} (o : Option A) (x : A) → o ≡ Some x → is_some o ≡ true
@@ -180,8 +188,11 @@ send_fit : (d : Data) → is_some (send_of d) ≡ true → Fit kinds.Send d (key
 unfolding send_of
 send_fit d h =
     let node = two (node_at d) _ (behind _ _ h) in
-    let teid = two (teid_at d) _ node.1.next in
-    (gate _ _ h, with_key d keys.Node (keys.Teid ∷ keys.Payload ∷ []) (node_kept d node.0) (with_key d keys.Teid (keys.Payload ∷ []) (teid_kept d teid.0) (with_key d keys.Payload [] (payload_kept d (had (payload_at d) _ teid.1.next)) refl)))
+    let teid = two (teid_at d) _ node.1.next in (
+      gate _ _ h,
+      with_key d keys.Node (keys.Teid ∷ keys.Payload ∷ []) (node_kept d node.0) (with_key d keys.Teid (keys.Payload ∷ []) (teid_kept d teid.0)
+          (with_key d keys.Payload [] (payload_kept d (had (payload_at d) _ teid.1.next)) refl)),
+    )
 
 deliver_fit : (d : Data) → is_some (deliver_of d) ≡ true → Fit kinds.Deliver d (keys.DatagramOrAll ∷ [])
 unfolding deliver_of
@@ -194,7 +205,8 @@ cut_fit d h =
     (gate _ _ h, with_key d keys.Datagram (keys.Length ∷ []) (datagram_kept d datagram.0) (with_key d keys.Length [] (length_kept d (had (number_at (codes "length") d) _ datagram.1.next)) refl))
 
 -- all parts of what fits
-joined : (kind : EventKind) (d : Data) (known : List Key) → event_keys kind ≡ keys.Do ∷ keys.Expect ∷ known → Fit kind d known → is_met d keys.Do ≡ true → is_met d keys.Expect ≡ true → fits (event_keys kind) d ≡ true
+joined : (kind : EventKind) (d : Data) (known : List Key) → event_keys kind ≡ keys.Do ∷ keys.Expect ∷ known → Fit kind d known → is_met d keys.Do ≡ true
+    → is_met d keys.Expect ≡ true → fits (event_keys kind) d ≡ true
 joined kind d known are fit worded expect =
     rw fit.0 (subst (λ all. list_all (is_met d) all ≡ true) (sym are) (with_key d keys.Do (keys.Expect ∷ known) worded (with_key d keys.Expect known expect fit.1)))
 
@@ -205,7 +217,8 @@ alone d key h = by (is_met d key) h
     by true h = refl
     by false h = h
 
-entry_fits : (kind : EventKind) (d : Data) → is_met d keys.Do ≡ true → is_met d keys.Expect ≡ true → is_some (number_or 1 (get (codes "times") d) >>= within 1 1000) ≡ true → is_some (of_kind kind d) ≡ true → fits (event_keys kind) d ≡ true
+entry_fits : (kind : EventKind) (d : Data) → is_met d keys.Do ≡ true → is_met d keys.Expect ≡ true
+    → is_some (number_or 1 (get (codes "times") d) >>= within 1 1000) ≡ true → is_some (of_kind kind d) ≡ true → fits (event_keys kind) d ≡ true
 unfolding delete_session_of release_session_of end_marker_of echo_of restart_of
 entry_fits kinds.CreateSession d worded expect times h = joined kinds.CreateSession d _ refl (create_session_fit d h) worded expect
 entry_fits kinds.DeleteSession d worded expect times h = joined kinds.DeleteSession d _ refl (lone_teid_fit d (had (lone_teid_of d) _ h)) worded expect

@@ -22,7 +22,9 @@ use Rattle.gtp_scenario.specs.Steps.{◌>>=◌}
 use Rattle.gtp_scenario.specs.Events.{tft_at}
 use Rattle.gtp_scenario.specs.Json.{text_at, number_at, whole_number, within, is_among, all_among, has_only, count_of}
 use Rattle.gtp_scenario.specs.Texts.{apn_of, address_of, ipv6_of}
-use Rattle.gtp_scenario.specs.Heads.{PacketHead, address_at, addresses_at, counter_at, access_points_in, access_points_at, pool_at, prefixes_from, prefixes_at, pools_at, time_at, timers_at, serving_of, packet_of, set_up, template_of, configured, with_this, with_each, with_those, with_templates_at, setup_of, events_at}
+use Rattle.gtp_scenario.specs.Heads.{PacketHead, address_at, addresses_at, counter_at, access_points_in, access_points_at, pool_at, prefixes_from}
+use Rattle.gtp_scenario.specs.Heads.{prefixes_at, pools_at, time_at, timers_at, serving_of, packet_of, set_up, template_of, configured, with_this}
+use Rattle.gtp_scenario.specs.Heads.{with_each, with_those, with_templates_at, setup_of, events_at}
 use Rattle.gtp_scenario.specs.Keys.{key_text, wanted_of, is_good, is_met, is_met_by, scenario_keys, serving_keys, packet_keys, template_keys}
 use Rattle.gtp_scenario.specs.Reasons.{fits, names_one_of, IsTemplateFlaw, IsPacketFlaw, IsHeadFlaw}
 use Rattle.gtp_scenario.specs.reading.Faultless.{is_template}
@@ -50,7 +52,9 @@ object_is known d only = by (as_object d) only
 
 control_kept : (d : Data) → is_some (address_at (codes "control") d) ≡ true → is_met d keys.Control ≡ true
 unfolding address_at
-control_kept d h = kept keys.Control d (get (codes "control") d) (λ v. as_str v >>= address_of) (λ v. by_text address_of (as_str v)) (apart (get (codes "control") d) as_str address_of (unmapped V4 _ h))
+control_kept d h =
+    kept keys.Control d (get (codes "control") d) (λ v. as_str v >>= address_of) (λ v. by_text address_of (as_str v))
+    (apart (get (codes "control") d) as_str address_of (unmapped V4 _ h))
 
 user_kept : (d : Data) → is_some (address_at (codes "user") d) ≡ true → is_met d keys.User ≡ true
 unfolding address_at
@@ -61,7 +65,8 @@ unfolding counter_at
 counter_kept d h = kept keys.Counter d (get (codes "counter") d) (λ v. whole_number v >>= within 0 255) (λ v. refl) (apart (get (codes "counter") d) whole_number (within 0 255) h)
 
 -- the keys of both gateways, and those that come after them
-ends_kept : (d : Data) (known : List Key) → is_some (addresses_at d) ≡ true → is_some (counter_at d) ≡ true → list_all (is_met d) known ≡ true → list_all (is_met d) (keys.Control ∷ keys.User ∷ keys.Counter ∷ known) ≡ true
+ends_kept : (d : Data) (known : List Key) → is_some (addresses_at d) ≡ true → is_some (counter_at d) ≡ true → list_all (is_met d) known ≡ true
+    → list_all (is_met d) (keys.Control ∷ keys.User ∷ keys.Counter ∷ known) ≡ true
 unfolding addresses_at
 ends_kept d known own counter all =
     let control = two (address_at (codes "control") d) _ own in
@@ -87,8 +92,10 @@ pool_kept : (d : Data) → is_some (pool_at d) ≡ true → (is_met d keys.Pool 
 unfolding pool_at
 pool_kept d h =
     let start = two (option_map _ (text_at (codes "pool") d >>= address_of)) _ h in (
-      kept keys.Pool d (get (codes "pool") d) (λ v. as_str v >>= address_of) (λ v. by_text address_of (as_str v)) (apart (get (codes "pool") d) as_str address_of (unmapped _ (text_at (codes "pool") d >>= address_of) start.0)),
-      kept keys.Count d (get (codes "count") d) (λ v. whole_number v >>= within 0 65536) (λ v. refl) (apart (get (codes "count") d) whole_number (within 0 65536) (had (number_at (codes "count") d >>= within 0 65536) _ start.1.next)),
+      kept keys.Pool d (get (codes "pool") d) (λ v. as_str v >>= address_of) (λ v. by_text address_of (as_str v))
+          (apart (get (codes "pool") d) as_str address_of (unmapped _ (text_at (codes "pool") d >>= address_of) start.0)),
+      kept keys.Count d (get (codes "count") d) (λ v. whole_number v >>= within 0 65536) (λ v. refl)
+          (apart (get (codes "count") d) whole_number (within 0 65536) (had (number_at (codes "count") d >>= within 0 65536) _ start.1.next)),
     )
 
 -- an object that has one of both keys of a pool has both, as they have to be
@@ -111,10 +118,13 @@ prefixes_kept d h = by (is_some (get (codes "pool6") d) || is_some (get (codes "
     given h =
         let start = two (text_at (codes "pool6") d >>= ipv6_of) _ h in (
           kept keys.Pool6 d (get (codes "pool6") d) (λ v. as_str v >>= ipv6_of) (λ v. by_text ipv6_of (as_str v)) (apart (get (codes "pool6") d) as_str ipv6_of start.0),
-          kept keys.Count6 d (get (codes "count6") d) (λ v. whole_number v >>= within 0 65536) (λ v. refl) (apart (get (codes "count6") d) whole_number (within 0 65536) (had (number_at (codes "count6") d >>= within 0 65536) _ start.1.next)),
+          kept keys.Count6 d (get (codes "count6") d) (λ v. whole_number v >>= within 0 65536) (λ v. refl)
+              (apart (get (codes "count6") d) whole_number (within 0 65536) (had (number_at (codes "count6") d >>= within 0 65536) _ start.1.next)),
         )
 
-    by : (b : Bool) → is_some (get (codes "pool6") d) || is_some (get (codes "count6") d) ≡ b → is_some (cond b (text_at (codes "pool6") d >>= ipv6_of >>= λ start. (number_at (codes "count6") d >>= within 0 65536) >>= prefixes_from start) (Some no_prefixes)) ≡ true → BothMet d
+    by : (b : Bool) → is_some (get (codes "pool6") d) || is_some (get (codes "count6") d) ≡ b → is_some
+        (cond b (text_at (codes "pool6") d >>= ipv6_of >>= λ start. (number_at (codes "count6") d >>= within 0 65536) >>= prefixes_from start)
+        (Some no_prefixes)) ≡ true → BothMet d
     by true is h = given h
     by false is h = neither d is
 
@@ -191,7 +201,8 @@ one_kept names d s next same is =
       sym (ap (λ (k : Settings). k.config.access_points) next_is) ∙ same,
     )
 
-each_kept : (names : List (List ℕ)) (items : Items) (s : Settings) → s.config.access_points ≡ names → is_some (with_each items s) ≡ true → (place : ℕ) (d : Data) → get_item place items ≡ Some d → is_template names d ≡ true
+each_kept : (names : List (List ℕ)) (items : Items) (s : Settings) → s.config.access_points ≡ names → is_some (with_each items s) ≡ true
+    → (place : ℕ) (d : Data) → get_item place items ≡ Some d → is_template names d ≡ true
 each_kept names no_items s same h place d at = absurd cc
 each_kept names (item e items) s same h zero d at =
     let one = step (with_this e s) (with_each items) h in
@@ -285,7 +296,8 @@ scenario_fits d g events =
 same_value : (o : Option Data) (a b : Data) → o ≡ Some a → o ≡ Some b → a ≡ b
 same_value o a b h k = (let both : Some a ≡ Some b = sym h ∙ k in cc)
 
-packet_never : (d : Data) (p : PacketHead) (s : Settings) (flaw : PacketFlaw) → packet_of d ≡ Some p → s.config.access_points ≡ p.access_points → is_some (with_templates_at d s) ≡ true → IsPacketFlaw packet_keys d flaw → ⊥
+packet_never : (d : Data) (p : PacketHead) (s : Settings) (flaw : PacketFlaw) → packet_of d ≡ Some p → s.config.access_points ≡ p.access_points
+    → is_some (with_templates_at d s) ≡ true → IsPacketFlaw packet_keys d flaw → ⊥
 unfolding with_templates_at
 packet_never d p s (packet.Keys flaw) read points list is = true≢false (sym ((packet_parts d p read).fits s list) ∙ flaw_unfit packet_keys d flaw is)
 packet_never d p s packet.PastLastAddress read points list is = true≢false (sym (packet_parts d p read).pool ∙ ap is_some is.1)

@@ -25,10 +25,13 @@ use Rattle.gtp_scenario.specs.Json.{text_at, text_if, has_only, whole_number}
 use Rattle.gtp_scenario.specs.Texts.{imsi_of, apn_of}
 use Rattle.gtp_scenario.specs.Keys.{key_text, is_good_text, is_met, is_met_by, kind_of, event_keys, named_keys, name_key, is_named_at, has_name, keys_in, member_keys}
 use Rattle.gtp_scenario.specs.Names.{session_name_of, bearer_name_of}
-use Rattle.gtp_scenario.specs.Named.{datagrams_said, datagram_at, session_at, bearer_at, bearer_sent_on, name_for, name_of, delete_session_named, release_session_named, create_bearer_named, delete_bearer_named, end_marker_named, send_named, event_about, entry_about, expected_of, IsRightBeside, IsRight}
+use Rattle.gtp_scenario.specs.Named.{datagrams_said, datagram_at, session_at, bearer_at, bearer_sent_on, name_for, name_of, delete_session_named}
+use Rattle.gtp_scenario.specs.Named.{release_session_named, create_bearer_named, delete_bearer_named, end_marker_named, send_named, event_about}
+use Rattle.gtp_scenario.specs.Named.{entry_about, expected_of, IsRightBeside, IsRight}
 use Rattle.gtp_scenario.specs.Reasons.{fits, IsFlaw, IsFlawAt, IsNameFlaw, IsEntryFlaw}
 use Rattle.gtp_scenario.proofs.Whole.{met_in}
-use Rattle.gtp_scenario.proofs.Strict.{HasStep, step, had, gate, behind, two, with_key, kept, imsi_kept, apn_kept, ebi_kept, node_kept, tft_kept, payload_kept, word_kept, expect_kept, entry_fit, entry_worded, wordless, flaw_unfit}
+use Rattle.gtp_scenario.proofs.Strict.{HasStep, step, had, gate, behind, two, with_key, kept, imsi_kept, apn_kept, ebi_kept, node_kept, tft_kept}
+use Rattle.gtp_scenario.proofs.Strict.{payload_kept, word_kept, expect_kept, entry_fit, entry_worded, wordless, flaw_unfit}
 
 -- ---- what a name is
 
@@ -105,7 +108,8 @@ about kind d is h =
 worded_met : (d : Data) (kind : EventKind) → (text_at (codes "do") d >>= kind_of) ≡ Some kind → is_met d keys.Do ≡ true
 worded_met d kind is = (let said = step_of (text_at (codes "do") d) kind_of kind is in word_kept d said.value said.is)
 
-fit_all : (known : List Key) (d : Data) → has_only (map key_text (keys.Do ∷ keys.Expect ∷ known)) d ≡ true → list_all (is_met d) known ≡ true → is_met d keys.Do ≡ true → is_met d keys.Expect ≡ true → fits (keys.Do ∷ keys.Expect ∷ known) d ≡ true
+fit_all : (known : List Key) (d : Data) → has_only (map key_text (keys.Do ∷ keys.Expect ∷ known)) d ≡ true → list_all (is_met d) known ≡ true
+    → is_met d keys.Do ≡ true → is_met d keys.Expect ≡ true → fits (keys.Do ∷ keys.Expect ∷ known) d ≡ true
 fit_all known d only met worded expect = rw only (with_key d keys.Do (keys.Expect ∷ known) worded (with_key d keys.Expect known expect met))
 
 -- the keys of an event that has a name are those that it is to have
@@ -131,13 +135,16 @@ unfolding send_named
 send_fit d bearer worded h =
     let node = two (node_at d) _ (behind _ _ h.event) in
     fit_all (keys.Node ∷ keys.Bearer ∷ keys.Payload ∷ []) d (gate _ _ h.event)
-    (with_key d keys.Node (keys.Bearer ∷ keys.Payload ∷ []) (node_kept d node.0) (with_key d keys.Bearer (keys.Payload ∷ []) bearer (with_key d keys.Payload [] (payload_kept d (had (payload_at d) _ node.1.next)) refl)))
+    (with_key d keys.Node (keys.Bearer ∷ keys.Payload ∷ []) (node_kept d node.0)
+    (with_key d keys.Bearer (keys.Payload ∷ []) bearer (with_key d keys.Payload [] (payload_kept d (had (payload_at d) _ node.1.next)) refl)))
     worded h.expect
 
-session_fit : (d : Data) → is_met d keys.Session ≡ true → is_met d keys.Do ≡ true → has_only (map key_text (named_keys kinds.DeleteSession)) d ≡ true → is_met d keys.Expect ≡ true → fits (named_keys kinds.DeleteSession) d ≡ true
+session_fit : (d : Data) → is_met d keys.Session ≡ true → is_met d keys.Do ≡ true → has_only (map key_text (named_keys kinds.DeleteSession)) d ≡ true
+    → is_met d keys.Expect ≡ true → fits (named_keys kinds.DeleteSession) d ≡ true
 session_fit d session worded only expect = fit_all (keys.Session ∷ []) d only (with_key d keys.Session [] session refl) worded expect
 
-bearer_fit : (d : Data) → is_met d keys.Bearer ≡ true → is_met d keys.Do ≡ true → has_only (map key_text (named_keys kinds.EndMarker)) d ≡ true → is_met d keys.Expect ≡ true → fits (named_keys kinds.EndMarker) d ≡ true
+bearer_fit : (d : Data) → is_met d keys.Bearer ≡ true → is_met d keys.Do ≡ true → has_only (map key_text (named_keys kinds.EndMarker)) d ≡ true
+    → is_met d keys.Expect ≡ true → fits (named_keys kinds.EndMarker) d ≡ true
 bearer_fit d bearer worded only expect = fit_all (keys.Bearer ∷ []) d only (with_key d keys.Bearer [] bearer refl) worded expect
 
 delete_session_only : (d : Data) → is_some (delete_session_named 0 d) ≡ true → has_only (map key_text (named_keys kinds.DeleteSession)) d ≡ true
@@ -262,7 +269,8 @@ bearer_name_fits d h =
     let imsi = two (text_at (codes "imsi") d >>= imsi_of) _ (behind _ _ h) in
     let apn = two (text_at (codes "apn") d >>= apn_of) _ imsi.1.next in
     let only : has_only (map key_text (member_keys keys.Bearer)) d ≡ true = gate _ _ h in
-    rw only (with_key d keys.Imsi (keys.Apn ∷ keys.Ebi ∷ []) (imsi_kept d imsi.0) (with_key d keys.Apn (keys.Ebi ∷ []) (apn_kept d apn.0) (with_key d keys.Ebi [] (ebi_kept d (had (ebi_at d) _ apn.1.next)) refl)))
+    rw only (with_key d keys.Imsi (keys.Apn ∷ keys.Ebi ∷ []) (imsi_kept d imsi.0)
+    (with_key d keys.Apn (keys.Ebi ∷ []) (apn_kept d apn.0) (with_key d keys.Ebi [] (ebi_kept d (had (ebi_at d) _ apn.1.next)) refl)))
 
 session_never : (d : Data) (flaw : ObjectFlaw) → is_met d keys.Session ≡ true → IsFlawAt (IsFlaw (member_keys keys.Session)) (codes "session") d flaw → ⊥
 session_never d flaw met (name, at, flawed) =

@@ -34,7 +34,8 @@ named_among (known ∷ names) name (inr there) = by (bytes_eq name known) (named
     by false is = is
 
 -- what `with_template` answers
-pub template_put : (t : Template) (s : Settings) (r : Result Settings ValueFault) → (IsOk r ↔ Among t.access_point s.config.access_points) → IfOk r (λ config. config ≡ with_template t s) → result_ok r ≡ configured s t
+pub template_put : (t : Template) (s : Settings) (r : Result Settings ValueFault) → (IsOk r ↔ Among t.access_point s.config.access_points)
+    → IfOk r (λ config. config ≡ with_template t s) → result_ok r ≡ configured s t
 template_put t s (Ok config) is value = by (is_among s.config.access_points t.access_point) refl
   where
     by : (b : Bool) → is_among s.config.access_points t.access_point ≡ b → Some config ≡ cond b (Some (with_template t s)) None
@@ -88,7 +89,8 @@ unfolding with_templates_at
 templates_keep d s left is = those_keep (get (codes "templates") d) s left is
 
 -- both gateways of a scenario are each other's peers
-pub faces : (timers : Timers) (serving : ServingHead) (packet : PacketHead) (left : Settings) → KeepsEnds (set_up timers serving packet).packet left → AreFacing (set_up timers serving packet).serving left
+pub faces : (timers : Timers) (serving : ServingHead) (packet : PacketHead) (left : Settings) → KeepsEnds (set_up timers serving packet).packet left
+    → AreFacing (set_up timers serving packet).serving left
 faces timers serving packet left keeps = record {
   control = sym (ap (λ (a : machine.Addresses). a.control) keeps.peer);
   user = sym (ap (λ (a : machine.Addresses). a.user) keeps.peer);

@@ -1,5 +1,6 @@
 -- What values read from texts are.
-use Rattle.std.proofs.Common.{◌≡◌, ◌&&◌, ℕ, Bool, true, false, cond, List, [], ◌∷◌, length, map, All, Option, Some, None, option_map, Result, Ok, Err, IfOk, ne_eqb, refl, sym, ap, subst, ◌∙◌, lit≤, arith}
+use Rattle.std.proofs.Common.{◌≡◌, ◌&&◌, ℕ, Bool, true, false, cond, List, [], ◌∷◌, length, map, All, Option, Some, None, option_map, Result, Ok, Err}
+use Rattle.std.proofs.Common.{IfOk, ne_eqb, refl, sym, ap, subst, ◌∙◌, lit≤, arith}
 use Rattle.std.specs.Prelude.{nat_le}
 use Rattle.std.specs.Int.{w32, from_be_bytes}
 use Rattle.std.specs.List.{list_all}

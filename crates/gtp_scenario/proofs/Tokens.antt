@@ -1,5 +1,6 @@
 -- What tokens begin with, how deep what they say nests, and whether its numbers can be kept.
-use Rattle.std.proofs.Common.{◌≡◌, ℕ, zero, suc, ◌+◌, ◌-◌, ◌<◌, ◌≤◌, max, List, [], ◌∷◌, ◌++◌, length, Bool, true, false, cond, ◌&&◌, Option, Some, None, option_map, option_and_then, refl, sym, ap, subst, ◌∙◌, arith, append_assoc, length-append, le_refl}
+use Rattle.std.proofs.Common.{◌≡◌, ℕ, zero, suc, ◌+◌, ◌-◌, ◌<◌, ◌≤◌, max, List, [], ◌∷◌, ◌++◌, length, Bool, true, false, cond, ◌&&◌, Option, Some}
+use Rattle.std.proofs.Common.{None, option_map, option_and_then, refl, sym, ap, subst, ◌∙◌, arith, append_assoc, length-append, le_refl}
 use Rattle.std.specs.Prelude.{nat_le, nat_lt, unwrap_or, is_some}
 use Rattle.std.proofs.lemmas.Bool.Decides.{nat_tests}
 use Rattle.json.specs.Token.{Token}
@@ -49,7 +50,8 @@ json_is ts j h = ap (λ o. unwrap_or (option_map (λ p. p.0) o) json.null) (deep
 abbrev read_items : ℕ → ℕ → List Token → Option json.Items
 read_items e n ts = option_map (λ p. p.0) (json.items (json.value e) n ts)
 
-first_and_others : (j : json.Json) (o : Option (json.Items × List Token)) (js : json.Items) → option_map (λ p. p.0) o ≡ Some js → option_map (λ p. p.0) (parse_map (json.item j) o) ≡ Some (json.item j js)
+first_and_others : (j : json.Json) (o : Option (json.Items × List Token)) (js : json.Items) → option_map (λ p. p.0) o ≡ Some js
+    → option_map (λ p. p.0) (parse_map (json.item j) o) ≡ Some (json.item j js)
 first_and_others j None js h = absurd cc
 first_and_others j (Some p) js h = let same : p.0 ≡ js = cc in ap (λ x. Some (json.item j x)) same
 
@@ -152,7 +154,8 @@ mutual
   depth_json (json.array js) n rest small = opens n (items_depth js) (are_items_kept js) (items_tokens js ++ rest) rest small (λ room. depth_items js n rest small (omega arith))
   depth_json (json.object ms) n rest small = opens n (members_depth ms) (are_members_kept ms) (members_tokens ms ++ rest) rest small (λ room. depth_members ms n rest small (omega arith))
 
-  depth_items : (js : json.Items) (n : ℕ) (rest : List Token) → n ≤ max_depth → n + 1 ≤ max_depth → depth_after_all (n + 1) (items_tokens js ++ rest) ≡ cond (is_within (n + 1) (items_depth js) && are_items_kept js) (depth_after_all n rest) None
+  depth_items : (js : json.Items) (n : ℕ) (rest : List Token) → n ≤ max_depth → n + 1 ≤ max_depth → depth_after_all (n + 1) (items_tokens js ++ rest)
+      ≡ cond (is_within (n + 1) (items_depth js) && are_items_kept js) (depth_after_all n rest) None
   depth_items json.no_items n rest small more = closes n rest small more
   depth_items (json.item j js) n rest small more =
       ap (depth_after_all (n + 1)) (append_assoc (json_tokens j) (items_tokens js) rest)
@@ -161,7 +164,8 @@ mutual
       ∙ both (is_within (n + 1) (depth j)) (is_kept j) (is_within (n + 1) (items_depth js)) (are_items_kept js) (depth_after_all n rest)
       ∙ ap (λ b. cond (b && (is_kept j && are_items_kept js)) (depth_after_all n rest) None) (sym (within_both (n + 1) (depth j) (items_depth js)))
 
-  depth_members : (ms : json.Members) (n : ℕ) (rest : List Token) → n ≤ max_depth → n + 1 ≤ max_depth → depth_after_all (n + 1) (members_tokens ms ++ rest) ≡ cond (is_within (n + 1) (members_depth ms) && are_members_kept ms) (depth_after_all n rest) None
+  depth_members : (ms : json.Members) (n : ℕ) (rest : List Token) → n ≤ max_depth → n + 1 ≤ max_depth → depth_after_all (n + 1) (members_tokens ms ++ rest)
+      ≡ cond (is_within (n + 1) (members_depth ms) && are_members_kept ms) (depth_after_all n rest) None
   depth_members json.no_members n rest small more = closes n rest small more
   depth_members (json.member k j ms) n rest small more =
       ap (depth_after_all (n + 1)) (append_assoc (json_tokens j) (members_tokens ms) rest)

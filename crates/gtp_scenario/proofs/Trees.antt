@@ -1,5 +1,7 @@
 -- Tokens of JSON say what `serde_json` reads.
-use Rattle.std.proofs.Common.{◌≡◌, Bor, ℕ, ◌+◌, ◌<◌, ◌≤◌, List, length, [], ◌∷◌, ◌++◌, Bool, true, false, cond, ◌&&◌, Option, Some, None, Result, Ok, Err, IsErr, IsErrAnd, IsSome, MatchOption, option_map, option_and_then, Ordering, Less, Equal, Greater, bytes_eq, true≢false, nat_cmp, refl, sym, ap, subst, ◌∙◌, arith, append-nil}
+use Rattle.std.proofs.Common.{◌≡◌, Bor, ℕ, ◌+◌, ◌<◌, ◌≤◌, List, length, [], ◌∷◌, ◌++◌, Bool, true, false, cond, ◌&&◌, Option, Some, None, Result, Ok}
+use Rattle.std.proofs.Common.{Err, IsErr, IsErrAnd, IsSome, MatchOption, option_map, option_and_then, Ordering, Less, Equal, Greater, bytes_eq}
+use Rattle.std.proofs.Common.{true≢false, nat_cmp, refl, sym, ap, subst, ◌∙◌, arith, append-nil}
 use Rattle.std.specs.Prelude.{is_some, unwrap_or, nat_le}
 use Rattle.std.specs.Ordering.{match_ordering, is_eq}
 use Rattle.std.specs.Cmp.Lexicographic.{slice_cmp}
@@ -34,7 +36,8 @@ abbrev first_of : Option Data → Option Data → Option Data
 first_of (Some d) other = Some d
 first_of None other = other
 
-put_at : (key k : List ℕ) (j : json.Json) (found : Members) (b : Bool) → bytes_eq k key ≡ b → get_member key (put k (data_of j) found) ≡ first_of (option_map data_of (cond b (Some j) None)) (get_member key found)
+put_at : (key k : List ℕ) (j : json.Json) (found : Members) (b : Bool) → bytes_eq k key ≡ b
+    → get_member key (put k (data_of j) found) ≡ first_of (option_map data_of (cond b (Some j) None)) (get_member key found)
 put_at key k j found true h = subst (λ x. get_member x (put k (data_of j) found) ≡ Some (data_of j)) ((bytes_eq-Decides k key).0 h) (get_member-put k (data_of j) found)
 put_at key k j found false h = get_member-put_other key k (data_of j) found (λ same. true≢false (sym ((bytes_eq-Decides k key).1 (sym same)) ∙ h))
 
@@ -146,7 +149,8 @@ said_now : (r : Option (Bor (List ℕ))) → option_map (λ s. number_said s.now
 said_now None = refl
 said_now (Some s) = refl
 
-pub number_found : (ts : List Token) (r : Option (Bor (List ℕ))) → HasValue ts → ((j : json.Json) → BeginsWith ts j → option_map (λ s. s.now) r ≡ find.as_number j) → option_map (λ s. number_said s.now) r ≡ as_number (view ts)
+pub number_found : (ts : List Token) (r : Option (Bor (List ℕ))) → HasValue ts → ((j : json.Json) → BeginsWith ts j → option_map (λ s. s.now) r ≡ find.as_number j)
+    → option_map (λ s. number_said s.now) r ≡ as_number (view ts)
 number_found ts r has found = said_now r ∙ ap (option_map number_said) (found has.0 has.1) ∙ same has.0 ∙ ap (λ j. as_number (data_of j)) (sym (json_is ts has.0 has.1))
   where
     same : (j : json.Json) → option_map number_said (find.as_number j) ≡ as_number (data_of j)
@@ -167,7 +171,8 @@ no_list (json.string s) h = refl
 no_list (json.array js) h = absurd cc
 no_list (json.object ms) h = refl
 
-pub list_found : (ts : List Token) (r : Option (List Token)) → HasValue ts → ((j : json.Json) → BeginsWith ts j → MatchOption r (find.as_array j ≡ None) (λ us. (js : json.Items) × (j ≡ json.array js) × InItems us js))
+pub list_found : (ts : List Token) (r : Option (List Token)) → HasValue ts
+    → ((j : json.Json) → BeginsWith ts j → MatchOption r (find.as_array j ≡ None) (λ us. (js : json.Items) × (j ≡ json.array js) × InItems us js))
     → option_map items_view r ≡ as_array (view ts)
 list_found ts None has found = no_list has.0 (found has.0 has.1) ∙ ap (λ j. as_array (data_of j)) (sym (json_is ts has.0 has.1))
 list_found ts (Some us) has found =
@@ -214,13 +219,17 @@ mutual
 
   members_kept : (ms : json.Members) (found : Members) → of_members ms found ≡ cond (are_members_kept ms) (Some (members_said ms found)) None
   members_kept json.no_members found = refl
-  members_kept (json.member k j ms) found = rw (json_kept j) (member_kept (is_kept j) (are_members_kept ms) (data_of j) (members_said ms (put k (data_of j) found)) (λ d. of_members ms (put k d found)) (members_kept ms (put k (data_of j) found)))
+  members_kept (json.member k j ms) found =
+      rw (json_kept j)
+      (member_kept (is_kept j) (are_members_kept ms) (data_of j) (members_said ms (put k (data_of j) found)) (λ d. of_members ms (put k d found))
+      (members_kept ms (put k (data_of j) found)))
 
 -- what is read of a text, by the value that it is
 abbrev said_of : json.Json → Option Data
 said_of j = cond (nat_le (0 + depth j) max_depth && is_kept j) (Some (data_of j)) None
 
-no_value : (text : List ℕ) (o : Option (json.Json × List Token)) → json.value max_depth (tokens text) ≡ o → json.document text ≡ None → option_and_then of_json (option_and_then (λ p. json.if_last p.0 p.1) o) ≡ None
+no_value : (text : List ℕ) (o : Option (json.Json × List Token)) → json.value max_depth (tokens text) ≡ o → json.document text ≡ None
+    → option_and_then of_json (option_and_then (λ p. json.if_last p.0 p.1) o) ≡ None
 no_value text None h none = refl
 no_value text (Some (j, t ∷ ts)) h none = refl
 no_value text (Some (j, [])) h none =
@@ -252,7 +261,8 @@ is_not_read : (text : List ℕ) → json.document text ≡ None → read text �
 is_not_read text none = no_value text (json.value max_depth (tokens text)) refl none
 
 -- a text that is not too long is refused only if it is no JSON
-pub is_refused : (text : List ℕ) (error : Error) → (error ≡ errors.Invalid → json.document text ≡ None) → (error ≡ errors.TooLong → 4294967040 < length text) → (error ≡ errors.DuplicateKey → ⊥) → length text ≤ 16777216
+pub is_refused : (text : List ℕ) (error : Error) → (error ≡ errors.Invalid → json.document text ≡ None) → (error ≡ errors.TooLong → 4294967040 < length text)
+    → (error ≡ errors.DuplicateKey → ⊥) → length text ≤ 16777216
     → IsNone (fault_for error) (read text)
 is_refused text errors.OutOfMemory invalid long twice short = tt
 is_refused text errors.Invalid invalid long twice short = is_not_read text (invalid refl)

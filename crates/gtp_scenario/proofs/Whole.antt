@@ -19,7 +19,9 @@ use Rattle.gtp_scenario.specs.declared.reason.kind.EventKind.TheVariants as kind
 use Rattle.gtp_scenario.specs.Steps.{◌>>=◌}
 use Rattle.gtp_scenario.specs.Json.{text_at, text_if, whole_number, number_at, number_or, within, is_among, all_among, has_only}
 use Rattle.gtp_scenario.specs.Texts.{imsi_of, apn_of, teid_of, octets_of}
-use Rattle.gtp_scenario.specs.Events.{role_of, node_at, teid_at, ebi_at, pdn_at, subscriber_at, tft_at, payload_at, create_session_of, lone_teid_of, delete_session_of, release_session_of, end_marker_of, create_bearer_of, delete_bearer_of, lone_node_of, echo_of, restart_of, tick_of, send_of, deliver_of, cut_of, event_named}
+use Rattle.gtp_scenario.specs.Events.{role_of, node_at, teid_at, ebi_at, pdn_at, subscriber_at, tft_at, payload_at, create_session_of, lone_teid_of}
+use Rattle.gtp_scenario.specs.Events.{delete_session_of, release_session_of, end_marker_of, create_bearer_of, delete_bearer_of, lone_node_of, echo_of}
+use Rattle.gtp_scenario.specs.Events.{restart_of, tick_of, send_of, deliver_of, cut_of, event_named}
 use Rattle.gtp_scenario.specs.Entries.{entry_of}
 use Rattle.gtp_scenario.specs.Keys.{key_text, wanted_of, is_good, is_good_text, may_be_absent, is_met, is_met_by, kind_of, event_keys}
 use Rattle.gtp_scenario.specs.Reasons.{fits}
@@ -65,7 +67,8 @@ pub others : {X : Type 0} (p : X → Bool) (x : X) (xs : List X) → list_all p 
 others p x xs h = (both (p x) (list_all p xs) h).right
 
 -- the value of a key that is needed
-pub needed : {A : Type 0} (key : Key) (d : Data) (o : Option Data) (read : Data → Option A) → may_be_absent d key ≡ false → ((v : Data) → is_good (wanted_of key) v ≡ is_some (read v)) → is_met_by d key o ≡ true → is_some (o >>= read) ≡ true
+pub needed : {A : Type 0} (key : Key) (d : Data) (o : Option Data) (read : Data → Option A) → may_be_absent d key ≡ false
+    → ((v : Data) → is_good (wanted_of key) v ≡ is_some (read v)) → is_met_by d key o ≡ true → is_some (o >>= read) ≡ true
 needed key d None read never good met = sym never ∙ met
 needed key d (Some v) read never good met = sym (good v) ∙ met
 
@@ -74,7 +77,9 @@ by_text read None = refl
 by_text read (Some text) = refl
 
 -- a number that may be absent
-pub optional : (key : Key) (d : Data) (o : Option Data) (absent low high : ℕ) → is_some (within low high absent) ≡ true → ((v : Data) → is_good (wanted_of key) v ≡ is_some (whole_number v >>= within low high)) → is_met_by d key o ≡ true → is_some (number_or absent o >>= within low high) ≡ true
+pub optional : (key : Key) (d : Data) (o : Option Data) (absent low high : ℕ) → is_some (within low high absent) ≡ true
+    → ((v : Data) → is_good (wanted_of key) v ≡ is_some (whole_number v >>= within low high)) → is_met_by d key o ≡ true
+    → is_some (number_or absent o >>= within low high) ≡ true
 optional key d None absent low high fits good met = fits
 optional key d (Some v) absent low high fits good met = sym (good v) ∙ met
 
@@ -219,7 +224,9 @@ unfolding create_session_of subscriber_at
 create_session_read d h =
     let met = met_in (event_keys kinds.CreateSession) d h in
     gated _ _ (parts (event_keys kinds.CreateSession) d h).only
-    (chain _ _ (chain (text_at (codes "imsi") d >>= imsi_of) _ (imsi_met d (met 2 keys.Imsi refl)) (λ i. chain (text_at (codes "apn") d >>= apn_of) _ (apn_met d (met 3 keys.Apn refl)) (λ a. chain (ebi_at d) _ (ebi_met d (met 4 keys.Ebi refl)) (λ e. refl))))
+    (chain _ _ (chain (text_at (codes "imsi") d >>= imsi_of) _ (imsi_met d (met 2 keys.Imsi refl))
+    (λ i. chain (text_at (codes "apn") d >>= apn_of) _ (apn_met d (met 3 keys.Apn refl))
+    (λ a. chain (ebi_at d) _ (ebi_met d (met 4 keys.Ebi refl)) (λ e. refl))))
     (λ s. chain (pdn_at d) _ (pdn_met d (met 5 keys.Pdn refl)) (λ n. refl)))
 
 create_bearer_read : (d : Data) → fits (event_keys kinds.CreateBearer) d ≡ true → is_some (create_bearer_of d) ≡ true
@@ -244,7 +251,8 @@ send_read : (d : Data) → fits (event_keys kinds.Send) d ≡ true → is_some (
 unfolding send_of
 send_read d h =
     let met = met_in (event_keys kinds.Send) d h in
-    gated _ _ (parts (event_keys kinds.Send) d h).only (chain (node_at d) _ (node_met d (met 2 keys.Node refl)) (λ n. chain (teid_at d) _ (teid_met d (met 3 keys.Teid refl)) (λ t. chain (payload_at d) _ (payload_met d (met 4 keys.Payload refl)) (λ o. refl))))
+    gated _ _ (parts (event_keys kinds.Send) d h).only (chain (node_at d) _ (node_met d (met 2 keys.Node refl))
+    (λ n. chain (teid_at d) _ (teid_met d (met 3 keys.Teid refl)) (λ t. chain (payload_at d) _ (payload_met d (met 4 keys.Payload refl)) (λ o. refl))))
 
 deliver_read : (d : Data) → is_some (number_at (codes "datagram") d) ≡ true → fits (event_keys kinds.Deliver) d ≡ true → is_some (deliver_of d) ≡ true
 unfolding deliver_of
@@ -254,7 +262,8 @@ cut_read : (d : Data) → fits (event_keys kinds.Cut) d ≡ true → is_some (cu
 unfolding cut_of
 cut_read d h =
     let met = met_in (event_keys kinds.Cut) d h in
-    gated _ _ (parts (event_keys kinds.Cut) d h).only (chain (number_at (codes "datagram") d) _ (datagram_met d (met 2 keys.Datagram refl)) (λ n. chain (number_at (codes "length") d) _ (length_met d (met 3 keys.Length refl)) (λ l. refl)))
+    gated _ _ (parts (event_keys kinds.Cut) d h).only (chain (number_at (codes "datagram") d) _ (datagram_met d (met 2 keys.Datagram refl))
+    (λ n. chain (number_at (codes "length") d) _ (length_met d (met 3 keys.Length refl)) (λ l. refl)))
 
 -- the datagram of a delivery has a number
 abbrev pub is_numbered : EventKind → Data → Bool
@@ -344,8 +353,11 @@ pub none_named : (word : List ℕ) (d : Data) → kind_of word ≡ None → even
 none_named word d is = by_word word d ∙ ap (λ o. of_named o d) is
 
 -- an entry with which nothing is wrong is read
-pub entry_read : (d : Data) (word : List ℕ) (kind : EventKind) → text_at (codes "do") d ≡ Some word → kind_of word ≡ Some kind → is_numbered kind d ≡ true → fits (event_keys kind) d ≡ true → IsSome (entry_of d)
+pub entry_read : (d : Data) (word : List ℕ) (kind : EventKind) → text_at (codes "do") d ≡ Some word → kind_of word ≡ Some kind → is_numbered kind d ≡ true
+    → fits (event_keys kind) d ≡ true → IsSome (entry_of d)
 unfolding entry_of
 entry_read d word kind said is numbered h =
     is_some_by _ (pinned (text_at (codes "do") d) word _ said
-    (chain (event_named word d) _ (rw (named word kind d is) (kind_read kind d numbered h)) (λ e. chain (number_or 1 (get (codes "times") d) >>= within 1 1000) _ (times_read kind d h) (λ t. chain (text_if (get (codes "expect") d)) _ (expect_read kind d h) (λ x. refl)))))
+    (chain (event_named word d) _ (rw (named word kind d is) (kind_read kind d numbered h))
+    (λ e. chain (number_or 1 (get (codes "times") d) >>= within 1 1000) _ (times_read kind d h)
+    (λ t. chain (text_if (get (codes "expect") d)) _ (expect_read kind d h) (λ x. refl)))))

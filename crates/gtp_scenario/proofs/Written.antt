@@ -25,7 +25,9 @@ record IsKept (d : Data) : Type 0 where
 
 text_again : (d : Data) → IsKept d → read (compact_text d) ≡ Some d
 text_again d kept =
-    let tokens_are = ap tokens (sym (print-outline d)) ∙ tokens-print (tree.json_tokens (outline d)) (ArePrintable-json_tokens (outline d) kept.numbers) ∙ sym (append-nil (tree.json_tokens (outline d))) in
+    let tokens_are =
+    ap tokens (sym (print-outline d)) ∙ tokens-print (tree.json_tokens (outline d)) (ArePrintable-json_tokens (outline d) kept.numbers)
+    ∙ sym (append-nil (tree.json_tokens (outline d))) in
     let value_is = ap (json.value max_depth) tokens_are ∙ value-json_tokens (outline d) max_depth [] kept.shallow in
     ap (λ o. option_and_then of_json (option_and_then (λ p. json.if_last p.0 p.1) o)) value_is ∙ kept.back
 
@@ -77,9 +79,17 @@ event_kept (Tick node) times (Some word) is fits =
 event_kept (Deliver datagram) times None is fits = record { back = rw (number_of-decimal datagram fits) refl; numbers = (IsNumber-decimal datagram fits, (tt, tt)); shallow = omega arith }
 event_kept (Deliver datagram) times (Some word) is fits = record { back = rw (number_of-decimal datagram fits) refl; numbers = (IsNumber-decimal datagram fits, (tt, (tt, tt))); shallow = omega arith }
 event_kept (Cut datagram size) times None is fits =
-    record { back = rw (number_of-decimal datagram fits.0, number_of-decimal size fits.1) refl; numbers = (IsNumber-decimal datagram fits.0, (tt, (IsNumber-decimal size fits.1, tt))); shallow = omega arith }
+    record {
+      back = rw (number_of-decimal datagram fits.0, number_of-decimal size fits.1) refl;
+      numbers = (IsNumber-decimal datagram fits.0, (tt, (IsNumber-decimal size fits.1, tt)));
+      shallow = omega arith;
+    }
 event_kept (Cut datagram size) times (Some word) is fits =
-    record { back = rw (number_of-decimal datagram fits.0, number_of-decimal size fits.1) refl; numbers = (IsNumber-decimal datagram fits.0, (tt, (tt, (IsNumber-decimal size fits.1, tt)))); shallow = omega arith }
+    record {
+      back = rw (number_of-decimal datagram fits.0, number_of-decimal size fits.1) refl;
+      numbers = (IsNumber-decimal datagram fits.0, (tt, (tt, (IsNumber-decimal size fits.1, tt))));
+      shallow = omega arith;
+    }
 event_kept (Restart node) times None is fits = record { back = refl; numbers = (tt, (tt, tt)); shallow = omega arith }
 event_kept (Restart node) times (Some word) is fits = record { back = refl; numbers = (tt, (tt, (tt, tt))); shallow = omega arith }
 

@@ -8,10 +8,10 @@ ghost use Rattle.gtp_scenario.specs.Steps.{Gives};
 ghost use Rattle.gtp_scenario.specs.Trees.{view};
 ghost use Rattle.gtp_scenario.specs.Views.{entry as entry_view};
 
+use crate::defaults::qos;
 use crate::entry::{Entry, copied};
 use crate::event::{ebi_at, node_at, payload_at, tft_at};
 use crate::fault::Fault;
-use crate::fixed::qos;
 use crate::members::{has_only, text_at, text_if};
 use crate::reason::kind::{EventKind, kind_of};
 use crate::tree::Tree;

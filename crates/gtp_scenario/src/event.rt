@@ -8,8 +8,8 @@ ghost use Rattle.gtp_scenario.specs.Events.{create_session_of, lone_teid_of, del
 ghost use Rattle.gtp_scenario.specs.Events.{lone_node_of, echo_of, restart_of, tick_of, send_of, deliver_of, cut_of, event_named};
 ghost use Rattle.gtp_scenario.specs.Trees.{view};
 
+use crate::defaults::{qos, session_for};
 use crate::fault::Fault;
-use crate::fixed::{qos, session_for};
 use crate::members::{has_only, number_at, number_or, text_at, within};
 use crate::text::{apn_of, imsi_of, octets_of, teid_of};
 use crate::tree::Tree;

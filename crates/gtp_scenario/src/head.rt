@@ -12,9 +12,9 @@ ghost use Rattle.gtp_scenario.specs.Heads.{serving_of, packet_of, set_up, config
 ghost use Rattle.gtp_scenario.specs.Trees.{view, items_view};
 ghost use Rattle.gtp_scenario.specs.Views.{serving_head, packet_head};
 
+use crate::defaults::qos;
 use crate::event::tft_at;
 use crate::fault::Fault;
-use crate::fixed::qos;
 use crate::members::{
     Items, as_list, as_text, has, has_only, number_at, number_or, text_at, value_at, within,
 };

@@ -2,11 +2,11 @@
 #![tactic(auto)]
 
 mod about;
+mod defaults;
 mod entry;
 mod event;
 mod expanding;
 mod fault;
-mod fixed;
 mod halt;
 mod head;
 mod items;

@@ -1,5 +1,6 @@
 -- Lines are answered one after the other.
-use Rattle.std.proofs.Common.{arith, ◌≡◌, ℕ, ◌-◌, ◌^◌, ◌<◌, ◌≤◌, List, [], ◌∷◌, ◌++◌, length, length-take, take, take_all, inl, inr, Option, Some, None, IfSome, codes, refl, sym, ap, ◌∙◌, subst, append-nil, append_assoc}
+use Rattle.std.proofs.Common.{arith, ◌≡◌, ℕ, ◌-◌, ◌^◌, ◌<◌, ◌≤◌, List, [], ◌∷◌, ◌++◌, length, length-take, take, take_all, inl, inr, Option, Some}
+use Rattle.std.proofs.Common.{None, IfSome, codes, refl, sym, ap, ◌∙◌, subst, append-nil, append_assoc}
 use Rattle.std.proofs.lemmas.Bool.{cases_lt}
 use Rattle.std.proofs.KnownBytes.{Appends-trans}
 use Rattle.std.specs.Io.KnownBytes.{Appends, IsAtEnd}
@@ -15,10 +16,12 @@ use Rattle.gtp_machine.specs.declared.role.Role.{Role}
 use Rattle.gtp_serve.specs.Answers.{Answers}
 use Rattle.gtp_serve.specs.Heads.{Head, head_in}
 use Rattle.gtp_serve.specs.Replies.{word_json}
-use Rattle.gtp_serve.specs.Served.{AnswersAll, AreAnswered, AreFirstAnswered, AreAnsweredInPart, IsAnswered, IsAnsweredInPart, Known, IsStarted, HasNoHead, IsServed, IsFirstServed, IsServedInPart, started}
+use Rattle.gtp_serve.specs.Served.{AnswersAll, AreAnswered, AreFirstAnswered, AreAnsweredInPart, IsAnswered, IsAnsweredInPart, Known, IsStarted}
+use Rattle.gtp_serve.specs.Served.{HasNoHead, IsServed, IsFirstServed, IsServedInPart, started}
 
 -- what is answered to lines, and to one more
-answers_more : (a b c : GatewayState) (lines : List (List ℕ)) (line text : List ℕ) (answer : Json) → AnswersAll a lines b text → Answers line b answer c → AnswersAll a (lines ++ line ∷ []) c (text ++ line_of answer)
+answers_more : (a b c : GatewayState) (lines : List (List ℕ)) (line text : List ℕ) (answer : Json) → AnswersAll a lines b text → Answers line b answer c
+    → AnswersAll a (lines ++ line ∷ []) c (text ++ line_of answer)
 answers_more a b c [] line text answer (same, none) is =
     (c, answer, [], subst (λ s. Answers line s answer c) same is, (refl, refl), ap (λ l. l ++ line_of answer) none ∙ sym (append-nil (line_of answer)))
 answers_more a b c (first ∷ lines) line text answer (next, one, rest, said, all, whole) is =
@@ -79,14 +82,17 @@ first_answered (Some xs) None begun now a b so = absurd so
 first_answered (Some xs) (Some ys) begun now a b so = (ys, now, so)
 
 -- also where the last of them was not answered
-pub still_answered : (first old : Option (List ℕ)) (begun now : GatewayState) (a b c : Option (List ℕ)) → Goes first old begun now a b → b ≡ c → IfSome first (λ octets. AreFirstAnswered octets begun a c)
+pub still_answered : (first old : Option (List ℕ)) (begun now : GatewayState) (a b c : Option (List ℕ)) → Goes first old begun now a b → b ≡ c
+    → IfSome first (λ octets. AreFirstAnswered octets begun a c)
 still_answered first old begun now a b c so same = first_answered first old begun now a c (subst (λ w. Goes first old begun now a w) same so)
 
 -- all of their answers is a beginning of them
 pub all_in_part : (first old : Option (List ℕ)) (begun now : GatewayState) (a b : Option (List ℕ)) → Goes first old begun now a b → IfSome first (λ octets. AreAnsweredInPart octets begun a b)
 all_in_part None old begun now a b so = tt
 all_in_part (Some xs) None begun now a b so = absurd so
-all_in_part (Some xs) (Some ys) begun now a b so = record { lines = so.lines; rest = ys; last = now; text = so.text; begins = so.begins; answers = so.answers; written = front_whole a b so.text so.written }
+all_in_part (Some xs) (Some ys) begun now a b so =
+    record
+    { lines = so.lines; rest = ys; last = now; text = so.text; begins = so.begins; answers = so.answers; written = front_whole a b so.text so.written }
 
 -- also where a beginning of the next answer was written
 pub next_in_part : (first old new : Option (List ℕ)) (begun before now : GatewayState) (held : List ℕ) (a b c : Option (List ℕ))
@@ -122,7 +128,8 @@ pub no_head : (old : Option (List ℕ)) (held : List ℕ) → IfSome old (λ xs.
 no_head None held is fits none = tt
 no_head (Some xs) held is fits none = inr (ap head_in (sym (whole_line xs held is fits)) ∙ none)
 
-pub has_started : (old new : Option (List ℕ)) (held : List ℕ) (head : Head) (state : GatewayState) → IfSome old (λ xs. held ≡ take 1048577 (take_through 10 xs)) → DropsThrough old new 10 → length held ≤ 1048576
+pub has_started : (old new : Option (List ℕ)) (held : List ℕ) (head : Head) (state : GatewayState) → IfSome old (λ xs. held ≡ take 1048577 (take_through 10 xs))
+    → DropsThrough old new 10 → length held ≤ 1048576
     → head_in held ≡ Some head → state ≡ started head → Known (λ octets left. IsStarted octets left head.role state) old new
 has_started None new held head state is drops fits says starts = tt
 has_started (Some xs) None held head state is drops fits says starts = absurd (subst is_known (sym drops) tt)
@@ -139,7 +146,8 @@ has_started (Some xs) (Some ys) held head state is drops fits says starts =
 
 -- ---- all of it
 
-pub all_served : (a b c : Option (List ℕ)) (x y z : Option (List ℕ)) (role : Role) (new last : GatewayState) → Known (λ octets left. IsStarted octets left role new) a b → Appends x y (line_of (word_json (codes "started")))
+pub all_served : (a b c : Option (List ℕ)) (x y z : Option (List ℕ)) (role : Role) (new last : GatewayState)
+    → Known (λ octets left. IsStarted octets left role new) a b → Appends x y (line_of (word_json (codes "started")))
     → IfSome b (λ octets. AreAnswered octets [] new last y z) → IfSome a (λ octets. IsServed octets x z)
 all_served None b c x y z role new last begun told others = tt
 all_served (Some xs) None c x y z role new last begun told others = absurd begun
@@ -153,7 +161,8 @@ all_served (Some xs) (Some ys) c x y z role new last begun told others = record 
   others = subst (λ left. AreAnswered left [] (started begun.head) last y z) begun.rest (subst (λ s. AreAnswered ys [] s last y z) begun.starts others);
 }
 
-pub first_served : (a b : Option (List ℕ)) (x y z : Option (List ℕ)) (role : Role) (new : GatewayState) → Known (λ octets left. IsStarted octets left role new) a b → Appends x y (line_of (word_json (codes "started")))
+pub first_served : (a b : Option (List ℕ)) (x y z : Option (List ℕ)) (role : Role) (new : GatewayState) → Known (λ octets left. IsStarted octets left role new) a b
+    → Appends x y (line_of (word_json (codes "started")))
     → IfSome b (λ octets. AreFirstAnswered octets new y z) → IfSome a (λ octets. IsFirstServed octets x z)
 first_served None b x y z role new begun told others = tt
 first_served (Some xs) None x y z role new begun told others = absurd begun
@@ -171,7 +180,8 @@ none_served None x z same = tt
 none_served (Some xs) x z same = inl same
 
 -- what is left behind the first line is no longer
-pub long_whole : (a b : Option (List ℕ)) (role : Role) (new : GatewayState) → Known (λ octets left. IsStarted octets left role new) a b → IfSome b (λ octets. 2 ^ 64 - 1 ≤ length octets) → IfSome a (λ octets. 2 ^ 64 - 1 ≤ length octets)
+pub long_whole : (a b : Option (List ℕ)) (role : Role) (new : GatewayState) → Known (λ octets left. IsStarted octets left role new) a b
+    → IfSome b (λ octets. 2 ^ 64 - 1 ≤ length octets) → IfSome a (λ octets. 2 ^ 64 - 1 ≤ length octets)
 long_whole None b role new begun many = tt
 long_whole (Some xs) None role new begun many = absurd begun
 long_whole (Some xs) (Some ys) role new begun many = omega (arith, many, both_parts xs, ap length begun.rest)
@@ -195,7 +205,8 @@ start_in_part (Some xs) (Some ys) x y role new begun told = inr (record {
 })
 
 -- and of the answers after it
-pub served_in_part : (a b : Option (List ℕ)) (x y z : Option (List ℕ)) (role : Role) (new : GatewayState) → Known (λ octets left. IsStarted octets left role new) a b → Appends x y (line_of (word_json (codes "started")))
+pub served_in_part : (a b : Option (List ℕ)) (x y z : Option (List ℕ)) (role : Role) (new : GatewayState) → Known (λ octets left. IsStarted octets left role new) a b
+    → Appends x y (line_of (word_json (codes "started")))
     → IfSome b (λ octets. AreAnsweredInPart octets new y z) → IfSome a (λ octets. IsServedInPart octets x z)
 served_in_part None b x y z role new begun told others = tt
 served_in_part (Some xs) None x y z role new begun told others = absurd begun

@@ -11,7 +11,7 @@ use crate::reply::{begun_line, contexts_line, refused_line, step_line, ticked_li
 use crate::request::{Request, request_in};
 use gtp_gateway::{CommandFault, Endpoint, Gateway, Plane, Role};
 use gtp_scenario::Fault;
-use gtp_world::{Event, tell};
+use gtp_world::{Event, run_command};
 use std::alloc::{AllocError, Global};
 
 /// The most octets of a line, with its line feed.
@@ -26,7 +26,7 @@ fn command_line(alloc: Global, gateway: &mut Gateway, event: &Event) -> Result<V
         (OrStays (Does (Commands (command_of event.now)))) gateway.old gateway.new }
     ensures role { gateway.new.role ≡ gateway.old.role }
 {
-    match tell(gateway, alloc, event) {
+    match run_command(gateway, alloc, event) {
         Ok(begun) => begun_line(alloc, event, &begun),
         Err(CommandFault::Refused(why)) => refused_line(alloc, why),
         Err(CommandFault::Memory) => word_line(alloc, "no memory"),

@@ -70,7 +70,8 @@ stay : {X : Type 0} (k : ℕ) (es : List (ℕ × X)) → AllByRecursion (λ y. n
 stay k [] h = refl
 stay k (e ∷ es) h = rw h.0 (ap (λ (l : List (ℕ × _)). e ∷ l) (stay k es h.1))
 
-parted : {X : Type 0} (test : X → Bool) (es : List (ℕ × X)) (k : ℕ) → IsDistinct nat_eq (keys_of es) → length (filter test (map (λ e. e.1) es)) ≡ length (filter test (joined (lookup (nat_eq k) es) (map (λ e. e.1) (filter (λ e. not (nat_eq k e.0)) es))))
+parted : {X : Type 0} (test : X → Bool) (es : List (ℕ × X)) (k : ℕ) → IsDistinct nat_eq (keys_of es) → length (filter test (map (λ e. e.1) es))
+    ≡ length (filter test (joined (lookup (nat_eq k) es) (map (λ e. e.1) (filter (λ e. not (nat_eq k e.0)) es))))
 unfolding IsDistinct
 parted test [] k d = refl
 parted {X} test (e ∷ es) k d = by (nat_eq k e.0) refl (parted test es k d.1)
@@ -78,7 +79,8 @@ parted {X} test (e ∷ es) k d = by (nat_eq k e.0) refl (parted test es k d.1)
     left : List (ℕ × X)
     left = filter (λ f. not (nat_eq k f.0)) es
 
-    joined_later : (o : Option X) → length (filter test (map (λ f. f.1) es)) ≡ length (filter test (joined o (map (λ f. f.1) left))) → length (filter test (e.1 ∷ map (λ f. f.1) es)) ≡ length (filter test (joined o (e.1 ∷ map (λ f. f.1) left)))
+    joined_later : (o : Option X) → length (filter test (map (λ f. f.1) es)) ≡ length (filter test (joined o (map (λ f. f.1) left)))
+        → length (filter test (e.1 ∷ map (λ f. f.1) es)) ≡ length (filter test (joined o (e.1 ∷ map (λ f. f.1) left)))
     joined_later None rest = counted_more test e.1 (map (λ f. f.1) es) ∙ (ap (one_if (test e.1)) rest ∙ sym (counted_more test e.1 (map (λ f. f.1) left)))
     joined_later (Some x) rest =
         counted_more test e.1 (map (λ f. f.1) es) ∙ (ap (one_if (test e.1)) rest
@@ -105,7 +107,8 @@ values_inserted {X} m k x test =
     values_parted (insert m k x) k test
     ∙ (ap (λ (o : Option X). length (filter test (joined o (values (remove (insert m k x) k))))) (get-insert nat_cmp_total m k x k ∙ ap (λ (b : Bool). cond b (Some x) (get m k)) (key_itself k))
     ∙ ap (λ (n : FiniteMap X). length (filter test (x ∷ values n))) (same_map nat_cmp_total nat_cmp-IsAntisymmetric (remove (insert m k x) k) (remove m k) (λ q.
-    get-remove nat_cmp_total (insert m k x) k q ∙ (ap (cond (eq_by_cmp nat_cmp q k) None) (get-insert nat_cmp_total m k x q) ∙ (by (eq_by_cmp nat_cmp q k) (get m q) ∙ sym (get-remove nat_cmp_total m k q))))))
+    get-remove nat_cmp_total (insert m k x) k q ∙ (ap (cond (eq_by_cmp nat_cmp q k) None) (get-insert nat_cmp_total m k x q) ∙
+    (by (eq_by_cmp nat_cmp q k) (get m q) ∙ sym (get-remove nat_cmp_total m k q))))))
   where
     by : (b : Bool) (o : Option X) → cond b None (cond b (Some x) o) ≡ cond b None o
     by true o = refl

@@ -18,7 +18,8 @@ use Rattle.gtp_tables.proofs.Defaults.{IsAhead}
 use Rattle.gtp_tables.proofs.Identities.{has_it}
 
 -- after a bearer is put where there was none
-pub joined : (own s o : ℕ) (b : Bearer) (there : Option Bearer) → (nat_eq own o ≡ true → there ≡ None) → cond (nat_eq b.session s && nat_eq own o) true (is_of s there) ≡ is_of s (cond (nat_eq own o) (Some b) there)
+pub joined : (own s o : ℕ) (b : Bearer) (there : Option Bearer) → (nat_eq own o ≡ true → there ≡ None)
+    → cond (nat_eq b.session s && nat_eq own o) true (is_of s there) ≡ is_of s (cond (nat_eq own o) (Some b) there)
 joined own s o b there none = by (nat_eq b.session s) (nat_eq own o) refl refl
   where
     by : (x y : Bool) → nat_eq b.session s ≡ x → nat_eq own o ≡ y → cond (x && y) true (is_of s there) ≡ is_of s (cond y (Some b) there)
@@ -74,10 +75,15 @@ module _ (m : FiniteMap Bearer) (session identity : ℕ) where
 
   past : (t : ℕ) (b : Bearer) → get m t ≡ Some b → has_number session identity b ≡ true → (k : ℕ) → k ≤ t → with_number session identity (get m k) ≡ false → k < t
   past t b stands is k upto other =
-      let apart : k ≡ t → ⊥ = λ here. (let wrong : true ≡ false = sym (ap (with_number session identity) stands ∙ is) ∙ (ap (λ (n : ℕ). with_number session identity (get m n)) (sym here) ∙ other) in cc) in
+      let apart : k ≡ t → ⊥ =
+      λ here.
+      (let wrong : true ≡ false = sym (ap (with_number session identity) stands ∙ is) ∙ (ap (λ (n : ℕ). with_number session identity (get m n)) (sym here) ∙ other) in
+      cc) in
       omega (arith, upto, apart)
 
-  pub ahead_next : (k : Teid) (o : Option Teid) → IsAheadOf m session identity (Some k) → with_number session identity (get m k) ≡ false → IfSome o (λ teid. (n : ℕ) → k < n → is_of session (get m n) ≡ true → teid ≤ n) → IfNone o ((n : ℕ) → k < n → is_of session (get m n) ≡ false) → IsAheadOf m session identity o
+  pub ahead_next : (k : Teid) (o : Option Teid) → IsAheadOf m session identity (Some k) → with_number session identity (get m k) ≡ false
+      → IfSome o (λ teid. (n : ℕ) → k < n → is_of session (get m n) ≡ true → teid ≤ n) → IfNone o ((n : ℕ) → k < n → is_of session (get m n) ≡ false)
+      → IsAheadOf m session identity o
   ahead_next k None ahead other next none t b stands is = let wrong : true ≡ false = sym (of_session t b stands is) ∙ none t (past t b stands is k (ahead t b stands is) other) in absurd cc
   ahead_next k (Some teid) ahead other next none t b stands is = next t (past t b stands is k (ahead t b stands is) other) (of_session t b stands is)
 
@@ -118,7 +124,8 @@ module _ (session : ℕ) (f : Option Bearer → Option Bearer) (same : (x : Opti
       by true is = absurd (never is)
       by false is = refl
 
-  pub from_first : (old : FiniteMap Bearer) (next : Option Teid) → IfSome next (λ teid. (k : ℕ) → is_of session (get old k) ≡ true → teid ≤ k) → IfNone next ((k : ℕ) → is_of session (get old k) ≡ false) → IsSoFar f old old next
+  pub from_first : (old : FiniteMap Bearer) (next : Option Teid) → IfSome next (λ teid. (k : ℕ) → is_of session (get old k) ≡ true → teid ≤ k)
+      → IfNone next ((k : ℕ) → is_of session (get old k) ≡ false) → IsSoFar f old old next
   from_first old None lowest none k = sym (same (get old k) (none k))
   from_first old (Some teid) lowest none k = by (nat_lt k teid) refl
     where
@@ -175,7 +182,9 @@ pub without_of : (session : ℕ) (x : Option Bearer) → is_of session x ≡ tru
 without_of session x is = ap (λ (c : Bool). cond c None x) is
 
 pub all_gone : (session : ℕ) (old now : FiniteMap Bearer) → IsSoFar (without session) old now None → now ≡ kept (λ _ b. not (nat_eq b.session session)) old
-all_gone session old now so_far = same_map nat_cmp_total nat_cmp-IsAntisymmetric now (kept (λ _ b. not (nat_eq b.session session)) old) (λ q. so_far q ∙ (by q (get old q) ∙ sym (get_kept (λ _ b. not (nat_eq b.session session)) old q)))
+all_gone session old now so_far =
+    same_map nat_cmp_total nat_cmp-IsAntisymmetric now (kept (λ _ b. not (nat_eq b.session session)) old)
+    (λ q. so_far q ∙ (by q (get old q) ∙ sym (get_kept (λ _ b. not (nat_eq b.session session)) old q)))
   where
     by : (q : ℕ) (x : Option Bearer) → without session x ≡ passing (λ _ b. not (nat_eq b.session session)) q x
     by q None = refl

@@ -1,5 +1,6 @@
 -- Places that are counted, and sessions that are counted alike.
-use Rattle.std.proofs.Common.{◌≡◌, ◌∙◌, ℕ, ◌+◌, ◌-◌, ◌<◌, ◌≤◌, ◌^◌, suc, inl, inr, Bool, true, false, cond, not, List, [], ◌∷◌, ◌++◌, length, map, Option, Some, None, nat_eq, zero, append_assoc, append-nil, refl, sym, ap, subst, arith}
+use Rattle.std.proofs.Common.{◌≡◌, ◌∙◌, ℕ, ◌+◌, ◌-◌, ◌<◌, ◌≤◌, ◌^◌, suc, inl, inr, Bool, true, false, cond, not, List, [], ◌∷◌, ◌++◌, length, map}
+use Rattle.std.proofs.Common.{Option, Some, None, nat_eq, zero, append_assoc, append-nil, refl, sym, ap, subst, arith}
 use Rattle.std.specs.Prelude.{filter, slice_index, slice_set, ◌==◌}
 use Rattle.std.proofs.lemmas.Bool.{cases_eq, eq-eqb, ne_eqb, eqb-true}
 use Rattle.std.proofs.lemmas.List.{get_or-set_same, get_or-set_other}
@@ -37,10 +38,13 @@ module _ (pools : Pools) (version : IpVersion) (session : Session) (others : Lis
   few place is lt fits = omega (arith, is.counted place lt, users_fit place, fits)
 
   -- one session more is counted at its place
-  pub noted : (place : ℕ) → place < count_of pools version → ((p : ℕ) → p < count_of pools version → takes_at p ≡ nat_eq p place) → IsCounted pools version others counts → IsCounted pools version (session ∷ others) (slice_set counts place (slice_index counts place + 1))
+  pub noted : (place : ℕ) → place < count_of pools version → ((p : ℕ) → p < count_of pools version → takes_at p ≡ nat_eq p place)
+      → IsCounted pools version others counts → IsCounted pools version (session ∷ others) (slice_set counts place (slice_index counts place + 1))
   noted place lt at is = record {
     long = length-set counts place (slice_index counts place + 1) ∙ is.long;
-    counted = λ p p_in. written counts place (slice_index counts place + 1) p (omega (arith, lt, is.long)) ∙ (by p p_in (nat_eq p place) refl ∙ sym (counted_more (takes false version (address_at pools version p)) session others));
+    counted =
+        λ p p_in. written counts place (slice_index counts place + 1) p (omega (arith, lt, is.long))
+        ∙ (by p p_in (nat_eq p place) refl ∙ sym (counted_more (takes false version (address_at pools version p)) session others));
   }
     where
       by : (p : ℕ) → p < count_of pools version → (b : Bool) → nat_eq p place ≡ b → cond b (slice_index counts place + 1) (slice_index counts p) ≡ one_if (takes_at p) (users_of pools version p others)
@@ -50,11 +54,15 @@ module _ (pools : Pools) (version : IpVersion) (session : Session) (others : Lis
       by p p_in false there = rw (at p p_in ∙ there) (is.counted p p_in)
 
   -- a place that a session has is counted
-  pub counted_there : (place : ℕ) → place < count_of pools version → ((p : ℕ) → p < count_of pools version → takes_at p ≡ nat_eq p place) → IsCounted pools version (session ∷ others) counts → slice_index counts place ≡ suc (users_of pools version place others)
-  counted_there place lt at is = is.counted place lt ∙ (counted_more (takes false version (address_at pools version place)) session others ∙ (ap (λ (b : Bool). one_if b (users_of pools version place others)) (at place lt ∙ eq-eqb place place refl)))
+  pub counted_there : (place : ℕ) → place < count_of pools version → ((p : ℕ) → p < count_of pools version → takes_at p ≡ nat_eq p place)
+      → IsCounted pools version (session ∷ others) counts → slice_index counts place ≡ suc (users_of pools version place others)
+  counted_there place lt at is =
+      is.counted place lt ∙ (counted_more (takes false version (address_at pools version place)) session others
+      ∙ (ap (λ (b : Bool). one_if b (users_of pools version place others)) (at place lt ∙ eq-eqb place place refl)))
 
   -- a session is counted no more at its place
-  pub forgotten : (place : ℕ) → place < count_of pools version → ((p : ℕ) → p < count_of pools version → takes_at p ≡ nat_eq p place) → IsCounted pools version (session ∷ others) counts → IsCounted pools version others (slice_set counts place (slice_index counts place - 1))
+  pub forgotten : (place : ℕ) → place < count_of pools version → ((p : ℕ) → p < count_of pools version → takes_at p ≡ nat_eq p place)
+      → IsCounted pools version (session ∷ others) counts → IsCounted pools version others (slice_set counts place (slice_index counts place - 1))
   forgotten place lt at is = record {
     long = length-set counts place (slice_index counts place - 1) ∙ is.long;
     counted = λ p p_in. written counts place (slice_index counts place - 1) p (omega (arith, lt, is.long)) ∙ by p p_in (nat_eq p place) refl;
@@ -66,7 +74,9 @@ module _ (pools : Pools) (version : IpVersion) (session : Session) (others : Lis
           let there = counted_there place lt at is in
           let users : users_of pools version place others ≡ users_of pools version p others = ap (λ (k : ℕ). users_of pools version k others) (sym same) in
           omega (arith, there, users)
-      by p p_in false there = is.counted p p_in ∙ (counted_more (takes false version (address_at pools version p)) session others ∙ ap (λ (b : Bool). one_if b (users_of pools version p others)) (at p p_in ∙ there))
+      by p p_in false there =
+          is.counted p p_in ∙ (counted_more (takes false version (address_at pools version p)) session others
+          ∙ ap (λ (b : Bool). one_if b (users_of pools version p others)) (at p p_in ∙ there))
 
 -- ---- sessions that are counted alike
 
@@ -85,11 +95,16 @@ counted_alike_in xs ys (Some places) alike is = counted_alike xs ys places alike
 
 -- what stands under a key comes first
 pub taken_out : (m : FiniteMap Session) (k : ℕ) (there : Option Session) (places : PoolPlaces) → there ≡ get m k → AreCounted (values m) places → AreCounted (joined there (values (remove m k))) places
-taken_out m k there places is counted = subst (λ (o : Option Session). AreCounted (joined o (values (remove m k))) places) (sym is) (counted_alike (values m) (joined (get m k) (values (remove m k))) places (values_parted m k) counted)
+taken_out m k there places is counted =
+    subst (λ (o : Option Session). AreCounted (joined o (values (remove m k))) places) (sym is)
+    (counted_alike (values m) (joined (get m k) (values (remove m k))) places (values_parted m k) counted)
 
 -- a session is put under a key
-pub put_in : (m now : FiniteMap Session) (k : ℕ) (session : Session) (places : Option PoolPlaces) → now ≡ insert m k session → AreCountedIn (session ∷ values (remove m k)) places → AreCountedIn (values now) places
-put_in m now k session places is counted = subst (λ (n : FiniteMap Session). AreCountedIn (values n) places) (sym is) (counted_alike_in (session ∷ values (remove m k)) (values (insert m k session)) places (λ test. sym (values_inserted m k session test)) counted)
+pub put_in : (m now : FiniteMap Session) (k : ℕ) (session : Session) (places : Option PoolPlaces) → now ≡ insert m k session
+    → AreCountedIn (session ∷ values (remove m k)) places → AreCountedIn (values now) places
+put_in m now k session places is counted =
+    subst (λ (n : FiniteMap Session). AreCountedIn (values n) places) (sym is)
+    (counted_alike_in (session ∷ values (remove m k)) (values (insert m k session)) places (λ test. sym (values_inserted m k session test)) counted)
 
 -- ---- a loop over all, in which some go
 
@@ -102,9 +117,13 @@ pub record IsLeft {X : Type 0} (value : X → Session) (stays : X → Bool) (all
 module _ {X : Type 0} (value : X → Session) (stays : X → Bool) (all : List X) where
   -- the next is among those that are counted
   pub next_counted : (x : X) (rest : List X) (places : PoolPlaces) → (so_far : IsLeft value stays all (x ∷ rest) places) → AreCounted (value x ∷ so_far.front ++ map value rest) places
-  next_counted x rest places so_far = counted_alike (so_far.front ++ value x ∷ map value rest) (value x ∷ so_far.front ++ map value rest) places (moved so_far.front (value x) (map value rest)) so_far.counted
+  next_counted x rest places so_far =
+      counted_alike (so_far.front ++ value x ∷ map value rest) (value x ∷ so_far.front ++ map value rest) places
+      (moved so_far.front (value x) (map value rest)) so_far.counted
 
-  pub next_goes : (x : X) (rest : List X) (places now : PoolPlaces) → stays x ≡ false → ((others : List Session) → AreCounted (value x ∷ others) places → AreCounted others now) → IsLeft value stays all (x ∷ rest) places → IsLeft value stays all rest now
+  pub next_goes : (x : X) (rest : List X) (places now : PoolPlaces) → stays x ≡ false
+      → ((others : List Session) → AreCounted (value x ∷ others) places → AreCounted others now) → IsLeft value stays all (x ∷ rest) places
+      → IsLeft value stays all rest now
   next_goes x rest places now goes forgets so_far = record {
     front = so_far.front;
     whole = ap (λ (b : Bool). so_far.front ++ map value (cond b (x ∷ filter stays rest) (filter stays rest))) (sym goes) ∙ so_far.whole;
@@ -114,7 +133,9 @@ module _ {X : Type 0} (value : X → Session) (stays : X → Bool) (all : List X
   pub next_stays : (x : X) (rest : List X) (places : PoolPlaces) → stays x ≡ true → IsLeft value stays all (x ∷ rest) places → IsLeft value stays all rest places
   next_stays x rest places is so_far = record {
     front = so_far.front ++ value x ∷ [];
-    whole = append_assoc so_far.front (value x ∷ []) (map value (filter stays rest)) ∙ (ap (λ (b : Bool). so_far.front ++ map value (cond b (x ∷ filter stays rest) (filter stays rest))) (sym is) ∙ so_far.whole);
+    whole =
+        append_assoc so_far.front (value x ∷ []) (map value (filter stays rest))
+        ∙ (ap (λ (b : Bool). so_far.front ++ map value (cond b (x ∷ filter stays rest) (filter stays rest))) (sym is) ∙ so_far.whole);
     counted = subst (λ (l : List Session). AreCounted l places) (sym (append_assoc so_far.front (value x ∷ []) (map value rest))) so_far.counted;
   }
 
@@ -126,7 +147,8 @@ module _ {X : Type 0} (value : X → Session) (stays : X → Bool) (all : List X
 -- ---- the lowest place
 
 -- a place is marked where a session has it
-marked : (pools : Pools) (version : IpVersion) (sessions : List Session) (counts : List ℕ) → IsCounted pools version sessions counts → (p : ℕ) → p < count_of pools version → is_marked counts p ≡ is_taken false version pools sessions p
+marked : (pools : Pools) (version : IpVersion) (sessions : List Session) (counts : List ℕ) → IsCounted pools version sessions counts → (p : ℕ)
+    → p < count_of pools version → is_marked counts p ≡ is_taken false version pools sessions p
 marked pools version sessions counts is p lt =
     ap (λ (n : ℕ). not (n == 0)) (is.counted p lt) ∙ (by (users_of pools version p sessions) ∙ sym (any_by_count (takes false version (address_at pools version p)) sessions))
   where
@@ -134,10 +156,13 @@ marked pools version sessions counts is p lt =
     by zero = refl
     by (suc n) = ap not (ne_eqb (suc n) 0 (λ no. omega (arith, no)))
 
-pub lowest_counted : (version : IpVersion) (places : PoolPlaces) (sessions : List Session) → AreCounted sessions places → (found : Option ℕ) → IsFirstFree (length (counts_in places version)) (is_marked (counts_in places version)) found → IsLowestPlace false version places.pools sessions found
+pub lowest_counted : (version : IpVersion) (places : PoolPlaces) (sessions : List Session) → AreCounted sessions places → (found : Option ℕ)
+    → IsFirstFree (length (counts_in places version)) (is_marked (counts_in places version)) found
+    → IsLowestPlace false version places.pools sessions found
 lowest_counted version places sessions is found first = by version found first
   where
-    of : (v : IpVersion) (counts : List ℕ) → IsCounted places.pools v sessions counts → (o : Option ℕ) → IsFirstFree (length counts) (is_marked counts) o → IsLowestPlace false v places.pools sessions o
+    of : (v : IpVersion) (counts : List ℕ) → IsCounted places.pools v sessions counts → (o : Option ℕ)
+        → IsFirstFree (length counts) (is_marked counts) o → IsLowestPlace false v places.pools sessions o
     of v counts counted o lowest =
         taken_alike (count_of places.pools v) (is_marked counts) (is_taken false v places.pools sessions) (marked places.pools v sessions counts counted) o
         (subst (λ (n : ℕ). IsFirstFree n (is_marked counts) o) counted.long lowest)

@@ -48,6 +48,8 @@ module _ (m : FiniteMap Bearer) (remote session : ℕ) (d : HasDefault m remote 
       omega (arith, upto, other)
 
   -- where it is not the one that was looked at, it is not before the next one
-  pub ahead_next : (t : Teid) (o : Option Teid) → t ≤ d.teid → default_of session (get m t) ≡ false → IfSome o (λ teid. (k : ℕ) → t < k → HasRemote m remote k → teid ≤ k) → IfNone o ((k : ℕ) → t < k → HasRemote m remote k → ⊥) → IsAhead o d.teid
+  pub ahead_next : (t : Teid) (o : Option Teid) → t ≤ d.teid → default_of session (get m t) ≡ false
+      → IfSome o (λ teid. (k : ℕ) → t < k → HasRemote m remote k → teid ≤ k) → IfNone o ((k : ℕ) → t < k → HasRemote m remote k → ⊥)
+      → IsAhead o d.teid
   ahead_next t None upto is next none = none d.teid (past_other t upto is) d.at
   ahead_next t (Some teid) upto is next none = next d.teid (past_other t upto is) d.at

@@ -99,14 +99,17 @@ none_row {X} p (e ∷ es) none t x found = by (eq_by_cmp nat_cmp t e.0) found (n
     by true h rest = let same : e.1 ≡ x = cc in ap p (sym same) ∙ none 0 e refl
     by false h rest = rest h
 
-lowest_row : {X : Type 0} (p : X → Bool) (es : List (ℕ × X)) (i : ℕ) (e : ℕ × X) → T (is_sorted nat_cmp es) → slice_get es i ≡ Some e → ((j : ℕ) (f : ℕ × X) → j < i → slice_get es j ≡ Some f → p f.1 ≡ false) → (t : ℕ) (x : X) → find nat_cmp t es ≡ Some x → p x ≡ true → e.0 ≤ t
+lowest_row : {X : Type 0} (p : X → Bool) (es : List (ℕ × X)) (i : ℕ) (e : ℕ × X) → T (is_sorted nat_cmp es) → slice_get es i ≡ Some e
+    → ((j : ℕ) (f : ℕ × X) → j < i → slice_get es j ≡ Some f → p f.1 ≡ false) → (t : ℕ) (x : X) → find nat_cmp t es ≡ Some x → p x ≡ true → e.0 ≤ t
 lowest_row p [] i e up at none t x found is = absurd cc
 lowest_row {X} p (y ∷ es) zero e up at none t x found is = by (eq_by_cmp nat_cmp t y.0) refl found
   where
     by : (b : Bool) → eq_by_cmp nat_cmp t y.0 ≡ b → cond b (Some y.1) (find nat_cmp t es) ≡ Some x → e.0 ≤ t
     by true eq h = let same : y ≡ e = cc in let key : y.0 ≡ e.0 = ap (λ (z : ℕ × X). z.0) same in grind (arith, nat_tests, key)
     by false eq h = let same : y ≡ e = cc in let key : y.0 ≡ e.0 = ap (λ (z : ℕ × X). z.0) same in let less : y.0 < t = found_above y.0 t x es (first _ _ up) h in omega (arith, key, less)
-lowest_row {X} p (y ∷ es) (suc i) e up at none t x found is = by (eq_by_cmp nat_cmp t y.0) found (λ h. lowest_row p es i e (second _ _ up) at (λ j f lt there. none (suc j) f (omega (arith, lt)) there) t x h is)
+lowest_row {X} p (y ∷ es) (suc i) e up at none t x found is =
+    by (eq_by_cmp nat_cmp t y.0) found
+    (λ h. lowest_row p es i e (second _ _ up) at (λ j f lt there. none (suc j) f (omega (arith, lt)) there) t x h is)
   where
     by : (b : Bool) → cond b (Some y.1) (find nat_cmp t es) ≡ Some x → (find nat_cmp t es ≡ Some x → e.0 ≤ t) → e.0 ≤ t
     by true h rest = let same : y.1 ≡ x = cc in let not_it : p y.1 ≡ false = none 0 y (omega arith) refl in absurd (let both : true ≡ false = sym is ∙ (ap p (sym same) ∙ not_it) in cc)
@@ -117,12 +120,14 @@ pub meets_nowhere : {X : Type 0} (p : X → Bool) (m : FiniteMap X) → ((j : �
 meets_nowhere p m none t x stands = none_row p (entries m) none t x (sym (get-entries m t) ∙ stands)
 
 -- where no value at an earlier place meets the test, none under a lower key does
-pub meets_from : {X : Type 0} (p : X → Bool) (m : FiniteMap X) (i : ℕ) (e : ℕ × X) → slice_get (entries m) i ≡ Some e → ((j : ℕ) (f : ℕ × X) → j < i → slice_get (entries m) j ≡ Some f → p f.1 ≡ false) → (t : ℕ) (x : X) → get m t ≡ Some x → p x ≡ true → e.0 ≤ t
+pub meets_from : {X : Type 0} (p : X → Bool) (m : FiniteMap X) (i : ℕ) (e : ℕ × X) → slice_get (entries m) i ≡ Some e
+    → ((j : ℕ) (f : ℕ × X) → j < i → slice_get (entries m) j ≡ Some f → p f.1 ≡ false) → (t : ℕ) (x : X) → get m t ≡ Some x → p x ≡ true → e.0 ≤ t
 meets_from p m i e at none t x stands is = lowest_row p (entries m) i e (entries_sorted m) at none t x (sym (get-entries m t) ∙ stands) is
 
 -- ---- the last key
 
-below : {X : Type 0} (k : ℕ) (es : List (ℕ × X)) (n : ℕ) (last : ℕ × X) → T (is_sorted nat_cmp es) → length es ≡ n + 1 → slice_get es n ≡ Some last → last.0 < k → (q : ℕ) (x : X) → find nat_cmp q es ≡ Some x → q < k
+below : {X : Type 0} (k : ℕ) (es : List (ℕ × X)) (n : ℕ) (last : ℕ × X) → T (is_sorted nat_cmp es) → length es ≡ n + 1 → slice_get es n ≡ Some last
+    → last.0 < k → (q : ℕ) (x : X) → find nat_cmp q es ≡ Some x → q < k
 below k [] n last up size at lt q x found = absurd cc
 below {X} k (e ∷ []) zero last up size at lt q x found = by (eq_by_cmp nat_cmp q e.0) refl found
   where

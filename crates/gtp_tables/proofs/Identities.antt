@@ -12,7 +12,9 @@ use Rattle.gtp_tables.specs.Identity.{has_number, HasIdentity, IsUnused, IsBeare
 use Rattle.gtp_tables.proofs.Found.{meets_nowhere, meets_from, stands_at}
 
 pub has_it : (session identity : ℕ) (b : Bearer) → b.session ≡ session → b.identity ≡ Some identity → has_number session identity b ≡ true
-has_it session identity b of has = and_from (nat_eq b.session session) (is_number identity b.identity) (ap (λ (n : ℕ). nat_eq n session) of ∙ itself session) (ap (is_number identity) has ∙ itself identity)
+has_it session identity b of has =
+    and_from (nat_eq b.session session) (is_number identity b.identity) (ap (λ (n : ℕ). nat_eq n session) of ∙ itself session)
+    (ap (is_number identity) has ∙ itself identity)
 
 -- a bearer that has the identity, and none at an earlier place does
 pub is_bearer_with : (m : FiniteMap Bearer) (session identity i : ℕ) (e : ℕ × Bearer) → slice_get (entries m) i ≡ Some e → has_number session identity e.1 ≡ true

@@ -25,7 +25,8 @@ not_found {X} q p (e ∷ es) h = by (p e) (not_found q p es (second _ _ h))
     by true rest = rw (apart_by_cmp q e.0 (first _ _ h)) rest
     by false rest = rest
 
-lookup_filter : {X : Type 0} (test : ℕ → X → Bool) (rows : List (ℕ × X)) (q : ℕ) → T (is_sorted nat_cmp rows) → lookup (nat_eq q) (filter (λ e. test e.0 e.1) rows) ≡ passing test q (lookup (nat_eq q) rows)
+lookup_filter : {X : Type 0} (test : ℕ → X → Bool) (rows : List (ℕ × X)) (q : ℕ) → T (is_sorted nat_cmp rows)
+    → lookup (nat_eq q) (filter (λ e. test e.0 e.1) rows) ≡ passing test q (lookup (nat_eq q) rows)
 lookup_filter test [] q d = refl
 lookup_filter {X} test (e ∷ es) q d = by (nat_eq q e.0) (test e.0 e.1) refl refl (lookup_filter test es q (second _ _ d))
   where
@@ -39,7 +40,8 @@ lookup_filter {X} test (e ∷ es) q d = by (nat_eq q e.0) (test e.0 e.1) refl re
         rw (is, same) refl
     by true false is drops rest =
         let same : test q e.1 ≡ false = ap (λ (k : ℕ). test k e.1) (same_key is) ∙ drops in
-        let none : lookup (nat_eq q) (filter (λ x. test x.0 x.1) es) ≡ None = ap (λ (k : ℕ). lookup (nat_eq k) (filter (λ x. test x.0 x.1) es)) (same_key is) ∙ not_found e.0 (λ x. test x.0 x.1) es (first _ _ d) in
+        let none : lookup (nat_eq q) (filter (λ x. test x.0 x.1) es) ≡ None =
+        ap (λ (k : ℕ). lookup (nat_eq k) (filter (λ x. test x.0 x.1) es)) (same_key is) ∙ not_found e.0 (λ x. test x.0 x.1) es (first _ _ d) in
         none ∙ sym (ap (λ (b : Bool). cond b (Some e.1) None) same)
     by false true is keeps rest = rw is rest
     by false false is drops rest = rest

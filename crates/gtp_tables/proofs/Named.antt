@@ -31,7 +31,8 @@ pub get_removed : (m : FiniteMap Bearer) (k q : ℕ) → get (remove m k) q ≡ 
 get_removed m k q = get-remove nat_cmp_total m k q ∙ (λ i. cond (turned q k i) None (get m q))
 
 -- after a bearer is put where there was none with a remote
-pub named : (own r o : ℕ) (b : Bearer) (there : Option Bearer) → (nat_eq own o ≡ true → remote_at there ≡ None) → cond (is_number r b.remote && nat_eq own o) true (names r there) ≡ names r (cond (nat_eq own o) (Some b) there)
+pub named : (own r o : ℕ) (b : Bearer) (there : Option Bearer) → (nat_eq own o ≡ true → remote_at there ≡ None)
+    → cond (is_number r b.remote && nat_eq own o) true (names r there) ≡ names r (cond (nat_eq own o) (Some b) there)
 named own r o b there blank = by (is_number r b.remote) (nat_eq own o) refl refl
   where
     unnamed : (x : Option Bearer) → remote_at x ≡ None → names r x ≡ false
@@ -53,7 +54,8 @@ renamed own r o b there is = by (nat_eq own o) refl
     by false f = refl
 
 -- after a bearer is taken out
-pub unnamed : (own r o : ℕ) (at there : Option Bearer) → (nat_eq own o ≡ true → there ≡ at) → cond (is_number r (remote_at at) && nat_eq own o) false (names r there) ≡ names r (cond (nat_eq own o) None there)
+pub unnamed : (own r o : ℕ) (at there : Option Bearer) → (nat_eq own o ≡ true → there ≡ at)
+    → cond (is_number r (remote_at at) && nat_eq own o) false (names r there) ≡ names r (cond (nat_eq own o) None there)
 unnamed own r o at there same = by (is_number r (remote_at at)) (nat_eq own o) refl refl
   where
     named : (x : Option Bearer) → names r x ≡ is_number r (remote_at x)
@@ -139,7 +141,10 @@ kept_named test m r o = ap (λ (x : Option Bearer). is_some x && names r (get m 
 
 find_changed : (f : Bearer → Bearer) (es : List (ℕ × Bearer)) (o : ℕ) → find nat_cmp o (map (with_value f) es) ≡ option_map f (find nat_cmp o es)
 find_changed f [] o = refl
-find_changed f (e ∷ es) o = elim (eq_by_cmp nat_cmp o e.0) as (λ c. cond c (Some (f e.1)) (find nat_cmp o (map (with_value f) es)) ≡ option_map f (cond c (Some e.1) (find nat_cmp o es))) [ true ↦ refl | false ↦ find_changed f es o ]
+find_changed f (e ∷ es) o =
+    elim (eq_by_cmp nat_cmp o e.0) as
+    (λ c. cond c (Some (f e.1)) (find nat_cmp o (map (with_value f) es)) ≡ option_map f (cond c (Some e.1) (find nat_cmp o es)))
+    [ true ↦ refl | false ↦ find_changed f es o ]
 
 pub get_changed : (f : Bearer → Bearer) (m : FiniteMap Bearer) (o : ℕ) → get (changed f m) o ≡ option_map f (get m o)
 get_changed f m o = get-from_entries nat_cmp_total (map (with_value f) (entries m)) o ∙ (find_changed f (entries m) o ∙ ap (option_map f) (sym (get-entries m o)))

@@ -1,12 +1,14 @@
 -- Rows in any order, and the keys in order: what each change of the one does to the other.
-use Rattle.std.proofs.Common.{◌≡◌, ℕ, zero, suc, ◌<◌, Bool, true, false, cond, List, [], ◌∷◌, ◌++◌, map, length, Option, Some, None, Result, Ok, Err, inl, inr, get_or, remove as remove_at, ◌≤◌, subst, refl, sym, ◌∙◌, ap, nat_eq, T, arith}
+use Rattle.std.proofs.Common.{◌≡◌, ℕ, zero, suc, ◌<◌, Bool, true, false, cond, List, [], ◌∷◌, ◌++◌, map, length, Option, Some, None, Result, Ok, Err}
+use Rattle.std.proofs.Common.{inl, inr, get_or, remove as remove_at, ◌≤◌, subst, refl, sym, ◌∙◌, ap, nat_eq, T, arith}
 use Rattle.std.specs.Prelude.{not, ◌||◌, filter, is_some, option_map, slice_get, IsSome}
 use Rattle.std.specs.List.{list_any, AllByRecursion, IsDistinct}
 use Rattle.std.specs.Map.{lookup, set_value, keys_of}
 use Rattle.std.specs.Cmp.{nat_cmp_total}
 use Rattle.std.specs.Ordering.{nat_cmp, eq_by_cmp}
 use Rattle.std.specs.FinMap.Entries.{below_all}
-use Rattle.std.specs.FinMap.{get, insert, remove, len, keys, values, entries, entries_sorted, len-entries, from_entries, is_sorted, get-entries, get-remove, len-empty, gets, same_map, nat_cmp-IsAntisymmetric}
+use Rattle.std.specs.FinMap.{get, insert, remove, len, keys, values, entries, entries_sorted, len-entries, from_entries, is_sorted, get-entries}
+use Rattle.std.specs.FinMap.{get-remove, len-empty, gets, same_map, nat_cmp-IsAntisymmetric}
 use Rattle.std.proofs.lemmas.Bool.Decides.{nat_tests}
 use Rattle.std.proofs.lemmas.Cmp.{nat_eq_equiv}
 use Rattle.std.proofs.lemmas.Option.{slice_get-map, same_Some}
@@ -22,7 +24,8 @@ use Rattle.gtp_values.proofs.Outcomes.{nothing}
 use Rattle.gtp_values.proofs.Tests.{same_number, less_by_cmp, apart_by_cmp}
 use Rattle.gtp_tables.proofs.Found.{stands_at}
 use Rattle.gtp_tables.proofs.Kept.{passing, get_kept, table_kept}
-use Rattle.gtp_tables.proofs.Rows.{KeysBelow, turned, find_row, get_row, same_rows, listed, first, second, none_above, ascend_push, ascend_set, ascend_filter, ascend_map, lookup_set, table_insert, table_push}
+use Rattle.gtp_tables.proofs.Rows.{KeysBelow, turned, find_row, get_row, same_rows, listed, first, second, none_above, ascend_push, ascend_set}
+use Rattle.gtp_tables.proofs.Rows.{ascend_filter, ascend_map, lookup_set, table_insert, table_push}
 
 -- the entries of a map, read again
 pub again : {X : Type 0} (m : FiniteMap X) → from_entries (entries m) ≡ m
@@ -59,7 +62,9 @@ keys_insert_last m k x below = ap (map (λ e. e.0)) (entries_push m k x below) �
 
 keys_of_set : {X : Type 0} (es : List (ℕ × X)) (k : ℕ) (x : X) → map (λ e. e.0) (set_value (nat_eq k) es x) ≡ map (λ e. e.0) es
 keys_of_set [] k x = refl
-keys_of_set (e ∷ es) k x = elim (nat_eq k e.0) as (λ b. map (λ f. f.0) (cond b ((e.0, x) ∷ es) (e ∷ set_value (nat_eq k) es x)) ≡ e.0 ∷ map (λ f. f.0) es) [ true ↦ refl | false ↦ ap (λ (l : List ℕ). e.0 ∷ l) (keys_of_set es k x) ]
+keys_of_set (e ∷ es) k x =
+    elim (nat_eq k e.0) as (λ b. map (λ f. f.0) (cond b ((e.0, x) ∷ es) (e ∷ set_value (nat_eq k) es x)) ≡ e.0 ∷ map (λ f. f.0) es)
+    [ true ↦ refl | false ↦ ap (λ (l : List ℕ). e.0 ∷ l) (keys_of_set es k x) ]
 
 pub keys_insert_there : {X : Type 0} (m : FiniteMap X) (k : ℕ) (x : X) → IsSome (lookup (nat_eq k) (entries m)) → keys (insert m k x) ≡ keys m
 keys_insert_there m k x there = ap (map (λ e. e.0)) (entries_set m k x there) ∙ keys_of_set (entries m) k x
@@ -82,7 +87,8 @@ rows_changed f rows =
     ∙ (sym (lookup-map_values f (nat_eq q) (entries m))
     ∙ sym (get_row (map (with_value f) (entries m)) q))))
 
-pub rows_kept : {X : Type 0} (test : X → Bool) (rows : List (ℕ × X)) → IsDistinct nat_eq (keys_of rows) → from_entries {R = nat_cmp} (filter (λ e. test e.1) rows) ≡ kept (λ _ x. test x) (from_entries rows)
+pub rows_kept : {X : Type 0} (test : X → Bool) (rows : List (ℕ × X)) → IsDistinct nat_eq (keys_of rows)
+    → from_entries {R = nat_cmp} (filter (λ e. test e.1) rows) ≡ kept (λ _ x. test x) (from_entries rows)
 rows_kept test rows d =
     let m = from_entries {R = nat_cmp} rows in
     same_rows (filter (λ e. test e.1) rows) (kept (λ _ x. test x) m) (λ q.
@@ -144,7 +150,10 @@ distinct_changed f rows d = subst (λ (ks : List ℕ). IsDistinct nat_eq ks) (sy
 
 pub count_of_values : {X : Type 0} (test : X → Bool) (rows : List (ℕ × X)) → length (filter test (map (λ e. e.1) rows)) ≡ length (filter (λ e. test e.1) rows)
 count_of_values test [] = refl
-count_of_values test (e ∷ es) = elim (test e.1) as (λ b. length (cond b (e.1 ∷ filter test (map (λ x. x.1) es)) (filter test (map (λ x. x.1) es))) ≡ length (cond b (e ∷ filter (λ x. test x.1) es) (filter (λ x. test x.1) es))) [ true ↦ ap suc (count_of_values test es) | false ↦ count_of_values test es ]
+count_of_values test (e ∷ es) =
+    elim (test e.1) as (λ b. length (cond b (e.1 ∷ filter test (map (λ x. x.1) es)) (filter test (map (λ x. x.1) es)))
+    ≡ length (cond b (e ∷ filter (λ x. test x.1) es) (filter (λ x. test x.1) es)))
+    [ true ↦ ap suc (count_of_values test es) | false ↦ count_of_values test es ]
 
 pub count_rows : {X : Type 0} (test : X → Bool) (rows : List (ℕ × X)) → IsDistinct nat_eq (keys_of rows) → length (filter test (map (λ e. e.1) rows)) ≡ len (kept (λ _ x. test x) (from_entries rows))
 count_rows test rows d =
@@ -160,7 +169,8 @@ pub any_by_count : {X : Type 0} (test : X → Bool) (xs : List X) → list_any t
 any_by_count test [] = refl
 any_by_count test (x ∷ xs) = elim (test x) as (λ b. (b || list_any test xs) ≡ is_more (length (cond b (x ∷ filter test xs) (filter test xs)))) [ true ↦ refl | false ↦ any_by_count test xs ]
 
-pub any_of_rows : {X : Type 0} (test : X → Bool) (rows : List (ℕ × X)) → IsDistinct nat_eq (keys_of rows) → list_any test (map (λ e. e.1) rows) ≡ list_any test (values (from_entries {R = nat_cmp} rows))
+pub any_of_rows : {X : Type 0} (test : X → Bool) (rows : List (ℕ × X)) → IsDistinct nat_eq (keys_of rows)
+    → list_any test (map (λ e. e.1) rows) ≡ list_any test (values (from_entries {R = nat_cmp} rows))
 any_of_rows test rows d =
     let m = from_entries {R = nat_cmp} rows in
     any_by_count test (map (λ e. e.1) rows)
@@ -177,7 +187,8 @@ each_stands {X} m = of (entries m) (λ e i at. stands_at m i e at)
     of [] h = tt
     of (e ∷ es) h = (h e 0 refl, of es (λ f i at. h f (suc i) at))
 
-keys_filter : {X : Type 0} (test : ℕ → X → Bool) (stays : ℕ → Bool) (es : List (ℕ × X)) → AllByRecursion (λ e. stays e.0 ≡ test e.0 e.1) es → filter stays (map (λ e. e.0) es) ≡ map (λ e. e.0) (filter (λ e. test e.0 e.1) es)
+keys_filter : {X : Type 0} (test : ℕ → X → Bool) (stays : ℕ → Bool) (es : List (ℕ × X)) → AllByRecursion (λ e. stays e.0 ≡ test e.0 e.1) es
+    → filter stays (map (λ e. e.0) es) ≡ map (λ e. e.0) (filter (λ e. test e.0 e.1) es)
 keys_filter test stays [] h = refl
 keys_filter test stays (e ∷ es) h =
     ap (λ (b : Bool). cond b (e.0 ∷ filter stays (map (λ f. f.0) es)) (filter stays (map (λ f. f.0) es))) h.0
@@ -203,7 +214,8 @@ keys_kept {X} test m =
     each (e ∷ es) h = (ap is_some (get_kept test m e.0 ∙ ap (passing test e.0) h.0) ∙ some e.0 e.1 (test e.0 e.1) refl, each es h.1)
 
 -- the keys that are left are those of the rows that are left
-pub keys_left : {X : Type 0} (test : ℕ → X → Bool) (rows left : List (ℕ × X)) (old new : List ℕ) → from_entries {R = nat_cmp} left ≡ kept test (from_entries rows) → old ≡ keys (from_entries {R = nat_cmp} rows) → new ≡ filter (λ k. is_some (lookup (nat_eq k) left)) old
+pub keys_left : {X : Type 0} (test : ℕ → X → Bool) (rows left : List (ℕ × X)) (old new : List ℕ) → from_entries {R = nat_cmp} left ≡ kept test (from_entries rows)
+    → old ≡ keys (from_entries {R = nat_cmp} rows) → new ≡ filter (λ k. is_some (lookup (nat_eq k) left)) old
     → new ≡ keys (from_entries {R = nat_cmp} left)
 keys_left {X} test rows left old new is before after =
     after
@@ -250,7 +262,9 @@ keys_rise {X} m = by (entries m) (entries_sorted m)
 
 -- what is left when a key is taken out
 pub removed : {X : Type 0} (m : FiniteMap X) (k : ℕ) → remove m k ≡ kept (λ t _. not (nat_eq k t)) m
-removed {X} m k = same_map nat_cmp_total nat_cmp-IsAntisymmetric (remove m k) (kept (λ t _. not (nat_eq k t)) m) (λ q. get-remove nat_cmp_total m k q ∙ (by q (get m q) ∙ sym (get_kept (λ t _. not (nat_eq k t)) m q)))
+removed {X} m k =
+    same_map nat_cmp_total nat_cmp-IsAntisymmetric (remove m k) (kept (λ t _. not (nat_eq k t)) m)
+    (λ q. get-remove nat_cmp_total m k q ∙ (by q (get m q) ∙ sym (get_kept (λ t _. not (nat_eq k t)) m q)))
   where
     chosen : (b : Bool) (x : X) → cond b None (Some x) ≡ cond (not b) (Some x) None
     chosen true x = refl

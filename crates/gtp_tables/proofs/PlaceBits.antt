@@ -17,7 +17,9 @@ same_bit : (words now : List ℕ) (p : ℕ) → bit_at (slice_index now (p / 64)
 same_bit words now p same = ap (λ (n : ℕ). n == 1) same
 
 -- a word is written in which at most the bit of one place changes
-rewritten : (words : List ℕ) (place x : ℕ) (became : Bool) → place < 64 * length words → (bit_at x (place % 64) == 1) ≡ became → ((i : ℕ) → i < 64 → i ≢ place % 64 → bit_at x i ≡ bit_at (slice_index words (place / 64)) i) → (p : ℕ) → has_place (slice_set words (place / 64) x) p ≡ cond (nat_eq p place) became (has_place words p)
+rewritten : (words : List ℕ) (place x : ℕ) (became : Bool) → place < 64 * length words → (bit_at x (place % 64) == 1) ≡ became
+    → ((i : ℕ) → i < 64 → i ≢ place % 64 → bit_at x i ≡ bit_at (slice_index words (place / 64)) i) → (p : ℕ)
+    → has_place (slice_set words (place / 64) x) p ≡ cond (nat_eq p place) became (has_place words p)
 rewritten words place x became within there others p = elim (cases_eq (p / 64) (place / 64)) [
   | inl word ↦ elim (cases_eq (p % 64) (place % 64)) [
     | inl bit ↦
@@ -27,7 +29,8 @@ rewritten words place x became within there others p = elim (cases_eq (p / 64) (
         same_bit words (slice_set words (place / 64) x) p (at_word word (p % 64) ∙ (others (p % 64) (omega arith) bit ∙ ap (λ (w : ℕ). bit_at (slice_index words w) (p % 64)) (sym word)))
         ∙ elsewhere (λ is. bit (ap (λ (k : ℕ). k % 64) is))
   ]
-  | inr word ↦ same_bit words (slice_set words (place / 64) x) p (ap (λ (n : ℕ). bit_at n (p % 64)) (get_or-set_other words (place / 64) (p / 64) x 0 word)) ∙ elsewhere (λ is. word (ap (λ (k : ℕ). k / 64) is))
+  | inr word ↦ same_bit words (slice_set words (place / 64) x) p
+      (ap (λ (n : ℕ). bit_at n (p % 64)) (get_or-set_other words (place / 64) (p / 64) x 0 word)) ∙ elsewhere (λ is. word (ap (λ (k : ℕ). k / 64) is))
 ]
   where
     at_word : p / 64 ≡ place / 64 → (i : ℕ) → bit_at (slice_index (slice_set words (place / 64) x) (p / 64)) i ≡ bit_at x i
@@ -36,7 +39,9 @@ rewritten words place x became within there others p = elim (cases_eq (p / 64) (
     elsewhere : (p ≡ place → ⊥) → has_place words p ≡ cond (nat_eq p place) became (has_place words p)
     elsewhere ne = sym (ap (λ (b : Bool). cond b became (has_place words p)) (ne_eqb p place ne))
 
-pub written : (words : List ℕ) (place x : ℕ) (bit : Bool) → place < 64 * length words → (bit_at x (place % 64) == 1) ≡ bit → ((i : ℕ) → i < 64 → i ≢ place % 64 → bit_at x i ≡ bit_at (slice_index words (place / 64)) i) → IsWritten words place bit (slice_set words (place / 64) x)
+pub written : (words : List ℕ) (place x : ℕ) (bit : Bool) → place < 64 * length words → (bit_at x (place % 64) == 1) ≡ bit
+    → ((i : ℕ) → i < 64 → i ≢ place % 64 → bit_at x i ≡ bit_at (slice_index words (place / 64)) i)
+    → IsWritten words place bit (slice_set words (place / 64) x)
 written words place x bit within there others = record {
   room = length-set words (place / 64) x;
   places = rewritten words place x bit within there others;
@@ -55,7 +60,8 @@ pub no_place : (words : List ℕ) (place : ℕ) → is_empty words (place / 64) 
 no_place words place zero = ap (λ (n : ℕ). not (n == 1)) (ap (λ (n : ℕ). bit_at n (place % 64)) (eqb-true (slice_index words (place / 64)) 0 zero) ∙ bit_at-zero (place % 64))
 
 -- the lowest place is in the first word that is not empty
-pub lowest_in : (words : List ℕ) (word : ℕ) → IsLowest (length words) (is_empty words) word → slice_index words word < 2 ^ 64 → IsLowest (64 * length words) (λ p. not (has_place words p)) (word * 64 + trailing_zeros w64 (slice_index words word))
+pub lowest_in : (words : List ℕ) (word : ℕ) → IsLowest (length words) (is_empty words) word → slice_index words word < 2 ^ 64
+    → IsLowest (64 * length words) (λ p. not (has_place words p)) (word * 64 + trailing_zeros w64 (slice_index words word))
 lowest_in words word first fits = record {
   within = omega (arith, zeros.0, first.within);
   free = ap (λ (n : ℕ). not (n == 1)) (ap (λ (w : ℕ). bit_at (slice_index words w) (at % 64)) (omega (arith, zeros.0)) ∙ (ap (bit_at n) (omega (arith, zeros.0)) ∙ zeros.1));
@@ -74,7 +80,8 @@ lowest_in words word first fits = record {
     positive : 0 < slice_index words word
     positive = let some : slice_index words word ≢ 0 = eqb-false (slice_index words word) 0 first.free in omega arith
 
-    zeros : (trailing_zeros w64 (slice_index words word) < 64) × (bit_at (slice_index words word) (trailing_zeros w64 (slice_index words word)) ≡ 1) × ((i : ℕ) → i < trailing_zeros w64 (slice_index words word) → bit_at (slice_index words word) i ≡ 0)
+    zeros : (trailing_zeros w64 (slice_index words word) < 64) × (bit_at (slice_index words word) (trailing_zeros w64 (slice_index words word)) ≡ 1)
+        × ((i : ℕ) → i < trailing_zeros w64 (slice_index words word) → bit_at (slice_index words word) i ≡ 0)
     zeros = bit_at-trailing_zeros w64 (slice_index words word) positive fits
 
 -- where all words are empty, there is no place
@@ -84,7 +91,9 @@ none_in words empty p lt = no_place words p (empty (p / 64) (omega (arith, lt)))
 -- ---- the summary
 
 -- a word is written, and the summary says whether it is empty now
-summed_again : (words summary now summed : List ℕ) (place : ℕ) (bit : Bool) → AreSummed words summary → IsWritten words place bit now → length summed ≡ length summary → ((w : ℕ) → has_place summed w ≡ cond (nat_eq w (place / 64)) (not (is_empty now (place / 64))) (has_place summary w)) → AreSummed now summed
+summed_again : (words summary now summed : List ℕ) (place : ℕ) (bit : Bool) → AreSummed words summary → IsWritten words place bit now
+    → length summed ≡ length summary
+    → ((w : ℕ) → has_place summed w ≡ cond (nat_eq w (place / 64)) (not (is_empty now (place / 64))) (has_place summary w)) → AreSummed now summed
 summed_again words summary now summed place bit old written room tells = record {
   few = omega (arith, old.few, written.room);
   few_summed = omega (arith, old.few_summed, room);
@@ -100,14 +109,20 @@ at_place : (words now : List ℕ) (place : ℕ) (bit : Bool) → IsWritten words
 at_place words now place bit written = written.places place ∙ ap (λ (b : Bool). cond b bit (has_place words place)) (eq-eqb place place refl)
 
 pub inserted : (words summary now summed : List ℕ) (place : ℕ) → AreSummed words summary → IsWritten words place true now → IsWritten summary (place / 64) true summed → AreSummed now summed
-inserted words summary now summed place old written told = summed_again words summary now summed place true old written told.room (λ w. told.places w ∙ ap (λ (b : Bool). cond (nat_eq w (place / 64)) b (has_place summary w)) (sym (not_empty now place (at_place words now place true written))))
+inserted words summary now summed place old written told =
+    summed_again words summary now summed place true old written told.room (λ w. told.places w
+    ∙ ap (λ (b : Bool). cond (nat_eq w (place / 64)) b (has_place summary w)) (sym (not_empty now place (at_place words now place true written))))
 
 -- the last place of a word is removed
-pub removed_last : (words summary now summed : List ℕ) (place : ℕ) → AreSummed words summary → IsWritten words place false now → is_empty now (place / 64) ≡ true → IsWritten summary (place / 64) false summed → AreSummed now summed
-removed_last words summary now summed place old written empty told = summed_again words summary now summed place false old written told.room (λ w. told.places w ∙ ap (λ (b : Bool). cond (nat_eq w (place / 64)) (not b) (has_place summary w)) (sym empty))
+pub removed_last : (words summary now summed : List ℕ) (place : ℕ) → AreSummed words summary → IsWritten words place false now → is_empty now (place / 64) ≡ true
+    → IsWritten summary (place / 64) false summed → AreSummed now summed
+removed_last words summary now summed place old written empty told =
+    summed_again words summary now summed place false old written told.room
+    (λ w. told.places w ∙ ap (λ (b : Bool). cond (nat_eq w (place / 64)) (not b) (has_place summary w)) (sym empty))
 
 -- a place is removed, and its word has others
-pub removed_one : (words summary now : List ℕ) (place : ℕ) → AreSummed words summary → has_place words place ≡ true → IsWritten words place false now → is_empty now (place / 64) ≡ false → AreSummed now summary
+pub removed_one : (words summary now : List ℕ) (place : ℕ) → AreSummed words summary → has_place words place ≡ true → IsWritten words place false now
+    → is_empty now (place / 64) ≡ false → AreSummed now summary
 removed_one words summary now place old has written more = summed_again words summary now summary place false old written refl (λ w. by w (nat_eq w (place / 64)) refl)
   where
     by : (w : ℕ) (b : Bool) → nat_eq w (place / 64) ≡ b → has_place summary w ≡ cond b (not (is_empty now (place / 64))) (has_place summary w)

@@ -34,7 +34,9 @@ apart_v4 pools is p q p_in q_in same =
     omega (arith, sum)
 
 pub apart_v6 : (pools : Pools) → ArePrefixes pools.v6 → AreApart pools V6
-apart_v6 pools are p q p_in q_in same = same_sum (prefix_of pools.v6.start) (one_prefix (prefix_of pools.v6.start + p) (prefix_of pools.v6.start + q) (drop 8 pools.v6.start) (fits (prefix_of pools.v6.start) p pools.v6.count p_in are.within) (fits (prefix_of pools.v6.start) q pools.v6.count q_in are.within) same)
+apart_v6 pools are p q p_in q_in same =
+    same_sum (prefix_of pools.v6.start) (one_prefix (prefix_of pools.v6.start + p) (prefix_of pools.v6.start + q) (drop 8 pools.v6.start)
+    (fits (prefix_of pools.v6.start) p pools.v6.count p_in are.within) (fits (prefix_of pools.v6.start) q pools.v6.count q_in are.within) same)
   where
     fits : (first k count : ℕ) → k < count → first + count ≤ 2 ^ 64 → first + k < 2 ^ 64
     fits first k count lt within = omega (arith, lt, within)
@@ -43,13 +45,16 @@ apart_v6 pools are p q p_in q_in same = same_sum (prefix_of pools.v6.start) (one
     same_sum first sum = omega (arith, sum)
 
 -- what is found to be the address with a place has that place
-pub placed : (pools : Pools) (version : IpVersion) → AreApart pools version → (part : Option (List ℕ)) (octets : List ℕ) → part ≡ Some octets → (o : Option ℕ) → IfSome o (λ place. (place < count_of pools version) × (octets ≡ address_at pools version place)) → IfSome o (IsPlaceOf pools version part)
+pub placed : (pools : Pools) (version : IpVersion) → AreApart pools version → (part : Option (List ℕ)) (octets : List ℕ) → part ≡ Some octets → (o : Option ℕ)
+    → IfSome o (λ place. (place < count_of pools version) × (octets ≡ address_at pools version place)) → IfSome o (IsPlaceOf pools version part)
 placed pools version apart part octets is None none = tt
 placed pools version apart part octets is (Some place) (lt, at) =
     let has : part ≡ Some (address_at pools version place) = is ∙ ap (λ k. Some k) at in
     record { in_pool = lt; has = has; one = λ p p_in p_has. apart p place p_in lt (same_Some _ _ (sym p_has ∙ has)) }
 
-pub unplaced : (pools : Pools) (version : IpVersion) (part : Option (List ℕ)) (octets : List ℕ) → part ≡ Some octets → (o : Option ℕ) → IfNone o ((p : ℕ) → p < count_of pools version → octets ≢ address_at pools version p) → IfNone o ((p : ℕ) → p < count_of pools version → part ≢ Some (address_at pools version p))
+pub unplaced : (pools : Pools) (version : IpVersion) (part : Option (List ℕ)) (octets : List ℕ) → part ≡ Some octets → (o : Option ℕ)
+    → IfNone o ((p : ℕ) → p < count_of pools version → octets ≢ address_at pools version p)
+    → IfNone o ((p : ℕ) → p < count_of pools version → part ≢ Some (address_at pools version p))
 unplaced pools version part octets is None none = λ p lt has. none p lt (same_Some _ _ (sym is ∙ has))
 unplaced pools version part octets is (Some place) some = tt
 

@@ -2,7 +2,8 @@
 use Rattle.std.proofs.Common.{◌≡◌, ℕ, ◌<◌, Bool, true, false, cond, List, [], ◌∷◌, ◌++◌, map, Some, None, refl, sym, ◌∙◌, ap, subst, nat_eq, T, arith}
 use Rattle.std.specs.Prelude.{◌&&◌, IsSome, filter}
 use Rattle.std.specs.Map.{lookup, set_value, remove_entry}
-use Rattle.std.specs.FinMap.{find, get, insert, remove, entries, from_entries, from_sorted, is_sorted, from_entries_push, get-from_entries, get-from_sorted, entries-from_sorted, get-insert, get-remove, same_map, nat_cmp-IsAntisymmetric}
+use Rattle.std.specs.FinMap.{find, get, insert, remove, entries, from_entries, from_sorted, is_sorted, from_entries_push, get-from_entries}
+use Rattle.std.specs.FinMap.{get-from_sorted, entries-from_sorted, get-insert, get-remove, same_map, nat_cmp-IsAntisymmetric}
 use Rattle.std.specs.Ordering.{nat_cmp, is_eq, is_lt}
 use Rattle.std.specs.Cmp.{nat_cmp_total}
 use Rattle.std.proofs.lemmas.Bool.Decides.{nat_tests}
@@ -36,16 +37,23 @@ listed rows up =
 
 -- ---- a change, key by key
 
-pub table_insert : {X : Type 0} (old new : List (ℕ × X)) (k : ℕ) (x : X) → ((q : ℕ) → lookup (nat_eq q) new ≡ cond (nat_eq k q) (Some x) (lookup (nat_eq q) old)) → from_entries {R = nat_cmp} new ≡ insert (from_entries old) k x
-table_insert old new k x updates = same_rows new (insert (from_entries old) k x) (λ q. updates q ∙ sym (get-insert nat_cmp_total (from_entries old) k x q ∙ (λ i. cond (turned q k i) (Some x) (get_row old q i))))
+pub table_insert : {X : Type 0} (old new : List (ℕ × X)) (k : ℕ) (x : X) → ((q : ℕ) → lookup (nat_eq q) new ≡ cond (nat_eq k q) (Some x) (lookup (nat_eq q) old))
+    → from_entries {R = nat_cmp} new ≡ insert (from_entries old) k x
+table_insert old new k x updates =
+    same_rows new (insert (from_entries old) k x)
+    (λ q. updates q ∙ sym (get-insert nat_cmp_total (from_entries old) k x q ∙ (λ i. cond (turned q k i) (Some x) (get_row old q i))))
 
-pub table_remove : {X : Type 0} (old new : List (ℕ × X)) (k : ℕ) → ((q : ℕ) → lookup (nat_eq q) new ≡ cond (nat_eq k q) None (lookup (nat_eq q) old)) → from_entries {R = nat_cmp} new ≡ remove (from_entries old) k
-table_remove old new k updates = same_rows new (remove (from_entries old) k) (λ q. updates q ∙ sym (get-remove nat_cmp_total (from_entries old) k q ∙ (λ i. cond (turned q k i) None (get_row old q i))))
+pub table_remove : {X : Type 0} (old new : List (ℕ × X)) (k : ℕ) → ((q : ℕ) → lookup (nat_eq q) new ≡ cond (nat_eq k q) None (lookup (nat_eq q) old))
+    → from_entries {R = nat_cmp} new ≡ remove (from_entries old) k
+table_remove old new k updates =
+    same_rows new (remove (from_entries old) k)
+    (λ q. updates q ∙ sym (get-remove nat_cmp_total (from_entries old) k q ∙ (λ i. cond (turned q k i) None (get_row old q i))))
 
 pub table_push : {X : Type 0} (rows : List (ℕ × X)) (k : ℕ) (x : X) → lookup (nat_eq k) rows ≡ None → from_entries {R = nat_cmp} (rows ++ (k, x) ∷ []) ≡ insert (from_entries rows) k x
 table_push rows k x none = from_entries_push nat_cmp_total nat_cmp-IsAntisymmetric rows k x (find_row rows k ∙ none)
 
-pub lookup_set : {X : Type 0} (rows : List (ℕ × X)) (k : ℕ) (x : X) (q : ℕ) → IsSome (lookup (nat_eq k) rows) → lookup (nat_eq q) (set_value (nat_eq k) rows x) ≡ cond (nat_eq k q) (Some x) (lookup (nat_eq q) rows)
+pub lookup_set : {X : Type 0} (rows : List (ℕ × X)) (k : ℕ) (x : X) (q : ℕ) → IsSome (lookup (nat_eq k) rows)
+    → lookup (nat_eq q) (set_value (nat_eq k) rows x) ≡ cond (nat_eq k q) (Some x) (lookup (nat_eq q) rows)
 lookup_set [] k x q there = absurd cc
 lookup_set {X} (e ∷ es) k x q there = by (nat_eq k e.0) (nat_eq q e.0) (nat_eq k q) refl refl refl there (lookup_set es k x q)
   where
@@ -107,27 +115,39 @@ ascend_push (r ∷ rs) e h below = both _ _ (below_push r.0 rs e (first _ _ h) b
 
 below_set : {X : Type 0} (x k : ℕ) (rows : List (ℕ × X)) (v : X) → T (below_all nat_cmp x rows) → T (below_all nat_cmp x (set_value (nat_eq k) rows v))
 below_set x k [] v h = tt
-below_set x k (r ∷ rs) v h = elim (nat_eq k r.0) as (λ b. T (below_all nat_cmp x (cond b ((r.0, v) ∷ rs) (r ∷ set_value (nat_eq k) rs v)))) [ true ↦ h | false ↦ both _ _ (first _ _ h) (below_set x k rs v (second _ _ h)) ]
+below_set x k (r ∷ rs) v h =
+    elim (nat_eq k r.0) as (λ b. T (below_all nat_cmp x (cond b ((r.0, v) ∷ rs) (r ∷ set_value (nat_eq k) rs v))))
+    [ true ↦ h | false ↦ both _ _ (first _ _ h) (below_set x k rs v (second _ _ h)) ]
 
 pub ascend_set : {X : Type 0} (k : ℕ) (rows : List (ℕ × X)) (v : X) → T (is_sorted nat_cmp rows) → T (is_sorted nat_cmp (set_value (nat_eq k) rows v))
 ascend_set k [] v h = tt
-ascend_set k (r ∷ rs) v h = elim (nat_eq k r.0) as (λ b. T (is_sorted nat_cmp (cond b ((r.0, v) ∷ rs) (r ∷ set_value (nat_eq k) rs v)))) [ true ↦ h | false ↦ both _ _ (below_set r.0 k rs v (first _ _ h)) (ascend_set k rs v (second _ _ h)) ]
+ascend_set k (r ∷ rs) v h =
+    elim (nat_eq k r.0) as (λ b. T (is_sorted nat_cmp (cond b ((r.0, v) ∷ rs) (r ∷ set_value (nat_eq k) rs v))))
+    [ true ↦ h | false ↦ both _ _ (below_set r.0 k rs v (first _ _ h)) (ascend_set k rs v (second _ _ h)) ]
 
 below_remove : {X : Type 0} (x k : ℕ) (rows : List (ℕ × X)) → T (below_all nat_cmp x rows) → T (below_all nat_cmp x (remove_entry (nat_eq k) rows))
 below_remove x k [] h = tt
-below_remove x k (r ∷ rs) h = elim (nat_eq k r.0) as (λ b. T (below_all nat_cmp x (cond b rs (r ∷ remove_entry (nat_eq k) rs)))) [ true ↦ second _ _ h | false ↦ both _ _ (first _ _ h) (below_remove x k rs (second _ _ h)) ]
+below_remove x k (r ∷ rs) h =
+    elim (nat_eq k r.0) as (λ b. T (below_all nat_cmp x (cond b rs (r ∷ remove_entry (nat_eq k) rs))))
+    [ true ↦ second _ _ h | false ↦ both _ _ (first _ _ h) (below_remove x k rs (second _ _ h)) ]
 
 pub ascend_remove : {X : Type 0} (k : ℕ) (rows : List (ℕ × X)) → T (is_sorted nat_cmp rows) → T (is_sorted nat_cmp (remove_entry (nat_eq k) rows))
 ascend_remove k [] h = tt
-ascend_remove k (r ∷ rs) h = elim (nat_eq k r.0) as (λ b. T (is_sorted nat_cmp (cond b rs (r ∷ remove_entry (nat_eq k) rs)))) [ true ↦ second _ _ h | false ↦ both _ _ (below_remove r.0 k rs (first _ _ h)) (ascend_remove k rs (second _ _ h)) ]
+ascend_remove k (r ∷ rs) h =
+    elim (nat_eq k r.0) as (λ b. T (is_sorted nat_cmp (cond b rs (r ∷ remove_entry (nat_eq k) rs))))
+    [ true ↦ second _ _ h | false ↦ both _ _ (below_remove r.0 k rs (first _ _ h)) (ascend_remove k rs (second _ _ h)) ]
 
 below_filter : {X : Type 0} (x : ℕ) (p : ℕ × X → Bool) (rows : List (ℕ × X)) → T (below_all nat_cmp x rows) → T (below_all nat_cmp x (filter p rows))
 below_filter x p [] h = tt
-below_filter x p (r ∷ rs) h = elim (p r) as (λ b. T (below_all nat_cmp x (cond b (r ∷ filter p rs) (filter p rs)))) [ true ↦ both _ _ (first _ _ h) (below_filter x p rs (second _ _ h)) | false ↦ below_filter x p rs (second _ _ h) ]
+below_filter x p (r ∷ rs) h =
+    elim (p r) as (λ b. T (below_all nat_cmp x (cond b (r ∷ filter p rs) (filter p rs))))
+    [ true ↦ both _ _ (first _ _ h) (below_filter x p rs (second _ _ h)) | false ↦ below_filter x p rs (second _ _ h) ]
 
 pub ascend_filter : {X : Type 0} (p : ℕ × X → Bool) (rows : List (ℕ × X)) → T (is_sorted nat_cmp rows) → T (is_sorted nat_cmp (filter p rows))
 ascend_filter p [] h = tt
-ascend_filter p (r ∷ rs) h = elim (p r) as (λ b. T (is_sorted nat_cmp (cond b (r ∷ filter p rs) (filter p rs)))) [ true ↦ both _ _ (below_filter r.0 p rs (first _ _ h)) (ascend_filter p rs (second _ _ h)) | false ↦ ascend_filter p rs (second _ _ h) ]
+ascend_filter p (r ∷ rs) h =
+    elim (p r) as (λ b. T (is_sorted nat_cmp (cond b (r ∷ filter p rs) (filter p rs))))
+    [ true ↦ both _ _ (below_filter r.0 p rs (first _ _ h)) (ascend_filter p rs (second _ _ h)) | false ↦ ascend_filter p rs (second _ _ h) ]
 
 below_map : {X : Type 0} (x : ℕ) (f : X → X) (rows : List (ℕ × X)) → T (below_all nat_cmp x rows) → T (below_all nat_cmp x (map (with_value f) rows))
 below_map x f [] h = tt

@@ -83,12 +83,15 @@ none_kept {X} test m t none = get_kept (λ _ y. test y) m t ∙ ap (passing (λ 
 -- ---- identities
 
 -- a bearer that has the identity under its session's
-pub bearer_seen : (restarted : Bool) (c : Contexts) (session identity teid : ℕ) → are_seen restarted (get c.sessions session) ≡ true → IsBearerWith c.bearers session identity teid → IsBearerWith (seen restarted c).bearers session identity teid
+pub bearer_seen : (restarted : Bool) (c : Contexts) (session identity teid : ℕ) → are_seen restarted (get c.sessions session) ≡ true
+    → IsBearerWith c.bearers session identity teid → IsBearerWith (seen restarted c).bearers session identity teid
 bearer_seen restarted c session identity teid is h =
     let test : Bearer → Bool = λ b. are_seen restarted (get c.sessions b.session) in
     record {
       bearer = h.bearer;
-      stands = ap (λ (m : FiniteMap Bearer). get m teid) (seen_bearers restarted c) ∙ stands_kept test c.bearers teid h.bearer h.stands (ap (λ (k : ℕ). are_seen restarted (get c.sessions k)) h.of ∙ is);
+      stands =
+          ap (λ (m : FiniteMap Bearer). get m teid) (seen_bearers restarted c)
+          ∙ stands_kept test c.bearers teid h.bearer h.stands (ap (λ (k : ℕ). are_seen restarted (get c.sessions k)) h.of ∙ is);
       of = h.of;
       has = h.has;
       lowest = λ t b stands. let p = kept_stands test c.bearers t b (ap (λ (m : FiniteMap Bearer). get m t) (sym (seen_bearers restarted c)) ∙ stands) in h.lowest t b p.stands;
@@ -114,7 +117,8 @@ octets_are octets (Some others) is = ap Some ((bytes_decides others octets).0 is
 are_itself : (octets : List ℕ) → are_octets octets (Some octets) ≡ true
 are_itself octets = (bytes_decides octets octets).1 refl
 
-pub address_taken : (restarted : Bool) (version : IpVersion) (c : Contexts) (a : List ℕ) → list_any (takes restarted version a) (values c.sessions) ≡ true → HasAddress version (seen restarted c).sessions a
+pub address_taken : (restarted : Bool) (version : IpVersion) (c : Contexts) (a : List ℕ) → list_any (takes restarted version a) (values c.sessions) ≡ true
+    → HasAddress version (seen restarted c).sessions a
 address_taken restarted version c a any =
     let r = meets (takes restarted version a) c.sessions any in
     let is = both (is_seen restarted r.value) (are_octets a (part_of version r.value.address)) r.meets in
@@ -125,7 +129,8 @@ address_taken restarted version c a any =
       has = octets_are a (part_of version r.value.address) is.right;
     }
 
-pub address_free : (restarted : Bool) (version : IpVersion) (c : Contexts) (a : List ℕ) → list_any (takes restarted version a) (values c.sessions) ≡ false → IsUnusedAddress version (seen restarted c).sessions a
+pub address_free : (restarted : Bool) (version : IpVersion) (c : Contexts) (a : List ℕ) → list_any (takes restarted version a) (values c.sessions) ≡ false
+    → IsUnusedAddress version (seen restarted c).sessions a
 address_free restarted version c a none t s stands has =
     let p = kept_stands (is_seen restarted) c.sessions t s (ap (λ (m : FiniteMap Session). get m t) (sym (seen_sessions restarted c)) ∙ stands) in
     let not_it : takes restarted version a s ≡ false = meets_not (takes restarted version a) c.sessions none t s p.stands in
@@ -136,7 +141,8 @@ address_free restarted version c a none t s stands has =
 -- ---- places
 
 -- a session that is not seen with these octets does not take them
-pub untaken : (restarted : Bool) (version : IpVersion) (octets : List ℕ) (s : Session) → (is_seen restarted s ≡ true → part_of version s.address ≡ Some octets → ⊥) → takes restarted version octets s ≡ false
+pub untaken : (restarted : Bool) (version : IpVersion) (octets : List ℕ) (s : Session)
+    → (is_seen restarted s ≡ true → part_of version s.address ≡ Some octets → ⊥) → takes restarted version octets s ≡ false
 untaken restarted version octets s none = by (is_seen restarted s) (are_octets octets (part_of version s.address)) refl refl
   where
     by : (a b : Bool) → is_seen restarted s ≡ a → are_octets octets (part_of version s.address) ≡ b → (is_seen restarted s && are_octets octets (part_of version s.address)) ≡ false
@@ -148,18 +154,24 @@ pub taken : (restarted : Bool) (version : IpVersion) (octets : List ℕ) (s : Se
 taken restarted version octets s seen has = rw (seen, has) (are_itself octets)
 
 -- the place of a session that is seen
-pub seen_at : (pools : Pools) (restarted : Bool) (version : IpVersion) (s : Session) → is_seen restarted s ≡ true → (o : Option ℕ) → IfSome o (IsPlaceOf pools version (part_of version s.address)) → IfSome o (λ place. (p : ℕ) → p < count_of pools version → takes restarted version (address_at pools version p) s ≡ nat_eq p place)
+pub seen_at : (pools : Pools) (restarted : Bool) (version : IpVersion) (s : Session) → is_seen restarted s ≡ true → (o : Option ℕ)
+    → IfSome o (IsPlaceOf pools version (part_of version s.address))
+    → IfSome o (λ place. (p : ℕ) → p < count_of pools version → takes restarted version (address_at pools version p) s ≡ nat_eq p place)
 seen_at pools restarted version s seen None none = tt
 seen_at pools restarted version s seen (Some place) is = λ p lt. by p lt (nat_eq p place) refl
   where
     by : (p : ℕ) → p < count_of pools version → (b : Bool) → nat_eq p place ≡ b → takes restarted version (address_at pools version p) s ≡ b
     by p lt true same = let at : p ≡ place = eqb-true p place same in taken restarted version (address_at pools version p) s seen (is.has ∙ ap (λ k. Some (address_at pools version k)) (sym at))
-    by p lt false other = untaken restarted version (address_at pools version p) s (λ _ has. let at : p ≡ place = is.one p lt has in let no : true ≡ false = sym (itself place) ∙ (ap (λ k. nat_eq k place) (sym at) ∙ other) in cc no)
+    by p lt false other =
+        untaken restarted version (address_at pools version p) s (λ _ has.
+        let at : p ≡ place = is.one p lt has in let no : true ≡ false = sym (itself place) ∙ (ap (λ k. nat_eq k place) (sym at) ∙ other) in cc no)
 
 pub seen_within : (pools : Pools) (version : IpVersion) (part : Option (List ℕ)) (o : Option ℕ) → IfSome o (IsPlaceOf pools version part) → IfSome o (λ place. place < count_of pools version)
 seen_within pools version part None none = tt
 seen_within pools version part (Some place) is = is.in_pool
 
-pub seen_nowhere : (pools : Pools) (restarted : Bool) (version : IpVersion) (s : Session) → (o : Option ℕ) → IfNone o ((p : ℕ) → p < count_of pools version → part_of version s.address ≢ Some (address_at pools version p)) → IfNone o ((p : ℕ) → p < count_of pools version → takes restarted version (address_at pools version p) s ≡ false)
+pub seen_nowhere : (pools : Pools) (restarted : Bool) (version : IpVersion) (s : Session) → (o : Option ℕ)
+    → IfNone o ((p : ℕ) → p < count_of pools version → part_of version s.address ≢ Some (address_at pools version p))
+    → IfNone o ((p : ℕ) → p < count_of pools version → takes restarted version (address_at pools version p) s ≡ false)
 seen_nowhere pools restarted version s None none = λ p lt. untaken restarted version (address_at pools version p) s (λ _ has. none p lt has)
 seen_nowhere pools restarted version s (Some place) some = tt

@@ -50,15 +50,38 @@ headed_encoding none kind teid seq npdu first rest =
 two_again : (n : ℕ) → n < 2 ^ 16 → Some n ≡ Some (256 * ((n / 256) % 256) + n % 256)
 two_again n lt = ap (λ (k : ℕ). Some k) (omega arith)
 
-header_again : (none : Bool) (kind teid : ℕ) (seq npdu : Option ℕ) (first : ℕ) (rest : List ℕ) → (first == 0) ≡ none → teid < 2 ^ 32 → IfSome seq (λ n. n < 2 ^ 16) → length (options_with none seq npdu first ++ rest) < 65536
+header_again : (none : Bool) (kind teid : ℕ) (seq npdu : Option ℕ) (first : ℕ) (rest : List ℕ) → (first == 0) ≡ none → teid < 2 ^ 32
+    → IfSome seq (λ n. n < 2 ^ 16) → length (options_with none seq npdu first ++ rest) < 65536
     → IsHeaded (headed_encoding none kind teid seq npdu first rest) (headed kind teid seq npdu first rest)
 header_again true kind teid None None first rest z t s l = inl (opens (flags_with true None None) kind teid rest t l, refl, refl, grind (arith, nat_tests))
 header_again true kind teid None (Some p) first rest z t s l =
     inr (flags_with true None (Some p), 0, 0, p, first, omega arith, opens (flags_with true None (Some p)) kind teid (0 ∷ 0 ∷ p ∷ first ∷ rest) t l, refl, refl, grind (arith, nat_tests))
 header_again true kind teid (Some n) None first rest z t s l =
-    inr (flags_with true (Some n) None, (n / 256) % 256, n % 256, 0, first, omega arith, opens (flags_with true (Some n) None) kind teid (two n (0 ∷ first ∷ rest)) t l, two_again n s, refl, grind (arith, nat_tests))
+    inr (
+      flags_with true (Some n) None,
+      (n / 256) % 256,
+      n % 256,
+      0,
+      first,
+      omega arith,
+      opens (flags_with true (Some n) None) kind teid (two n (0 ∷ first ∷ rest)) t l,
+      two_again n s,
+      refl,
+      grind (arith, nat_tests),
+    )
 header_again true kind teid (Some n) (Some p) first rest z t s l =
-    inr (flags_with true (Some n) (Some p), (n / 256) % 256, n % 256, p, first, omega arith, opens (flags_with true (Some n) (Some p)) kind teid (two n (p ∷ first ∷ rest)) t l, two_again n s, refl, grind (arith, nat_tests))
+    inr (
+      flags_with true (Some n) (Some p),
+      (n / 256) % 256,
+      n % 256,
+      p,
+      first,
+      omega arith,
+      opens (flags_with true (Some n) (Some p)) kind teid (two n (p ∷ first ∷ rest)) t l,
+      two_again n s,
+      refl,
+      grind (arith, nat_tests),
+    )
 header_again false kind teid None None first rest z t s l =
     inr (flags_with false None None, 0, 0, 0, first, omega arith, opens (flags_with false None None) kind teid (0 ∷ 0 ∷ 0 ∷ first ∷ rest) t l, refl, refl, refl)
 header_again false kind teid None (Some p) first rest z t s l =
@@ -66,7 +89,18 @@ header_again false kind teid None (Some p) first rest z t s l =
 header_again false kind teid (Some n) None first rest z t s l =
     inr (flags_with false (Some n) None, (n / 256) % 256, n % 256, 0, first, omega arith, opens (flags_with false (Some n) None) kind teid (two n (0 ∷ first ∷ rest)) t l, two_again n s, refl, refl)
 header_again false kind teid (Some n) (Some p) first rest z t s l =
-    inr (flags_with false (Some n) (Some p), (n / 256) % 256, n % 256, p, first, omega arith, opens (flags_with false (Some n) (Some p)) kind teid (two n (p ∷ first ∷ rest)) t l, two_again n s, refl, refl)
+    inr (
+      flags_with false (Some n) (Some p),
+      (n / 256) % 256,
+      n % 256,
+      p,
+      first,
+      omega arith,
+      opens (flags_with false (Some n) (Some p)) kind teid (two n (p ∷ first ∷ rest)) t l,
+      two_again n s,
+      refl,
+      refl,
+    )
 
 -- ---- what is carried
 
@@ -82,7 +116,11 @@ carries_again (ErrorIndication teid peer) seq w r = (
   refl,
   (
     TeidData teid ∷ Peer peer ∷ [],
-    (133 ∷ address_encoding peer, ((teid / 16777216) % 256, (teid / 65536) % 256, (teid / 256) % 256, teid % 256, refl, four_again teid [] r.0), ([], (address_encoding peer, refl, address_again peer r.1), refl)),
+    (
+      133 ∷ address_encoding peer,
+      ((teid / 16777216) % 256, (teid / 65536) % 256, (teid / 256) % 256, teid % 256, refl, four_again teid [] r.0),
+      ([], (address_encoding peer, refl, address_again peer r.1), refl),
+    ),
     refl,
     refl,
   ),
@@ -112,8 +150,15 @@ unfolding options_encoding
 encoding_again m meets =
     let first = first_kind m.ext in (
       headed (kind_of m.content) (teid_of m.content) m.seq m.npdu (first_kind m.ext) (chain_encoding m.ext ++ content_encoding m.content),
-      header_again (first_kind m.ext == 0) (kind_of m.content) (teid_of m.content) m.seq m.npdu (first_kind m.ext) (chain_encoding m.ext ++ content_encoding m.content) refl meets.teid meets.seq meets.short,
-      (content_encoding m.content, encoding_chained m.ext (content_encoding m.content) meets.ext, carries_again m.content m.seq meets.encodable meets.range, numbered_again m.content m.seq meets.encodable, refl),
+      header_again (first_kind m.ext == 0) (kind_of m.content) (teid_of m.content) m.seq m.npdu (first_kind m.ext)
+          (chain_encoding m.ext ++ content_encoding m.content) refl meets.teid meets.seq meets.short,
+      (
+        content_encoding m.content,
+        encoding_chained m.ext (content_encoding m.content) meets.ext,
+        carries_again m.content m.seq meets.encodable meets.range,
+        numbered_again m.content m.seq meets.encodable,
+        refl,
+      ),
     )
 
 -- what was written, where it is the encoding

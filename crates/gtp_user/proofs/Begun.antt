@@ -57,7 +57,9 @@ record IsBody (octets a b : List ℕ) : Type 0 where
 body_parts : (octets a b : List ℕ) → split_body octets ≡ Some (parts a b) → IsBody octets a b
 body_parts [] a b h = absurd (none_some (parts a b) h)
 body_parts (high ∷ []) a b h = absurd (none_some (parts a b) h)
-body_parts (high ∷ low ∷ tail) a b h = let p = split_parts (256 * high + low) tail a b h in record { high = high; low = low; whole = ap (λ (xs : List ℕ). high ∷ low ∷ xs) p.whole; size_is = p.size_is }
+body_parts (high ∷ low ∷ tail) a b h =
+    let p = split_parts (256 * high + low) tail a b h in
+    record { high = high; low = low; whole = ap (λ (xs : List ℕ). high ∷ low ∷ xs) p.whole; size_is = p.size_is }
 
 -- ---- each type
 
@@ -73,7 +75,8 @@ teid_begins (a ∷ b ∷ c ∷ []) e rest h = absurd (none_some (found e rest) h
 teid_begins (a ∷ b ∷ c ∷ d ∷ after) e rest h =
     as_found (16 ∷ a ∷ b ∷ c ∷ d ∷ after) (TeidData (from_be_bytes w32 (a ∷ b ∷ c ∷ d ∷ []))) e after rest (a, b, c, d, refl, refl) h
 
-types_begins_by : (size : ℕ) (tail : List ℕ) (o : Option (List ℕ × List ℕ)) → split size tail ≡ o → (e : Element) (rest : List ℕ) → types_of o ≡ Some (found e rest) → BeginsElement (141 ∷ size ∷ tail) e rest
+types_begins_by : (size : ℕ) (tail : List ℕ) (o : Option (List ℕ × List ℕ)) → split size tail ≡ o → (e : Element) (rest : List ℕ) → types_of o ≡ Some (found e rest)
+    → BeginsElement (141 ∷ size ∷ tail) e rest
 types_begins_by size tail None s e rest h = absurd (none_some (found e rest) h)
 types_begins_by size tail (Some p) s e rest h =
     let q = split_parts size tail p.0 p.1 s in
@@ -83,7 +86,8 @@ types_begins : (tail : List ℕ) (e : Element) (rest : List ℕ) → types_at ta
 types_begins [] e rest h = absurd (none_some (found e rest) h)
 types_begins (size ∷ tail) e rest h = types_begins_by size tail (split size tail) refl e rest h
 
-skipped_begins_by : (kind : ℕ) (tail : List ℕ) → 128 ≤ kind → kind ≢ 133 → kind ≢ 141 → (o : Option (List ℕ × List ℕ)) → split_body tail ≡ o → (e : Element) (rest : List ℕ) → skipped_of o ≡ Some (found e rest) → BeginsElement (kind ∷ tail) e rest
+skipped_begins_by : (kind : ℕ) (tail : List ℕ) → 128 ≤ kind → kind ≢ 133 → kind ≢ 141 → (o : Option (List ℕ × List ℕ)) → split_body tail ≡ o
+    → (e : Element) (rest : List ℕ) → skipped_of o ≡ Some (found e rest) → BeginsElement (kind ∷ tail) e rest
 skipped_begins_by kind tail le a b None s e rest h = absurd (none_some (found e rest) h)
 skipped_begins_by kind tail le a b (Some p) s e rest h =
     let q = body_parts tail p.0 p.1 s in
@@ -100,10 +104,16 @@ peer_begins_by : (tail body rest : List ℕ) → IsBody tail body rest → (e : 
 peer_begins_by tail body rest q e after h = by_four (length body == 4) refl h where
   by_sixteen : (b : Bool) → (length body == 16) ≡ b → with_rest rest (cond b (Some (addresses.V6 body)) None) ≡ Some (found e after) → BeginsElement (133 ∷ tail) e after
   by_sixteen false t g = absurd (none_some (found e after) g)
-  by_sixteen true t g = let is : length body ≡ 16 = grind (arith, nat_tests) in as_found (133 ∷ tail) (Peer (addresses.V6 body)) e rest after (tail, refl, (spells_by tail body rest 16 q is (omega arith), is)) g
+  by_sixteen true t g =
+      let is : length body ≡ 16 = grind (arith, nat_tests) in
+      as_found (133 ∷ tail) (Peer (addresses.V6 body)) e rest after (tail, refl, (spells_by tail body rest 16 q is (omega arith), is)) g
 
-  by_four : (b : Bool) → (length body == 4) ≡ b → with_rest rest (cond b (Some (addresses.V4 body)) (cond (length body == 16) (Some (addresses.V6 body)) None)) ≡ Some (found e after) → BeginsElement (133 ∷ tail) e after
-  by_four true t g = let is : length body ≡ 4 = grind (arith, nat_tests) in as_found (133 ∷ tail) (Peer (addresses.V4 body)) e rest after (tail, refl, (spells_by tail body rest 4 q is (omega arith), is)) g
+  by_four : (b : Bool) → (length body == 4) ≡ b
+      → with_rest rest (cond b (Some (addresses.V4 body)) (cond (length body == 16) (Some (addresses.V6 body)) None)) ≡ Some (found e after)
+      → BeginsElement (133 ∷ tail) e after
+  by_four true t g =
+      let is : length body ≡ 4 = grind (arith, nat_tests) in
+      as_found (133 ∷ tail) (Peer (addresses.V4 body)) e rest after (tail, refl, (spells_by tail body rest 4 q is (omega arith), is)) g
   by_four false t g = by_sixteen (length body == 16) refl g
 
 peer_begins : (tail : List ℕ) (o : Option (List ℕ × List ℕ)) → split_body tail ≡ o → (e : Element) (rest : List ℕ) → peer_of o ≡ Some (found e rest) → BeginsElement (133 ∷ tail) e rest
@@ -141,7 +151,8 @@ element_begins (kind ∷ tail) e rest h =
     let x = found e rest in
     if_some (BeginsElement (kind ∷ tail) e rest) (kind == 14) (recovery_at tail) (from_16 kind tail) x (λ t g. of_type 14 kind tail e rest t (recovery_begins tail e rest g)) (λ a g.
     if_some (BeginsElement (kind ∷ tail) e rest) (kind == 16) (teid_at tail) (from_133 kind tail) x (λ t g. of_type 16 kind tail e rest t (teid_begins tail e rest g)) (λ b g.
-    if_some (BeginsElement (kind ∷ tail) e rest) (kind == 133) (peer_of (split_body tail)) (from_141 kind tail) x (λ t g. of_type 133 kind tail e rest t (peer_begins tail (split_body tail) refl e rest g)) (λ c g.
+    if_some (BeginsElement (kind ∷ tail) e rest) (kind == 133) (peer_of (split_body tail)) (from_141 kind tail) x
+    (λ t g. of_type 133 kind tail e rest t (peer_begins tail (split_body tail) refl e rest g)) (λ c g.
     if_some (BeginsElement (kind ∷ tail) e rest) (kind == 141) (types_at tail) (from_128 kind tail) x (λ t g. of_type 141 kind tail e rest t (types_begins tail e rest g)) (λ d g.
     if_some (BeginsElement (kind ∷ tail) e rest) (nat_lt kind 128) None (skipped_of (split_body tail)) x (λ t g. absurd (none_some x g)) (λ t g.
     skipped_begins_by kind tail (grind (arith, nat_tests)) (unequal kind 133 c) (unequal kind 141 d) (split_body tail) refl e rest g) g) g) g) g) h

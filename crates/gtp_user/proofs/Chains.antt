@@ -1,5 +1,6 @@
 -- Reading a chain of extension headers decides which headers it has.
-use Rattle.std.proofs.Common.{◌≡◌, ℕ, zero, suc, ◌+◌, ◌-◌, ◌*◌, ◌/◌, ◌<◌, ◌≤◌, Bool, true, false, cond, List, [], ◌∷◌, ◌++◌, length, take, drop, Some, Result, Ok, Err, ◌⊎◌, inl, inr, refl, sym, ap, subst, ◌∙◌, arith, append_assoc, add-one}
+use Rattle.std.proofs.Common.{◌≡◌, ℕ, zero, suc, ◌+◌, ◌-◌, ◌*◌, ◌/◌, ◌<◌, ◌≤◌, Bool, true, false, cond, List, [], ◌∷◌, ◌++◌, length, take, drop, Some}
+use Rattle.std.proofs.Common.{Result, Ok, Err, ◌⊎◌, inl, inr, refl, sym, ap, subst, ◌∙◌, arith, append_assoc, add-one}
 use Rattle.std.specs.Prelude.{◌==◌, nat_lt, nat_le, slice_index}
 use Rattle.std.proofs.lemmas.Bool.Decides.{nat_tests}
 use Rattle.std.proofs.lemmas.List.{length-take, length-append, take_at, append-nil}
@@ -60,7 +61,8 @@ front_is end kind octets f (units, encoding, size, some, small) =
     let n : ℕ = 4 * units - 2 in
     let length_is : length f.content ≡ 4 * units - 2 = omega arith in
     let not_zero : (units == 0) ≡ false = grind (arith, nat_tests) in
-    let enough : nat_le (length (f.content ++ f.next ∷ f.rest)) (4 * units - 2) ≡ false = long_enough (length (f.content ++ f.next ∷ f.rest)) (4 * units - 2) (omega (arith, length-append f.content (f.next ∷ f.rest))) in
+    let enough : nat_le (length (f.content ++ f.next ∷ f.rest)) (4 * units - 2) ≡ false =
+    long_enough (length (f.content ++ f.next ∷ f.rest)) (4 * units - 2) (omega (arith, length-append f.content (f.next ∷ f.rest))) in
     let known : nat_lt kind 128 ≡ true = grind (arith, nat_tests) in
     ap (front_at end kind) encoding ∙ rw (not_zero, enough, known) (ap read (parts_at f.content f.next f.rest (4 * units - 2) length_is))
   where
@@ -94,7 +96,10 @@ Sorted end kind octets = ((f : Front) × IsFront kind octets f) ⊎ ((f : UserFa
 by_kind : (end kind units : ℕ) (rest : List ℕ) → 0 < kind → 0 < units → 4 * units ≤ length (units ∷ rest) → (b : Bool) → nat_lt kind 128 ≡ b → Sorted end kind (units ∷ rest)
 by_kind end kind units rest k some le true t =
     let parts = three_parts (4 * units - 2) rest (omega arith) in
-    inl (front (take (4 * units - 2) rest) (slice_index rest (4 * units - 2)) (drop (4 * units - 2 + 1) rest), (units, ap (λ (xs : List ℕ). units ∷ xs) parts, omega (arith, length-take (4 * units - 2) rest), k, grind (arith, nat_tests)))
+    inl (
+      front (take (4 * units - 2) rest) (slice_index rest (4 * units - 2)) (drop (4 * units - 2 + 1) rest),
+      (units, ap (λ (xs : List ℕ). units ∷ xs) parts, omega (arith, length-take (4 * units - 2) rest), k, grind (arith, nat_tests)),
+    )
 by_kind end kind units rest k some le false t = inr (faults.ExtensionNeeded kind (end - length (units ∷ rest)), inr (inr (inr (units, rest, refl, some, le, grind (arith, nat_tests), refl))))
 
 by_length : (end kind units : ℕ) (rest : List ℕ) → 0 < kind → 0 < units → (b : Bool) → nat_lt (length (units ∷ rest)) (4 * units) ≡ b → Sorted end kind (units ∷ rest)
@@ -107,7 +112,9 @@ sorted end kind (zero ∷ rest) k = inr (faults.ExtensionZero (end - length (zer
 sorted end kind (suc n ∷ rest) k = by_length end kind (suc n) rest k (omega arith) (nat_lt (length (suc n ∷ rest)) (4 * suc n)) refl
 
 front_decided : (end kind : ℕ) (octets : List ℕ) → 0 < kind → Decides (front_at end kind octets) (IsFront kind octets) (ExtensionFails end kind octets)
-front_decided end kind octets k = decided_by (front_at end kind octets) (IsFront kind octets) (ExtensionFails end kind octets) (sorted end kind octets k) (front_is end kind octets) (fault_is end kind octets)
+front_decided end kind octets k =
+    decided_by (front_at end kind octets) (IsFront kind octets) (ExtensionFails end kind octets) (sorted end kind octets k) (front_is end kind octets)
+    (fault_is end kind octets)
 
 front_shorter : (kind : ℕ) (octets : List ℕ) (f : Front) → IsFront kind octets f → length f.rest < length octets
 front_shorter kind octets f (units, encoding, size, some, small) = omega (arith, ap length encoding, length-append f.content (f.next ∷ f.rest))
@@ -138,7 +145,8 @@ ended end octets = known_ok (chained [] octets) (IsChained 0 octets) (ChainFails
 as_front : (kind : ℕ) (octets : List ℕ) (e : Extension) (next : ℕ) (rest : List ℕ) → e.kind ≡ kind → BeginsExtension octets e next rest → IsFront kind octets (front e.content next rest)
 as_front kind octets e next rest same (units, encoding, size, some, small) = (units, encoding, size, subst (λ (k : ℕ). 0 < k) same some, subst (λ (k : ℕ). k < 128) same small)
 
-one_front : (end kind : ℕ) (octets : List ℕ) (f : Front) (e : Extension) (next : ℕ) (rest : List ℕ) → IsFront kind octets f → e.kind ≡ kind → BeginsExtension octets e next rest → front e.content next rest ≡ f
+one_front : (end kind : ℕ) (octets : List ℕ) (f : Front) (e : Extension) (next : ℕ) (rest : List ℕ) → IsFront kind octets f → e.kind ≡ kind
+    → BeginsExtension octets e next rest → front e.content next rest ≡ f
 one_front end kind octets f e next rest is same begins =
     ok_same UserFault (front e.content next rest) f (sym (front_is end kind octets (front e.content next rest) (as_front kind octets e next rest same begins)) ∙ front_is end kind octets f is)
 
@@ -149,7 +157,8 @@ here_fails end kind next octets rest g k o fails = ap (λ (n : ℕ). front_at en
 after_front : (end kind : ℕ) (octets : List ℕ) (f : Front) (r : Result Chained UserFault) → 0 < kind → IsFront kind octets f → Decides r (IsChained f.next f.rest) (ChainFails end f.next f.rest)
     → Decides (r >>= λ c. Ok (with_front kind f c)) (IsChained kind octets) (ChainFails end kind octets)
 after_front end kind octets f r some is d =
-    decide_as (r >>= λ c. Ok (with_front kind f c)) (λ y. (c : Chained) × IsChained f.next f.rest c × (y ≡ with_front kind f c)) (IsChained kind octets) (ChainFails end f.next f.rest) (ChainFails end kind octets)
+    decide_as (r >>= λ c. Ok (with_front kind f c)) (λ y. (c : Chained) × IsChained f.next f.rest c × (y ≡ with_front kind f c))
+    (IsChained kind octets) (ChainFails end f.next f.rest) (ChainFails end kind octets)
     to_chain (λ y p. from_chain y.headers y.rest p) to_fails from_fails
     (decide_map r (with_front kind f) (IsChained f.next f.rest) (ChainFails end f.next f.rest) d)
   where
@@ -159,8 +168,12 @@ after_front end kind octets f r some is d =
     from_chain : (es : List Extension) (rest : List ℕ) → IsChain kind octets es rest → (c : Chained) × IsChained f.next f.rest c × (chained es rest ≡ with_front kind f c)
     from_chain [] rest p = absurd (omega (arith, p.0))
     from_chain (e ∷ es) rest (follows, after, same, begins, leads) =
-        let one = one_front end kind octets f e follows after is same begins in
-        (chained es rest, subst (λ (g : Front). Leads g.next g.rest es 0 rest) one leads, ap (λ (k : ℕ). chained (record { kind = k; content = e.content } ∷ es) rest) same ∙ ap (λ (g : Front). with_front kind g (chained es rest)) one)
+        let one = one_front end kind octets f e follows after is same begins in (
+          chained es rest,
+          subst (λ (g : Front). Leads g.next g.rest es 0 rest) one leads,
+          ap (λ (k : ℕ). chained (record { kind = k; content = e.content } ∷ es) rest) same
+              ∙ ap (λ (g : Front). with_front kind g (chained es rest)) one,
+        )
 
     to_fails : (g : UserFault) → ChainFails end f.next f.rest g → ChainFails end kind octets g
     to_fails g (es, next, rest, leads, more, fails) = (header kind f ∷ es, next, rest, (f.next, f.rest, refl, is, leads), more, fails)
@@ -178,7 +191,9 @@ no_chain g = Err g
 stopped : (end kind : ℕ) (octets : List ℕ) (g : UserFault) → 0 < kind → ExtensionFails end kind octets g → Decides (no_chain g) (IsChained kind octets) (ChainFails end kind octets)
 stopped end kind octets g some fails = known_err g (IsChained kind octets) (ChainFails end kind octets) ([], kind, octets, (refl, refl), some, fails) (λ c p. none c.headers c.rest p) one where
   no_header : (e : Extension) (next : ℕ) (rest : List ℕ) → e.kind ≡ kind → BeginsExtension octets e next rest → ⊥
-  no_header e next rest same begins = apart (front e.content next rest) g (sym (front_is end kind octets (front e.content next rest) (as_front kind octets e next rest same begins)) ∙ fault_is end kind octets g fails)
+  no_header e next rest same begins =
+      apart (front e.content next rest) g
+      (sym (front_is end kind octets (front e.content next rest) (as_front kind octets e next rest same begins)) ∙ fault_is end kind octets g fails)
 
   none : (es : List Extension) (rest : List ℕ) → IsChain kind octets es rest → ⊥
   none [] rest p = omega (arith, p.0)
@@ -189,15 +204,18 @@ stopped end kind octets g some fails = known_err g (IsChained kind octets) (Chai
   one h (e ∷ es, next, rest, (follows, after, same, begins, leads), more, other) = absurd (no_header e follows after same begins)
 
 -- a header and then the others
-rest_decided : (end kind : ℕ) (octets : List ℕ) (k : Front → Result Chained UserFault) → 0 < kind → ((f : Front) → IsFront kind octets f → Decides (k f) (IsChained f.next f.rest) (ChainFails end f.next f.rest))
+rest_decided : (end kind : ℕ) (octets : List ℕ) (k : Front → Result Chained UserFault) → 0 < kind
+    → ((f : Front) → IsFront kind octets f → Decides (k f) (IsChained f.next f.rest) (ChainFails end f.next f.rest))
     → Decides (front_at end kind octets >>= λ f. k f >>= λ c. Ok (with_front kind f c)) (IsChained kind octets) (ChainFails end kind octets)
 rest_decided end kind octets k some others = by_front (sorted end kind octets some) where
   by_front : Sorted end kind octets → Decides (front_at end kind octets >>= λ f. k f >>= λ c. Ok (with_front kind f c)) (IsChained kind octets) (ChainFails end kind octets)
   by_front (inl (f, is)) =
-      subst (λ r. Decides r (IsChained kind octets) (ChainFails end kind octets)) (sym (bind_at (front_at end kind octets) (λ f. k f >>= λ c. Ok (with_front kind f c)) f (front_is end kind octets f is)))
+      subst (λ r. Decides r (IsChained kind octets) (ChainFails end kind octets))
+      (sym (bind_at (front_at end kind octets) (λ f. k f >>= λ c. Ok (with_front kind f c)) f (front_is end kind octets f is)))
       (after_front end kind octets f (k f) some is (others f is))
   by_front (inr (g, fails)) =
-      subst (λ r. Decides r (IsChained kind octets) (ChainFails end kind octets)) (sym (bind_at_err (front_at end kind octets) (λ f. k f >>= λ c. Ok (with_front kind f c)) g (fault_is end kind octets g fails)))
+      subst (λ r. Decides r (IsChained kind octets) (ChainFails end kind octets))
+      (sym (bind_at_err (front_at end kind octets) (λ f. k f >>= λ c. Ok (with_front kind f c)) g (fault_is end kind octets g fails)))
       (stopped end kind octets g some fails)
 
 abbrev no_headers : List ℕ → Result Chained UserFault
@@ -214,10 +232,13 @@ walk_decided steps end zero octets l = at_end steps where
   at_end zero = ended end octets
   at_end (suc n) = ended end octets
 walk_decided zero end (suc k) [] l =
-    subst (λ (b : Bool). Decides (cond b (no_headers []) (no_chain (faults.ExtensionPast end))) (IsChained (suc k) []) (ChainFails end (suc k) [])) (not_zero k) (stopped end (suc k) [] (faults.ExtensionPast end) (omega arith) (inl (refl, refl)))
+    subst (λ (b : Bool). Decides (cond b (no_headers []) (no_chain (faults.ExtensionPast end))) (IsChained (suc k) []) (ChainFails end (suc k) []))
+    (not_zero k) (stopped end (suc k) [] (faults.ExtensionPast end) (omega arith) (inl (refl, refl)))
 walk_decided zero end (suc k) (x ∷ xs) l = absurd (omega arith)
 walk_decided (suc steps) end (suc k) octets l =
-    subst (λ (b : Bool). Decides (cond b (no_headers octets) (front_at end (suc k) octets >>= λ f. walk steps end f.next f.rest >>= λ c. Ok (with_front (suc k) f c))) (IsChained (suc k) octets) (ChainFails end (suc k) octets)) (not_zero k)
+    subst (λ (b : Bool).
+    Decides (cond b (no_headers octets) (front_at end (suc k) octets >>= λ f. walk steps end f.next f.rest >>= λ c. Ok (with_front (suc k) f c)))
+    (IsChained (suc k) octets) (ChainFails end (suc k) octets)) (not_zero k)
     (rest_decided end (suc k) octets (λ f. walk steps end f.next f.rest) (omega arith) (λ f is. walk_decided steps end f.next f.rest (omega (arith, front_shorter (suc k) octets f is))))
 
 -- reading a chain decides which headers it has
@@ -228,9 +249,11 @@ chain_decided end kind octets = walk_decided (length octets) end kind octets (om
 -- ---- the encoding of a chain
 
 -- a chain with one more header
-pub leads_on : (kind : ℕ) (octets : List ℕ) (es : List Extension) (next : ℕ) (rest : List ℕ) (e : Extension) (follows : ℕ) (after : List ℕ) → Leads kind octets es next rest → e.kind ≡ next → BeginsExtension rest e follows after
+pub leads_on : (kind : ℕ) (octets : List ℕ) (es : List Extension) (next : ℕ) (rest : List ℕ) (e : Extension) (follows : ℕ) (after : List ℕ)
+    → Leads kind octets es next rest → e.kind ≡ next → BeginsExtension rest e follows after
     → Leads kind octets (es ++ e ∷ []) follows after
-leads_on kind octets [] next rest e follows after leads same begins = (follows, after, same ∙ sym leads.0, subst (λ (xs : List ℕ). BeginsExtension xs e follows after) (sym leads.1) begins, (refl, refl))
+leads_on kind octets [] next rest e follows after leads same begins =
+    (follows, after, same ∙ sym leads.0, subst (λ (xs : List ℕ). BeginsExtension xs e follows after) (sym leads.1) begins, (refl, refl))
 leads_on kind octets (d ∷ es) next rest e follows after (n, xs, k, b, leads) same begins = (n, xs, k, b, leads_on n xs es next rest e follows after leads same begins)
 
 -- the octets of a chain are its encoding, and then the rest
@@ -260,8 +283,20 @@ chain_extensions kind octets (e ∷ es) rest (follows, after, same, (units, enco
 -- the encoding of headers is their chain
 pub encoding_chained : (es : List Extension) (rest : List ℕ) → AreExtensions es → IsChain (first_kind es) (chain_encoding es ++ rest) es rest
 encoding_chained [] rest h = (refl, refl)
-encoding_chained (e ∷ es) rest ((some, small, (units, size)), others) =
-    (first_kind es, chain_encoding es ++ rest, refl, (units, ap (λ (n : ℕ). n ∷ ((e.content ++ first_kind es ∷ chain_encoding es) ++ rest)) (omega arith) ∙ ap (λ (xs : List ℕ). units ∷ xs) (append_assoc e.content (first_kind es ∷ chain_encoding es) rest), size, some, small), encoding_chained es rest others)
+encoding_chained (e ∷ es) rest ((some, small, (units, size)), others) = (
+  first_kind es,
+  chain_encoding es ++ rest,
+  refl,
+  (
+    units,
+    ap (λ (n : ℕ). n ∷ ((e.content ++ first_kind es ∷ chain_encoding es) ++ rest)) (omega arith)
+        ∙ ap (λ (xs : List ℕ). units ∷ xs) (append_assoc e.content (first_kind es ∷ chain_encoding es) rest),
+    size,
+    some,
+    small,
+  ),
+  encoding_chained es rest others,
+)
 
 -- ---- the loop
 
@@ -291,11 +326,15 @@ so_far_ends end first octets rest (es, chain) =
     let spelled = chain_spelled first octets es rest chain in
     let n : ℕ = length octets - length rest in
     let size : length (chain_encoding es) ≡ length octets - length rest = omega (arith, ap length spelled.encoding, length-append (chain_encoding es) rest) in
-    let encoding_is : take (length octets - length rest) octets ≡ chain_encoding es = ap (take (length octets - length rest)) spelled.encoding ∙ take_at (chain_encoding es) rest (length octets - length rest) size in
+    let encoding_is : take (length octets - length rest) octets ≡ chain_encoding es =
+    ap (take (length octets - length rest)) spelled.encoding ∙ take_at (chain_encoding es) rest (length octets - length rest) size in
     let again : IsChain first (chain_encoding es) es [] =
-    subst (λ (k : ℕ). IsChain k (chain_encoding es) es []) (sym spelled.first) (subst (λ (xs : List ℕ). IsChain (first_kind es) xs es []) (append-nil (chain_encoding es)) (encoding_chained es [] (chain_extensions first octets es rest chain))) in
+    subst (λ (k : ℕ). IsChain k (chain_encoding es) es []) (sym spelled.first)
+    (subst (λ (xs : List ℕ). IsChain (first_kind es) xs es []) (append-nil (chain_encoding es))
+    (encoding_chained es [] (chain_extensions first octets es rest chain))) in
     let read_again : chain_at (length (take (length octets - length rest) octets)) first (take (length octets - length rest) octets) ≡ Ok (chained es []) =
-    (chain_decided (length (take (length octets - length rest) octets)) first (take (length octets - length rest) octets)).is (chained es []) (subst (λ (xs : List ℕ). IsChain first xs es []) (sym encoding_is) again) in
+    (chain_decided (length (take (length octets - length rest) octets)) first (take (length octets - length rest) octets)).is (chained es [])
+    (subst (λ (xs : List ℕ). IsChain first xs es []) (sym encoding_is) again) in
     record {
       whole = ap rest_of read_again;
       chain = (chain_decided end first octets).is (chained es rest) chain ∙ ap (λ (ds : List Extension). Ok (chained ds rest)) (sym (ap headers_of read_again));
@@ -342,7 +381,8 @@ pub record IsNext (first : ℕ) (octets : List ℕ) (f : Front) : Type 0 where
   pub headers : headers_of (chain_at (length octets) first octets) ≡ record { kind = first; content = f.content } ∷ headers_of (chain_at (length f.rest) f.next f.rest)
   pub others : rest_of (chain_at (length f.rest) f.next f.rest) ≡ Some []
 
-pub whole_next : (first : ℕ) (octets : List ℕ) (f : Front) → rest_of (chain_at (length octets) first octets) ≡ Some [] → 0 < first → front_at (length octets) first octets ≡ Ok f → IsNext first octets f
+pub whole_next : (first : ℕ) (octets : List ℕ) (f : Front) → rest_of (chain_at (length octets) first octets) ≡ Some [] → 0 < first
+    → front_at (length octets) first octets ≡ Ok f → IsNext first octets f
 whole_next first octets f h some found = by_headers (headers_of (chain_at (length octets) first octets)) refl (whole_chain first octets h) where
   is : IsFront first octets f
   is = (front_decided (length octets) first octets some).ok f found
@@ -354,14 +394,19 @@ whole_next first octets f h some found = by_headers (headers_of (chain_at (lengt
       let others : IsChain f.next f.rest es [] = subst (λ (g : Front). Leads g.next g.rest es 0 []) one leads in
       let read_again : chain_at (length f.rest) f.next f.rest ≡ Ok (chained es []) = (chain_decided (length f.rest) f.next f.rest).is (chained es []) others in
       record {
-        headers = same_es ∙ (ap (λ (k : ℕ). record { kind = k; content = e.content } ∷ es) same ∙ (ap (λ (g : Front). record { kind = first; content = g.content } ∷ es) one ∙ ap (λ (ds : List Extension). record { kind = first; content = f.content } ∷ ds) (sym (ap headers_of read_again))));
+        headers =
+            same_es ∙ (ap (λ (k : ℕ). record { kind = k; content = e.content } ∷ es) same
+            ∙ (ap (λ (g : Front). record { kind = first; content = g.content } ∷ es) one
+            ∙ ap (λ (ds : List Extension). record { kind = first; content = f.content } ∷ ds) (sym (ap headers_of read_again))));
         others = ap rest_of read_again;
       }
 
 -- and there is one
 pub whole_begins : (first : ℕ) (octets : List ℕ) (g : UserFault) → rest_of (chain_at (length octets) first octets) ≡ Some [] → 0 < first → front_at (length octets) first octets ≡ Err g → ⊥
 whole_begins first octets g h some found =
-    apart (chained (headers_of (chain_at (length octets) first octets)) []) g (sym (rest_is (chain_at (length octets) first octets) h) ∙ (chain_decided (length octets) first octets).fails g ([], first, octets, (refl, refl), some, (front_decided (length octets) first octets some).err g found))
+    apart (chained (headers_of (chain_at (length octets) first octets)) []) g
+    (sym (rest_is (chain_at (length octets) first octets) h) ∙ (chain_decided (length octets) first octets).fails g
+    ([], first, octets, (refl, refl), some, (front_decided (length octets) first octets some).err g found))
 
 -- ---- a chain and nothing else
 
@@ -376,16 +421,25 @@ no_rest_decided end c = by_rest c.rest where
   by_rest : (rest : List ℕ) → Decides (with_no_rest end (chained c.headers rest)) (λ es. (rest ≡ []) × (es ≡ c.headers)) (λ f. (0 < length rest) × (f ≡ faults.Length (end - length rest) end))
   by_rest [] = known_ok c.headers (λ es. ([] ≡ []) × (es ≡ c.headers)) (λ f. (0 < 0) × (f ≡ faults.Length (end - 0) end)) (refl, refl) (λ es h. h.1) (λ f h. omega (arith, h.0))
   by_rest (x ∷ xs) =
-      subst (λ (b : Bool). Decides (cond b (whole_read c.headers) (not_whole (faults.Length (end - length (x ∷ xs)) end))) (λ es. (x ∷ xs ≡ []) × (es ≡ c.headers)) (λ f. (0 < length (x ∷ xs)) × (f ≡ faults.Length (end - length (x ∷ xs)) end))) (not_zero (length xs))
-      (known_err (faults.Length (end - length (x ∷ xs)) end) (λ es. (x ∷ xs ≡ []) × (es ≡ c.headers)) (λ f. (0 < length (x ∷ xs)) × (f ≡ faults.Length (end - length (x ∷ xs)) end)) (omega arith, refl) (λ es h. omega (arith, ap length h.0)) (λ f h. h.1))
+      subst (λ (b : Bool).
+      Decides (cond b (whole_read c.headers) (not_whole (faults.Length (end - length (x ∷ xs)) end))) (λ es. (x ∷ xs ≡ []) × (es ≡ c.headers))
+      (λ f. (0 < length (x ∷ xs)) × (f ≡ faults.Length (end - length (x ∷ xs)) end))) (not_zero (length xs))
+      (known_err (faults.Length (end - length (x ∷ xs)) end) (λ es. (x ∷ xs ≡ []) × (es ≡ c.headers))
+      (λ f. (0 < length (x ∷ xs)) × (f ≡ faults.Length (end - length (x ∷ xs)) end)) (omega arith, refl) (λ es h. omega (arith, ap length h.0))
+      (λ f h. h.1))
 
 pub whole_decided : (first : ℕ) (octets : List ℕ) → Decides (whole_at first octets) (λ es. IsChain first octets es []) (WholeChainFails first octets)
 unfolding whole_at
 whole_decided first octets =
-    decide_as (chain_at (length octets) first octets >>= λ c. with_no_rest (length octets) c) (λ es. (c : Chained) × IsChained first octets c × ((c.rest ≡ []) × (es ≡ c.headers))) (λ es. IsChain first octets es [])
-    (First_or_later (IsChained first octets) (ChainFails (length octets) first octets) (λ c f. (0 < length c.rest) × (f ≡ faults.Length (length octets - length c.rest) (length octets)))) (WholeChainFails first octets)
+    decide_as (chain_at (length octets) first octets >>= λ c. with_no_rest (length octets) c)
+    (λ es. (c : Chained) × IsChained first octets c × ((c.rest ≡ []) × (es ≡ c.headers))) (λ es. IsChain first octets es [])
+    (First_or_later (IsChained first octets) (ChainFails (length octets) first octets)
+    (λ c f. (0 < length c.rest) × (f ≡ faults.Length (length octets - length c.rest) (length octets)))) (WholeChainFails first octets)
     (λ es p. subst (λ (ds : List Extension). IsChain first octets ds []) (sym p.2.1) (subst (λ (xs : List ℕ). IsChain first octets p.0.headers xs) p.2.0 p.1))
     (λ es p. (chained es [], p, (refl, refl)))
     (λ f p. elim p [ inl q ↦ inl q | inr q ↦ inr (q.0.headers, q.0.rest, q.1, q.2.0, q.2.1) ])
     (λ f p. elim p [ inl q ↦ inl q | inr q ↦ inr (chained q.0 q.1, q.2, (q.3, q.4)) ])
-    (decide_bind (chain_at (length octets) first octets) (with_no_rest (length octets)) (IsChained first octets) (ChainFails (length octets) first octets) (λ c es. (c.rest ≡ []) × (es ≡ c.headers)) (λ c f. (0 < length c.rest) × (f ≡ faults.Length (length octets - length c.rest) (length octets))) (chain_decided (length octets) first octets) (no_rest_decided (length octets)))
+    (decide_bind (chain_at (length octets) first octets) (with_no_rest (length octets)) (IsChained first octets)
+    (ChainFails (length octets) first octets) (λ c es. (c.rest ≡ []) × (es ≡ c.headers))
+    (λ c f. (0 < length c.rest) × (f ≡ faults.Length (length octets - length c.rest) (length octets))) (chain_decided (length octets) first octets)
+    (no_rest_decided (length octets)))

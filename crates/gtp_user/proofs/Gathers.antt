@@ -10,7 +10,8 @@ use Rattle.gtp_user.specs.reading.Gathered.{found_at}
 use Rattle.gtp_user.proofs.Begun.{element_shorter}
 
 -- what follows an element, where both ways agree on what follows
-go_on_alike : (at : ℕ) (f g : List ℕ → Result (List Element) UserFault) (o : Option (Element × List ℕ)) → ((e : Element) (rest : List ℕ) → o ≡ Some (e, rest) → f rest ≡ g rest) → go_on at f o ≡ go_on at g o
+go_on_alike : (at : ℕ) (f g : List ℕ → Result (List Element) UserFault) (o : Option (Element × List ℕ))
+    → ((e : Element) (rest : List ℕ) → o ≡ Some (e, rest) → f rest ≡ g rest) → go_on at f o ≡ go_on at g o
 go_on_alike at f g None h = refl
 go_on_alike at f g (Some p) h = ap (λ r. r >>= λ es. Ok (p.0 ∷ es)) (h p.0 p.1 refl)
 
@@ -77,7 +78,10 @@ or_some (Some y) p x = refl
 -- an element more
 pub found_more : (f : Found) (e : Element) (es : List Element) → and_found (and_found f (found_in (e ∷ []))) (found_in es) ≡ and_found f (found_in (e ∷ es))
 unfolding found_in
-found_more f Recovery es = rw (or_true f.recovery (has_recovery es), or_none f.teid, or_none f.peer, or_none f.types) (ap (λ b. record { recovery = b; teid = or_else f.teid (first_teid es); peer = or_else f.peer (first_peer es); types = or_else f.types (first_types es) }) refl)
+found_more f Recovery es =
+    rw (or_true f.recovery (has_recovery es), or_none f.teid, or_none f.peer, or_none f.types) (ap (λ b.
+    record { recovery = b; teid = or_else f.teid (first_teid es); peer = or_else f.peer (first_peer es); types = or_else f.types (first_types es) })
+    refl)
 found_more f (TeidData teid) es = rw (or_false f.recovery, or_some f.teid (first_teid es) teid, or_none f.peer, or_none f.types) refl
 found_more f (Peer peer) es = rw (or_false f.recovery, or_none f.teid, or_some f.peer (first_peer es) peer, or_none f.types) refl
 found_more f (Types types) es = rw (or_false f.recovery, or_none f.teid, or_none f.peer, or_some f.types (first_types es) types) refl

@@ -1,5 +1,6 @@
 -- Reading a header decides its form.
-use Rattle.std.proofs.Common.{◌≡◌, ◌≢◌, ℕ, zero, suc, ◌+◌, ◌-◌, ◌*◌, ◌/◌, ◌%◌, ◌<◌, Bool, true, false, cond, List, [], ◌∷◌, length, Option, None, Result, Ok, Err, ◌⊎◌, inl, inr, refl, sym, ap, subst, ◌∙◌, arith}
+use Rattle.std.proofs.Common.{◌≡◌, ◌≢◌, ℕ, zero, suc, ◌+◌, ◌-◌, ◌*◌, ◌/◌, ◌%◌, ◌<◌, Bool, true, false, cond, List, [], ◌∷◌, length, Option, None}
+use Rattle.std.proofs.Common.{Result, Ok, Err, ◌⊎◌, inl, inr, refl, sym, ap, subst, ◌∙◌, arith}
 use Rattle.std.specs.Prelude.{◌==◌}
 use Rattle.std.specs.Int.{w32, from_be_bytes}
 use Rattle.std.proofs.lemmas.Bool.Decides.{nat_tests}
@@ -102,12 +103,14 @@ at_flags first kind high low a b c d tail v p f l =
 
 headed_same : (h : Headed) (teid first : ℕ) (seq npdu : Option ℕ) → h.teid ≡ teid → h.seq ≡ seq → h.npdu ≡ npdu → h.first ≡ first → header_read (headed h.kind teid seq npdu first h.rest) ≡ Ok h
 headed_same h teid first seq npdu t s n f =
-    ap header_read (ap (λ x. headed h.kind x seq npdu first h.rest) (sym t) ∙ (ap (λ x. headed h.kind h.teid x npdu first h.rest) (sym s) ∙ (ap (λ x. headed h.kind h.teid h.seq x first h.rest) (sym n) ∙ ap (λ x. headed h.kind h.teid h.seq h.npdu x h.rest) (sym f))))
+    ap header_read (ap (λ x. headed h.kind x seq npdu first h.rest) (sym t) ∙ (ap (λ x. headed h.kind h.teid x npdu first h.rest) (sym s)
+    ∙ (ap (λ x. headed h.kind h.teid h.seq x first h.rest) (sym n) ∙ ap (λ x. headed h.kind h.teid h.seq h.npdu x h.rest) (sym f))))
 
 plain_is : (octets : List ℕ) (h : Headed) → HeadedPlain octets h → header_at octets ≡ Ok h
 plain_is octets h ((spare, high, low, a, b, c, d, encoding, small, long, teid), seq, npdu, first) =
     let f = flags_are spare (record { chain = false; seq = false; npdu = false }) small in
-    ap header_at encoding ∙ (at_plain (48 + 8 * spare + 0) h.kind high low a b c d h.rest f.version f.protocol f.all long ∙ headed_same h (from_be_bytes w32 (a ∷ b ∷ c ∷ d ∷ [])) 0 None None teid seq npdu first)
+    ap header_at encoding ∙ (at_plain (48 + 8 * spare + 0) h.kind high low a b c d h.rest f.version f.protocol f.all long
+    ∙ headed_same h (from_be_bytes w32 (a ∷ b ∷ c ∷ d ∷ [])) 0 None None teid seq npdu first)
 
 after_is : (first kind teid a b c d : ℕ) (rest : List ℕ) (flags : Flags) → AreFlags first flags
     → after_flags first kind teid (a ∷ b ∷ c ∷ d ∷ rest) ≡ Ok (headed kind teid (where_set flags.seq (256 * a + b)) (where_set flags.npdu c) (cond flags.chain d 0) rest)
@@ -151,7 +154,8 @@ at_protocol flags kind high low a b c d tail lt =
     let protocol : (((32 + flags) / 16) % 2 == 0) ≡ true = test_is _ _ (omega arith) in
     rw (version, protocol) refl
 
-at_length : (flags kind high low a b c d : ℕ) (tail : List ℕ) → flags < 16 → 256 * high + low ≢ length tail → header_at (begins (48 + flags) kind high low a b c d tail) ≡ Err (faults.Length (256 * high + low) (length tail))
+at_length : (flags kind high low a b c d : ℕ) (tail : List ℕ) → flags < 16 → 256 * high + low ≢ length tail
+    → header_at (begins (48 + flags) kind high low a b c d tail) ≡ Err (faults.Length (256 * high + low) (length tail))
 at_length flags kind high low a b c d tail lt ne =
     let version : ((48 + flags) / 32 == 1) ≡ true = test_is _ _ (omega arith) in
     let protocol : (((48 + flags) / 16) % 2 == 0) ≡ false = test_not _ _ (λ e. omega arith) in
@@ -173,7 +177,8 @@ fault_is octets f (inr (first, kind, high, low, a, b, c, d, tail, encoding, inr 
     ap header_at (encoding ∙ ap (start kind high low a b c d tail) is) ∙ (at_length flags kind high low a b c d tail lt ne ∙ ap header_refused (sym e))
 fault_is octets f (inr (first, kind, high, low, a, b, c, d, tail, encoding, inr (inr (inr (flags, lt, is, some, same, short, e))))) =
     ap header_at (encoding ∙ ap (start kind high low a b c d tail) is)
-    ∙ (at_flags (48 + flags) kind high low a b c d tail (omega arith) (omega arith) (omega (arith, some)) same ∙ (few_after (48 + flags) kind (from_be_bytes w32 (a ∷ b ∷ c ∷ d ∷ [])) tail short ∙ ap header_refused (sym e)))
+    ∙ (at_flags (48 + flags) kind high low a b c d tail (omega arith) (omega arith) (omega (arith, some)) same
+    ∙ (few_after (48 + flags) kind (from_be_bytes w32 (a ∷ b ∷ c ∷ d ∷ [])) tail short ∙ ap header_refused (sym e)))
 
 -- ---- all octets have a form or a fault
 
@@ -186,7 +191,8 @@ record IsFirst (first : ℕ) : Type 0 where
   small : flags < 16
   is : first ≡ 48 + flags
 
-opens_by : (first kind high low a b c d : ℕ) (tail : List ℕ) (i : IsFirst first) → 256 * high + low ≡ length tail → Opens (begins first kind high low a b c d tail) (flags_in (48 + i.flags)) kind (from_be_bytes w32 (a ∷ b ∷ c ∷ d ∷ [])) tail
+opens_by : (first kind high low a b c d : ℕ) (tail : List ℕ) (i : IsFirst first) → 256 * high + low ≡ length tail
+    → Opens (begins first kind high low a b c d tail) (flags_in (48 + i.flags)) kind (from_be_bytes w32 (a ∷ b ∷ c ∷ d ∷ [])) tail
 opens_by first kind high low a b c d tail i same =
     (i.flags / 8, high, low, a, b, c, d, ap (start kind high low a b c d tail) (i.is ∙ first_is i.flags i.small), omega (arith, i.small), same, refl)
 
@@ -202,23 +208,41 @@ by_tail first kind high low a b c d (x ∷ y ∷ z ∷ t ∷ rest) i same some =
     let flags = flags_in (48 + i.flags) in
     let number = from_be_bytes w32 (a ∷ b ∷ c ∷ d ∷ []) in
     inl (
-      headed kind (from_be_bytes w32 (a ∷ b ∷ c ∷ d ∷ [])) (where_set (((48 + i.flags) / 2) % 2 == 1) (256 * x + y)) (where_set ((48 + i.flags) % 2 == 1) z) (cond (((48 + i.flags) / 4) % 2 == 1) t 0) rest,
+      headed kind (from_be_bytes w32 (a ∷ b ∷ c ∷ d ∷ [])) (where_set (((48 + i.flags) / 2) % 2 == 1) (256 * x + y))
+          (where_set ((48 + i.flags) % 2 == 1) z) (cond (((48 + i.flags) / 4) % 2 == 1) t 0) rest,
       inr (flags_in (48 + i.flags), x, y, z, t, some_bits, opens_by first kind high low a b c d (x ∷ y ∷ z ∷ t ∷ rest) i same, refl, refl, refl),
     )
   where
     some_bits : 0 < bits (flags_in (48 + i.flags))
     some_bits = omega (arith, first_is i.flags i.small, some, i.small)
 by_tail first kind high low a b c d [] i same some = inr (faults.Short 8, inr (first, kind, high, low, a, b, c, d, [], refl, inr (inr (inr (i.flags, i.small, i.is, some, same, omega arith, refl)))))
-by_tail first kind high low a b c d (x ∷ []) i same some = inr (faults.Short 9, inr (first, kind, high, low, a, b, c, d, x ∷ [], refl, inr (inr (inr (i.flags, i.small, i.is, some, same, omega arith, refl)))))
-by_tail first kind high low a b c d (x ∷ y ∷ []) i same some = inr (faults.Short 10, inr (first, kind, high, low, a, b, c, d, x ∷ y ∷ [], refl, inr (inr (inr (i.flags, i.small, i.is, some, same, omega arith, refl)))))
-by_tail first kind high low a b c d (x ∷ y ∷ z ∷ []) i same some = inr (faults.Short 11, inr (first, kind, high, low, a, b, c, d, x ∷ y ∷ z ∷ [], refl, inr (inr (inr (i.flags, i.small, i.is, some, same, omega arith, refl)))))
+by_tail first kind high low a b c d (x ∷ []) i same some =
+    inr
+    (faults.Short 9, inr (first, kind, high, low, a, b, c, d, x ∷ [], refl, inr (inr (inr (i.flags, i.small, i.is, some, same, omega arith, refl)))))
+by_tail first kind high low a b c d (x ∷ y ∷ []) i same some =
+    inr (
+      faults.Short 10,
+      inr (first, kind, high, low, a, b, c, d, x ∷ y ∷ [], refl, inr (inr (inr (i.flags, i.small, i.is, some, same, omega arith, refl)))),
+    )
+by_tail first kind high low a b c d (x ∷ y ∷ z ∷ []) i same some =
+    inr (
+      faults.Short 11,
+      inr (first, kind, high, low, a, b, c, d, x ∷ y ∷ z ∷ [], refl, inr (inr (inr (i.flags, i.small, i.is, some, same, omega arith, refl)))),
+    )
 
-by_flags : (first kind high low a b c d : ℕ) (tail : List ℕ) (i : IsFirst first) → 256 * high + low ≡ length tail → (t : Bool) → (i.flags % 8 == 0) ≡ t → Sorted (begins first kind high low a b c d tail)
+by_flags : (first kind high low a b c d : ℕ) (tail : List ℕ) (i : IsFirst first) → 256 * high + low ≡ length tail → (t : Bool) → (i.flags % 8 == 0) ≡ t
+    → Sorted (begins first kind high low a b c d tail)
 by_flags first kind high low a b c d tail i same true e =
     let zero_is : i.flags % 8 ≡ 0 = grind (arith, nat_tests) in
     inl (
       plain kind (from_be_bytes w32 (a ∷ b ∷ c ∷ d ∷ [])) tail,
-      inl (subst (λ (f : Flags). Opens (begins first kind high low a b c d tail) f kind (from_be_bytes w32 (a ∷ b ∷ c ∷ d ∷ [])) tail) (flags_none i.flags i.small zero_is) (opens_by first kind high low a b c d tail i same), refl, refl, refl),
+      inl (
+        subst (λ (f : Flags). Opens (begins first kind high low a b c d tail) f kind (from_be_bytes w32 (a ∷ b ∷ c ∷ d ∷ [])) tail)
+            (flags_none i.flags i.small zero_is) (opens_by first kind high low a b c d tail i same),
+        refl,
+        refl,
+        refl,
+      ),
     )
 by_flags first kind high low a b c d tail i same false e = by_tail first kind high low a b c d tail i same (some_is (i.flags % 8) e) where
   some_is : (n : ℕ) → (n == 0) ≡ false → 0 < n
@@ -227,7 +251,10 @@ by_flags first kind high low a b c d tail i same false e = by_tail first kind hi
 by_length : (first kind high low a b c d : ℕ) (tail : List ℕ) (i : IsFirst first) (t : Bool) → (256 * high + low == length tail) ≡ t → Sorted (begins first kind high low a b c d tail)
 by_length first kind high low a b c d tail i true e = by_flags first kind high low a b c d tail i (eqb-true _ _ e) (i.flags % 8 == 0) refl
 by_length first kind high low a b c d tail i false e =
-    inr (faults.Length (256 * high + low) (length tail), inr (first, kind, high, low, a, b, c, d, tail, refl, inr (inr (inl (i.flags, i.small, i.is, unequal (256 * high + low) (length tail) e, refl)))))
+    inr (
+      faults.Length (256 * high + low) (length tail),
+      inr (first, kind, high, low, a, b, c, d, tail, refl, inr (inr (inl (i.flags, i.small, i.is, unequal (256 * high + low) (length tail) e, refl)))),
+    )
 
 sorted_by : (first kind high low a b c d : ℕ) (tail : List ℕ) → Sorted (begins first kind high low a b c d tail)
 sorted_by first kind high low a b c d tail = elim (cases_lt first 32) [

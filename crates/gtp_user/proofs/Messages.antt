@@ -65,11 +65,15 @@ unfolding found_in
 indication_decided es =
     decide_bind (needed 16 (first_teid es)) (λ teid. needed 133 (first_peer es) >>= λ peer. Ok (ErrorIndication teid peer)) (λ (teid : ℕ). first_teid es ≡ Some teid) (IsAbsent 16 (first_teid es))
     (λ teid c. (peer : Ip) × (first_peer es ≡ Some peer) × (c ≡ ErrorIndication teid peer)) (λ teid. IsAbsent 133 (first_peer es))
-    (needed_decided 16 (first_teid es)) (λ teid. decide_map (needed 133 (first_peer es)) (λ peer. ErrorIndication teid peer) (λ peer. first_peer es ≡ Some peer) (IsAbsent 133 (first_peer es)) (needed_decided 133 (first_peer es)))
+    (needed_decided 16 (first_teid es)) (λ teid.
+    decide_map (needed 133 (first_peer es)) (λ peer. ErrorIndication teid peer) (λ peer. first_peer es ≡ Some peer) (IsAbsent 133 (first_peer es))
+    (needed_decided 133 (first_peer es)))
 
 notification_decided : (es : List Element) → Decides (notification (found_in es)) (λ c. (types : List ℕ) × (first_types es ≡ Some types) × (c ≡ Notification types)) (IsAbsent 141 (first_types es))
 unfolding found_in
-notification_decided es = decide_map (needed 141 (first_types es)) (λ types. Notification types) (λ types. first_types es ≡ Some types) (IsAbsent 141 (first_types es)) (needed_decided 141 (first_types es))
+notification_decided es =
+    decide_map (needed 141 (first_types es)) (λ types. Notification types) (λ types. first_types es ≡ Some types) (IsAbsent 141 (first_types es))
+    (needed_decided 141 (first_types es))
 
 -- ---- by the type of the message
 
@@ -80,10 +84,13 @@ decide_kind kind n r s P Q F G d e = by_test (kind == n) refl where
   by_test : (b : Bool) → (kind == n) ≡ b → Decides (cond b r s) (λ x. ((kind ≡ n) × P x) ⊎ ((kind ≢ n) × Q x)) (λ f. ((kind ≡ n) × F f) ⊎ ((kind ≢ n) × G f))
   by_test true t =
       let is : kind ≡ n = grind (arith, nat_tests) in
-      decide_as r P (λ x. ((kind ≡ n) × P x) ⊎ ((kind ≢ n) × Q x)) F (λ f. ((kind ≡ n) × F f) ⊎ ((kind ≢ n) × G f)) (λ x p. inl (is, p)) (λ x p. elim p [ inl q ↦ q.1 | inr q ↦ absurd (q.0 is) ]) (λ f p. inl (is, p)) (λ f p. elim p [ inl q ↦ q.1 | inr q ↦ absurd (q.0 is) ]) d
+      decide_as r P (λ x. ((kind ≡ n) × P x) ⊎ ((kind ≢ n) × Q x)) F (λ f. ((kind ≡ n) × F f) ⊎ ((kind ≢ n) × G f)) (λ x p. inl (is, p))
+      (λ x p. elim p [ inl q ↦ q.1 | inr q ↦ absurd (q.0 is) ]) (λ f p. inl (is, p)) (λ f p. elim p [ inl q ↦ q.1 | inr q ↦ absurd (q.0 is) ]) d
   by_test false t =
       let is_not : kind ≢ n = grind (arith, nat_tests) in
-      decide_as s Q (λ x. ((kind ≡ n) × P x) ⊎ ((kind ≢ n) × Q x)) G (λ f. ((kind ≡ n) × F f) ⊎ ((kind ≢ n) × G f)) (λ x p. inr (is_not, p)) (λ x p. elim p [ inl q ↦ absurd (is_not q.0) | inr q ↦ q.1 ]) (λ f p. inr (is_not, p)) (λ f p. elim p [ inl q ↦ absurd (is_not q.0) | inr q ↦ q.1 ]) e
+      decide_as s Q (λ x. ((kind ≡ n) × P x) ⊎ ((kind ≢ n) × Q x)) G (λ f. ((kind ≡ n) × F f) ⊎ ((kind ≢ n) × G f)) (λ x p. inr (is_not, p))
+      (λ x p. elim p [ inl q ↦ absurd (is_not q.0) | inr q ↦ q.1 ]) (λ f p. inr (is_not, p))
+      (λ f p. elim p [ inl q ↦ absurd (is_not q.0) | inr q ↦ q.1 ]) e
 
 abbrev said : Content → Result Content UserFault
 said c = Ok c
@@ -166,26 +173,31 @@ read2 end kind teid octets = cond (kind == 2) (found_at end octets >>= λ f. ech
 
 read255_decided : (kind teid : ℕ) (octets : List ℕ) → Decides (read255 kind teid octets) (Is255 kind teid octets) (Fails255 kind)
 read255_decided kind teid octets =
-    decide_kind kind 255 (said (Packet teid octets)) (said (Other kind teid octets)) (λ c. c ≡ Packet teid octets) (λ c. c ≡ Other kind teid octets) Never Never (decide_ok {E = UserFault} (Packet teid octets)) (decide_ok {E = UserFault} (Other kind teid octets))
+    decide_kind kind 255 (said (Packet teid octets)) (said (Other kind teid octets)) (λ c. c ≡ Packet teid octets) (λ c. c ≡ Other kind teid octets)
+    Never Never (decide_ok {E = UserFault} (Packet teid octets)) (decide_ok {E = UserFault} (Other kind teid octets))
 
 read254_decided : (kind teid : ℕ) (octets : List ℕ) → Decides (read254 kind teid octets) (Is254 kind teid octets) (Fails254 kind)
 read254_decided kind teid octets =
-    decide_kind kind 254 (said (EndMarker teid)) (read255 kind teid octets) (λ c. c ≡ EndMarker teid) (Is255 kind teid octets) Never (Fails255 kind) (decide_ok {E = UserFault} (EndMarker teid)) (read255_decided kind teid octets)
+    decide_kind kind 254 (said (EndMarker teid)) (read255 kind teid octets) (λ c. c ≡ EndMarker teid) (Is255 kind teid octets) Never (Fails255 kind)
+    (decide_ok {E = UserFault} (EndMarker teid)) (read255_decided kind teid octets)
 
 read31_decided : (end kind teid : ℕ) (octets : List ℕ) → Decides (read31 end kind teid octets) (Is31 kind teid octets) (Fails31 end kind octets)
 read31_decided end kind teid octets =
     decide_kind kind 31 (found_at end octets >>= λ f. notification f) (read254 kind teid octets) (Notifies octets) (Is254 kind teid octets) (NotifiesNone end octets) (Fails254 kind)
-    (with_elements end octets notification (λ es c. (types : List ℕ) × (first_types es ≡ Some types) × (c ≡ Notification types)) (λ es. IsAbsent 141 (first_types es)) notification_decided) (read254_decided kind teid octets)
+    (with_elements end octets notification (λ es c. (types : List ℕ) × (first_types es ≡ Some types) × (c ≡ Notification types))
+    (λ es. IsAbsent 141 (first_types es)) notification_decided) (read254_decided kind teid octets)
 
 read26_decided : (end kind teid : ℕ) (octets : List ℕ) → Decides (read26 end kind teid octets) (Is26 kind teid octets) (Fails26 end kind octets)
 read26_decided end kind teid octets =
-    decide_kind kind 26 (found_at end octets >>= λ f. error_indication f) (read31 end kind teid octets) (IndicatesIn octets) (Is31 kind teid octets) (IndicatesNoneIn end octets) (Fails31 end kind octets)
+    decide_kind kind 26 (found_at end octets >>= λ f. error_indication f) (read31 end kind teid octets) (IndicatesIn octets) (Is31 kind teid octets)
+    (IndicatesNoneIn end octets) (Fails31 end kind octets)
     (with_elements end octets error_indication Indicates IndicatesNone indication_decided) (read31_decided end kind teid octets)
 
 read2_decided : (end kind teid : ℕ) (octets : List ℕ) → Decides (read2 end kind teid octets) (Is2 kind teid octets) (Fails2 end kind octets)
 read2_decided end kind teid octets =
     decide_kind kind 2 (found_at end octets >>= λ f. echo_response f) (read26 end kind teid octets) (Responds octets) (Is26 kind teid octets) (RespondsNone end octets) (Fails26 end kind octets)
-    (with_elements end octets echo_response (λ es c. (has_recovery es ≡ true) × (c ≡ EchoResponse)) (λ es f. (has_recovery es ≡ false) × (f ≡ faults.Missing 14)) response_decided) (read26_decided end kind teid octets)
+    (with_elements end octets echo_response (λ es c. (has_recovery es ≡ true) × (c ≡ EchoResponse))
+    (λ es f. (has_recovery es ≡ false) × (f ≡ faults.Missing 14)) response_decided) (read26_decided end kind teid octets)
 
 -- ---- in the words of the grammar
 
@@ -202,10 +214,22 @@ from_carries : (kind teid : ℕ) (octets : List ℕ) (c : Content) → Carries k
 from_carries kind teid octets EchoRequest k = inl (k, refl)
 from_carries kind teid octets EchoResponse (k, (es, are, has)) = inr (λ e. omega (arith, e, k), inl (k, (es, are, (has, refl))))
 from_carries kind teid octets (ErrorIndication t peer) (k, (es, are, is, p)) = inr (λ e. omega (arith, e, k), inr (λ e. omega (arith, e, k), inl (k, (es, are, (t, is, (peer, p, refl))))))
-from_carries kind teid octets (Notification types) (k, (es, are, is)) = inr (λ e. omega (arith, e, k), inr (λ e. omega (arith, e, k), inr (λ e. omega (arith, e, k), inl (k, (es, are, (types, is, refl))))))
-from_carries kind teid octets (EndMarker t) (k, e) = inr (λ e. omega (arith, e, k), inr (λ e. omega (arith, e, k), inr (λ e. omega (arith, e, k), inr (λ e. omega (arith, e, k), inl (k, ap EndMarker e)))))
+from_carries kind teid octets (Notification types) (k, (es, are, is)) =
+    inr (λ e. omega (arith, e, k), inr (λ e. omega (arith, e, k), inr (λ e. omega (arith, e, k), inl (k, (es, are, (types, is, refl))))))
+from_carries kind teid octets (EndMarker t) (k, e) =
+    inr
+    (λ e. omega (arith, e, k), inr (λ e. omega (arith, e, k), inr (λ e. omega (arith, e, k), inr (λ e. omega (arith, e, k), inl (k, ap EndMarker e)))))
 from_carries kind teid octets (Packet t payload) (k, e, o) =
-    inr (λ e. omega (arith, e, k), inr (λ e. omega (arith, e, k), inr (λ e. omega (arith, e, k), inr (λ e. omega (arith, e, k), inr (λ e. omega (arith, e, k), inl (k, ap (λ (n : ℕ). Packet n payload) e ∙ ap (Packet teid) o))))))
+    inr (
+      λ e. omega (arith, e, k),
+      inr (
+        λ e. omega (arith, e, k),
+        inr (
+          λ e. omega (arith, e, k),
+          inr (λ e. omega (arith, e, k), inr (λ e. omega (arith, e, k), inl (k, ap (λ (n : ℕ). Packet n payload) e ∙ ap (Packet teid) o))),
+        ),
+      ),
+    )
 from_carries kind teid octets (Other k t os) ((a, b, d, f, g, h), e, i, o) =
     inr (a, inr (b, inr (d, inr (f, inr (g, inr (h, ap (λ (n : ℕ). Other n t os) e ∙ (ap (λ (n : ℕ). Other kind n os) i ∙ ap (Other kind teid) o)))))))
 
@@ -253,7 +277,8 @@ unfolding body_at
 body_decided end kind teid octets =
     decide_as (cond (kind == 1) (said EchoRequest) (read2 end kind teid octets)) (Is1 kind teid octets) (Carries kind teid octets) (Fails1 end kind octets) (CarriesNone end kind octets)
     (to_carries kind teid octets) (from_carries kind teid octets) (to_none end kind octets) (from_none end kind octets)
-    (decide_kind kind 1 (said EchoRequest) (read2 end kind teid octets) (λ c. c ≡ EchoRequest) (Is2 kind teid octets) Never (Fails2 end kind octets) (decide_ok {E = UserFault} EchoRequest) (read2_decided end kind teid octets))
+    (decide_kind kind 1 (said EchoRequest) (read2 end kind teid octets) (λ c. c ≡ EchoRequest) (Is2 kind teid octets) Never (Fails2 end kind octets)
+    (decide_ok {E = UserFault} EchoRequest) (read2_decided end kind teid octets))
 
 -- ---- the whole datagram
 
@@ -267,11 +292,15 @@ IsAfterHeader h m = (c : Chained) × IsChained h.first h.rest c × ((content : C
 abbrev FailsByReading : ℕ → Headed → UserFault → Type 0
 FailsByReading end h = First_or_later (IsChained h.first h.rest) (ChainFails end h.first h.rest) (λ c. CarriesNone end h.kind c.rest)
 
-rest_decided : (end : ℕ) (h : Headed) → Decides (chain_at end h.first h.rest >>= λ c. body_at end h.kind h.teid c.rest >>= λ content. Ok (message_of h c content)) (IsAfterHeader h) (FailsByReading end h)
+rest_decided : (end : ℕ) (h : Headed)
+    → Decides (chain_at end h.first h.rest >>= λ c. body_at end h.kind h.teid c.rest >>= λ content. Ok (message_of h c content)) (IsAfterHeader h)
+    (FailsByReading end h)
 rest_decided end h =
     decide_bind (chain_at end h.first h.rest) (λ c. body_at end h.kind h.teid c.rest >>= λ content. Ok (message_of h c content)) (IsChained h.first h.rest) (ChainFails end h.first h.rest)
     (λ c m. (content : Content) × Carries h.kind h.teid c.rest content × (m ≡ message_of h c content)) (λ c. CarriesNone end h.kind c.rest)
-    (chain_decided end h.first h.rest) (λ c. decide_map (body_at end h.kind h.teid c.rest) (message_of h c) (Carries h.kind h.teid c.rest) (CarriesNone end h.kind c.rest) (body_decided end h.kind h.teid c.rest))
+    (chain_decided end h.first h.rest)
+    (λ c. decide_map (body_at end h.kind h.teid c.rest) (message_of h c) (Carries h.kind h.teid c.rest) (CarriesNone end h.kind c.rest)
+    (body_decided end h.kind h.teid c.rest))
 
 -- the same in the words of the grammar
 abbrev AfterHeader : Headed → MessageValue → Type 0
@@ -296,7 +325,10 @@ from_fails end h f (inr (es, tail, chain, p)) = inr (chained es tail, chain, p)
 pub message_decided : (octets : List ℕ) → Decides (message_at octets) (IsUserMessage octets) (IsUserFault octets)
 unfolding message_at
 message_decided octets =
-    decide_bind (header_at octets) (λ h. chain_at (length octets) h.first h.rest >>= λ c. body_at (length octets) h.kind h.teid c.rest >>= λ content. Ok (message_of h c content)) (IsHeaded octets) (HeaderFails octets)
+    decide_bind (header_at octets)
+    (λ h. chain_at (length octets) h.first h.rest >>= λ c. body_at (length octets) h.kind h.teid c.rest >>= λ content. Ok (message_of h c content))
+    (IsHeaded octets) (HeaderFails octets)
     AfterHeader (FailsAfterHeader (length octets)) (header_decided octets)
-    (λ h. decide_as (chain_at (length octets) h.first h.rest >>= λ c. body_at (length octets) h.kind h.teid c.rest >>= λ content. Ok (message_of h c content)) (IsAfterHeader h) (AfterHeader h) (FailsByReading (length octets) h) (FailsAfterHeader (length octets) h)
+    (λ h. decide_as (chain_at (length octets) h.first h.rest >>= λ c. body_at (length octets) h.kind h.teid c.rest >>= λ content. Ok
+    (message_of h c content)) (IsAfterHeader h) (AfterHeader h) (FailsByReading (length octets) h) (FailsAfterHeader (length octets) h)
     (to_after_header h) (from_after_header h) (to_fails (length octets) h) (from_fails (length octets) h) (rest_decided (length octets) h))

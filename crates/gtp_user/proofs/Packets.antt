@@ -35,10 +35,12 @@ no_chain : (end : ℕ) (octets : List ℕ) → rest_of (chain_at end 0 octets) �
 no_chain end octets = ap rest_of ((chain_decided end 0 octets).is (chained [] octets) (refl, refl))
 
 -- the octets of a chain, and no more, are one
-pub chain_alone : (first n : ℕ) (octets rest : List ℕ) (es : List Extension) → IsChain first octets es rest → n ≡ length octets - length rest → HasNoRest first (take n octets) × (headers_in first (take n octets) ≡ es)
+pub chain_alone : (first n : ℕ) (octets rest : List ℕ) (es : List Extension) → IsChain first octets es rest → n ≡ length octets - length rest
+    → HasNoRest first (take n octets) × (headers_in first (take n octets) ≡ es)
 chain_alone first n octets rest es chain is =
     let a = so_far_ends (length octets) first octets rest (es, chain) in
-    subst (λ (k : ℕ). HasNoRest first (take k octets) × (headers_in first (take k octets) ≡ es)) (sym is) (a.whole, ap headers_of (sym a.chain ∙ (chain_decided (length octets) first octets).is (chained es rest) chain))
+    subst (λ (k : ℕ). HasNoRest first (take k octets) × (headers_in first (take k octets) ≡ es)) (sym is)
+    (a.whole, ap headers_of (sym a.chain ∙ (chain_decided (length octets) first octets).is (chained es rest) chain))
 
 -- ---- a G-PDU
 
@@ -80,17 +82,20 @@ packet_plain octets o f =
 packet_flagged : (octets : List ℕ) (first : ℕ) (t : List ℕ) → OpensPacket octets → 0 < octet octets 0 % 8 → 12 ≤ length octets
     → cond ((octet octets 0 / 4) % 2 == 1) (octet octets 11) 0 ≡ first → rest_of (chain_at (length octets) first (drop 12 octets)) ≡ Some t → tail_at octets ≡ Ok t
 packet_flagged octets first t o f long is chain =
-    packet_tail octets (headed (octet octets 1) (teid_at octets) (where_set ((octet octets 0 / 2) % 2 == 1) (256 * octet octets 8 + octet octets 9)) (where_set (octet octets 0 % 2 == 1) (octet octets 10)) (cond ((octet octets 0 / 4) % 2 == 1) (octet octets 11) 0) (drop 12 octets)) t
+    packet_tail octets (headed (octet octets 1) (teid_at octets) (where_set ((octet octets 0 / 2) % 2 == 1) (256 * octet octets 8 + octet octets 9))
+    (where_set (octet octets 0 % 2 == 1) (octet octets 10)) (cond ((octet octets 0 / 4) % 2 == 1) (octet octets 11) 0) (drop 12 octets)) t
     (ap header_at (eight octets o.long) ∙ (at_flags _ _ _ _ _ _ _ _ _ (omega (arith, o.version)) (omega (arith, o.version)) f (omega (arith, o.size, o.long, length-drop 8 octets)) ∙ after))
     o.kind (subst (λ (k : ℕ). rest_of (chain_at (length octets) k (drop 12 octets)) ≡ Some t) (sym is) chain)
   where
     after : after_flags (octet octets 0) (octet octets 1) (teid_at octets) (drop 8 octets)
-        ≡ Ok (headed (octet octets 1) (teid_at octets) (where_set ((octet octets 0 / 2) % 2 == 1) (256 * octet octets 8 + octet octets 9)) (where_set (octet octets 0 % 2 == 1) (octet octets 10)) (cond ((octet octets 0 / 4) % 2 == 1) (octet octets 11) 0) (drop 12 octets))
+        ≡ Ok (headed (octet octets 1) (teid_at octets) (where_set ((octet octets 0 / 2) % 2 == 1) (256 * octet octets 8 + octet octets 9))
+        (where_set (octet octets 0 % 2 == 1) (octet octets 10)) (cond ((octet octets 0 / 4) % 2 == 1) (octet octets 11) 0) (drop 12 octets))
     after = ap (after_flags (octet octets 0) (octet octets 1) (teid_at octets)) (four (drop 8 octets) (omega (arith, length-drop 8 octets, long)))
         ∙ rw (get_or-drop 8 octets 0 0, get_or-drop 8 octets 1 0, get_or-drop 8 octets 2 0, get_or-drop 8 octets 3 0, drop-drop 4 8 octets) refl
 
 -- with an extension header
-pub packet_chained : (octets t : List ℕ) → OpensPacket octets → 0 < octet octets 0 % 8 → 12 ≤ length octets → ((octet octets 0 / 4) % 2 == 1) ≡ true → rest_of (chain_at (length octets) (octet octets 11) (drop 12 octets)) ≡ Some t → tail_at octets ≡ Ok t
+pub packet_chained : (octets t : List ℕ) → OpensPacket octets → 0 < octet octets 0 % 8 → 12 ≤ length octets → ((octet octets 0 / 4) % 2 == 1) ≡ true
+    → rest_of (chain_at (length octets) (octet octets 11) (drop 12 octets)) ≡ Some t → tail_at octets ≡ Ok t
 packet_chained octets t o f long set chain = packet_flagged octets (octet octets 11) t o f long (ap (λ (b : Bool). cond b (octet octets 11) 0) set) chain
 
 -- without one

@@ -85,5 +85,6 @@ pub fewer_fail : (octets : List ℕ) (m : MessageValue) (n : ℕ) → IsUserMess
 fewer_fail octets m n is some lt =
     let o = opened octets is.0 is.1 in
     let n_is : n ≡ suc (suc (suc (suc (suc (suc (suc (suc (n - 8)))))))) = omega arith in
-    let cut : take n octets ≡ o.first ∷ o.kind ∷ o.high ∷ o.low ∷ o.a ∷ o.b ∷ o.c ∷ o.d ∷ take (n - 8) o.tail = ap (λ k. take k octets) n_is ∙ ap (take (suc (suc (suc (suc (suc (suc (suc (suc (n - 8)))))))))) o.whole in
+    let cut : take n octets ≡ o.first ∷ o.kind ∷ o.high ∷ o.low ∷ o.a ∷ o.b ∷ o.c ∷ o.d ∷ take (n - 8) o.tail =
+    ap (λ k. take k octets) n_is ∙ ap (take (suc (suc (suc (suc (suc (suc (suc (suc (n - 8)))))))))) o.whole in
     inl (subst (λ xs. HeaderFails xs (faults.Length (length octets - 8) (n - 8))) (sym cut) (cut_fails octets o (n - 8) (omega (arith, ap length o.whole))))

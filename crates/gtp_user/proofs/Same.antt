@@ -20,12 +20,14 @@ use Rattle.gtp_user.proofs.Messages.{message_by}
 
 -- a test of two lists of headers
 header_decided : (x y : Extension) → Decides (header_eq x y) (x ≡ y)
-header_decided x y = Decides-like (header_eq x y) join parts (Decides-and (x.kind == y.kind) (pointwise nat_eq x.content y.content) (Decides-eqb x.kind y.kind) (bytes_decides x.content y.content)) where
-  join : (x.kind ≡ y.kind) × (x.content ≡ y.content) → x ≡ y
-  join p = ap (λ k. record { kind = k; content = x.content }) p.0 ∙ ap (λ c. record { kind = y.kind; content = c }) p.1
+header_decided x y =
+    Decides-like (header_eq x y) join parts
+    (Decides-and (x.kind == y.kind) (pointwise nat_eq x.content y.content) (Decides-eqb x.kind y.kind) (bytes_decides x.content y.content)) where
+      join : (x.kind ≡ y.kind) × (x.content ≡ y.content) → x ≡ y
+      join p = ap (λ k. record { kind = k; content = x.content }) p.0 ∙ ap (λ c. record { kind = y.kind; content = c }) p.1
 
-  parts : x ≡ y → (x.kind ≡ y.kind) × (x.content ≡ y.content)
-  parts e = (ap (λ h. h.kind) e, ap (λ h. h.content) e)
+      parts : x ≡ y → (x.kind ≡ y.kind) × (x.content ≡ y.content)
+      parts e = (ap (λ h. h.kind) e, ap (λ h. h.content) e)
 
 pub headers_decided : (xs ys : List Extension) → Decides (pointwise header_eq xs ys) (xs ≡ ys)
 headers_decided = pointwise_decides header_decided
@@ -61,20 +63,25 @@ bodies_decided : (x y : UserBody) → Decides ((user_bodies.ghosts).eq x y) (con
 bodies_decided bodies.EchoRequest bodies.EchoRequest = (λ e. refl, λ e. refl)
 bodies_decided bodies.EchoResponse bodies.EchoResponse = (λ e. refl, λ e. refl)
 bodies_decided (bodies.ErrorIndication p t) (bodies.ErrorIndication q u) =
-    Decides-like ((ips.ghosts).eq p q && nat_eq t u) (λ e. ap (λ a. ErrorIndication t a) e.0 ∙ ap (λ n. ErrorIndication n q) e.1) (λ e. (cc, cc)) (Decides-and ((ips.ghosts).eq p q) (nat_eq t u) (ip_same p q) (Decides-eqb t u))
+    Decides-like ((ips.ghosts).eq p q && nat_eq t u) (λ e. ap (λ a. ErrorIndication t a) e.0 ∙ ap (λ n. ErrorIndication n q) e.1) (λ e. (cc, cc))
+    (Decides-and ((ips.ghosts).eq p q) (nat_eq t u) (ip_same p q) (Decides-eqb t u))
 bodies_decided (bodies.Notification xs) (bodies.Notification ys) = Decides-like (pointwise nat_eq xs.now ys.now) (λ e. ap (λ zs. Notification zs) e) (λ e. cc) (bytes_decides xs.now ys.now)
 bodies_decided (bodies.EndMarker t) (bodies.EndMarker u) = Decides-like (nat_eq t u) (λ e. ap (λ n. EndMarker n) e) (λ e. cc) (Decides-eqb t u)
 bodies_decided (bodies.Packet t xs) (bodies.Packet u ys) =
-    Decides-like (nat_eq t u && pointwise nat_eq xs.now ys.now) (λ e. ap (λ n. Packet n xs.now) e.0 ∙ ap (λ zs. Packet u zs) e.1) (λ e. (cc, cc)) (Decides-and (nat_eq t u) (pointwise nat_eq xs.now ys.now) (Decides-eqb t u) (bytes_decides xs.now ys.now))
+    Decides-like (nat_eq t u && pointwise nat_eq xs.now ys.now) (λ e. ap (λ n. Packet n xs.now) e.0 ∙ ap (λ zs. Packet u zs) e.1) (λ e. (cc, cc))
+    (Decides-and (nat_eq t u) (pointwise nat_eq xs.now ys.now) (Decides-eqb t u) (bytes_decides xs.now ys.now))
 bodies_decided (bodies.Other k t xs) (bodies.Other l u ys) =
-    Decides-like (nat_eq k l && (nat_eq t u && pointwise nat_eq xs.now ys.now)) (λ e. ap (λ n. Other n t xs.now) e.0 ∙ (ap (λ n. Other l n xs.now) e.1.0 ∙ ap (λ zs. Other l u zs) e.1.1)) (λ e. (cc, (cc, cc)))
-    (Decides-and (nat_eq k l) (nat_eq t u && pointwise nat_eq xs.now ys.now) (Decides-eqb k l) (Decides-and (nat_eq t u) (pointwise nat_eq xs.now ys.now) (Decides-eqb t u) (bytes_decides xs.now ys.now)))
+    Decides-like (nat_eq k l && (nat_eq t u && pointwise nat_eq xs.now ys.now))
+    (λ e. ap (λ n. Other n t xs.now) e.0 ∙ (ap (λ n. Other l n xs.now) e.1.0 ∙ ap (λ zs. Other l u zs) e.1.1)) (λ e. (cc, (cc, cc)))
+    (Decides-and (nat_eq k l) (nat_eq t u && pointwise nat_eq xs.now ys.now) (Decides-eqb k l)
+    (Decides-and (nat_eq t u) (pointwise nat_eq xs.now ys.now) (Decides-eqb t u) (bytes_decides xs.now ys.now)))
 bodies_decided x y = (λ e. absurd cc, λ e. absurd cc)
 
 pub messages_decided : (a b : UserMessage) → Decides ((messages.ghosts).eq a b) (message_value a ≡ message_value b)
 messages_decided a b =
     Decides-like ((messages.ghosts).eq a b) join parts
-    (Decides-and (option_eq nat_eq a.seq b.seq) (option_eq nat_eq a.npdu b.npdu && (pointwise header_eq a.ext b.ext && (user_bodies.ghosts).eq a.body b.body)) (options_same nat_eq Decides-eqb a.seq b.seq)
+    (Decides-and (option_eq nat_eq a.seq b.seq) (option_eq nat_eq a.npdu b.npdu &&
+    (pointwise header_eq a.ext b.ext && (user_bodies.ghosts).eq a.body b.body)) (options_same nat_eq Decides-eqb a.seq b.seq)
     (Decides-and (option_eq nat_eq a.npdu b.npdu) (pointwise header_eq a.ext b.ext && (user_bodies.ghosts).eq a.body b.body) (options_same nat_eq Decides-eqb a.npdu b.npdu)
     (Decides-and (pointwise header_eq a.ext b.ext) ((user_bodies.ghosts).eq a.body b.body) (headers_decided a.ext b.ext) (bodies_decided a.body b.body))))
   where

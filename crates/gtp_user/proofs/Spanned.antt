@@ -33,17 +33,19 @@ empty_decided end = known_ok [] (AreElements []) (IsCut end []) refl only none w
 
 -- octets that begin with no element are cut there
 stuck_decided : (end x : ℕ) (xs : List ℕ) → element_at (x ∷ xs) ≡ None → Decides (cut (faults.Element (end - length (x ∷ xs)))) (AreElements (x ∷ xs)) (IsCut end (x ∷ xs))
-stuck_decided end x xs h = known_err (faults.Element (end - length (x ∷ xs))) (AreElements (x ∷ xs)) (IsCut end (x ∷ xs)) ([], x ∷ xs, refl, omega arith, λ e after b. stuck e after b, refl) none one where
-  stuck : (e : Element) (after : List ℕ) → BeginsElement (x ∷ xs) e after → ⊥
-  stuck e after b = none_some (found e after) (sym h ∙ begins_element (x ∷ xs) e after b)
+stuck_decided end x xs h =
+    known_err (faults.Element (end - length (x ∷ xs))) (AreElements (x ∷ xs)) (IsCut end (x ∷ xs))
+    ([], x ∷ xs, refl, omega arith, λ e after b. stuck e after b, refl) none one where
+      stuck : (e : Element) (after : List ℕ) → BeginsElement (x ∷ xs) e after → ⊥
+      stuck e after b = none_some (found e after) (sym h ∙ begins_element (x ∷ xs) e after b)
 
-  none : (es : List Element) → AreElements (x ∷ xs) es → ⊥
-  none [] p = omega (arith, ap length p)
-  none (e ∷ es) (after, b, s) = stuck e after b
+      none : (es : List Element) → AreElements (x ∷ xs) es → ⊥
+      none [] p = omega (arith, ap length p)
+      none (e ∷ es) (after, b, s) = stuck e after b
 
-  one : (f : UserFault) → IsCut end (x ∷ xs) f → f ≡ faults.Element (end - length (x ∷ xs))
-  one f ([], rest, spans, some, nothing, is) = is ∙ ap (λ (ys : List ℕ). faults.Element (end - length ys)) (sym spans)
-  one f (e ∷ es, rest, (after, b, s), some, nothing, is) = absurd (stuck e after b)
+      one : (f : UserFault) → IsCut end (x ∷ xs) f → f ≡ faults.Element (end - length (x ∷ xs))
+      one f ([], rest, spans, some, nothing, is) = is ∙ ap (λ (ys : List ℕ). faults.Element (end - length ys)) (sym spans)
+      one f (e ∷ es, rest, (after, b, s), some, nothing, is) = absurd (stuck e after b)
 
 -- after an element the others decide
 rest_decided : (end : ℕ) (octets : List ℕ) (e : Element) (rest : List ℕ) (r : Result (List Element) UserFault) → 0 < length octets → element_at octets ≡ Some (found e rest)

@@ -1,5 +1,6 @@
 -- What the octets of a viewed message say.
-use Rattle.std.proofs.Common.{◌≡◌, ℕ, ◌+◌, ◌-◌, ◌*◌, ◌/◌, ◌%◌, ◌<◌, ◌≤◌, Bool, true, false, cond, List, [], ◌∷◌, ◌++◌, length, take, drop, Option, Some, None, Ok, inl, inr, refl, sym, ap, subst, ◌∙◌, arith}
+use Rattle.std.proofs.Common.{◌≡◌, ℕ, ◌+◌, ◌-◌, ◌*◌, ◌/◌, ◌%◌, ◌<◌, ◌≤◌, Bool, true, false, cond, List, [], ◌∷◌, ◌++◌, length, take, drop, Option}
+use Rattle.std.proofs.Common.{Some, None, Ok, inl, inr, refl, sym, ap, subst, ◌∙◌, arith}
 use Rattle.std.specs.Prelude.{◌==◌, slice_index, unwrap_or}
 use Rattle.std.proofs.lemmas.Bool.Decides.{nat_tests}
 use Rattle.std.proofs.Math.Seq.{drop-append_seam}
@@ -138,7 +139,8 @@ tail_last octets tail e =
         ∙ (sym (drop-drop (length chain) size octets) ∙ (ap (drop (length chain)) (d ∙ is) ∙ drop-append_seam chain tail))
 
 -- where it begins that was read step by step
-pub tail_placed : (octets : List ℕ) (h : Headed) (c : Chained) (content : Content) → header_at octets ≡ Ok h → chain_at (length octets) h.first h.rest ≡ Ok c → body_at (length octets) h.kind h.teid c.rest ≡ Ok content
+pub tail_placed : (octets : List ℕ) (h : Headed) (c : Chained) (content : Content) → header_at octets ≡ Ok h → chain_at (length octets) h.first h.rest ≡ Ok c
+    → body_at (length octets) h.kind h.teid c.rest ≡ Ok content
     → tail_at octets ≡ Ok (drop (length octets - length c.rest) octets)
 unfolding tail_at
 tail_placed octets h c content header chain body = here ∙ ap (λ (xs : List ℕ). Ok xs) (sym (tail_last octets c.rest here)) where
@@ -151,7 +153,15 @@ viewed_is octets start within e =
     let l = lies octets (drop start octets) (steps octets (drop start octets) e) in
     let (size, says) = header_says octets l.h l.header in
     let spelled = chain_spelled l.h.first l.h.rest (steps octets (drop start octets) e).c.headers (drop start octets) l.chain in
-    let past : size ≤ start = omega (arith, says.long, ap length spelled.encoding, length-append (chain_encoding (steps octets (drop start octets) e).c.headers) (drop start octets), length-drop start octets, within) in
+    let past : size ≤ start =
+    omega (
+      arith,
+      says.long,
+      ap length spelled.encoding,
+      length-append (chain_encoding (steps octets (drop start octets) e).c.headers) (drop start octets),
+      length-drop start octets,
+      within,
+    ) in
     record { least = omega (arith, says.least, past); flagged = λ some. omega (arith, says.flagged some, past); within = within; tail = e }
 
 -- ---- what the octets say
@@ -208,7 +218,10 @@ said octets start m within l = by_header (header_says octets l.h l.header).0 (he
   by_header : (size : ℕ) → HeaderSays octets l.h size → Says octets start m
   by_header size s = record {
     kind = s.kind ∙ carried_kind l.h.kind l.h.teid (drop start octets) m.content l.carries;
-    teid = numbered_kind l.h.kind l.h.teid (drop start octets) m.content l.carries ∙ (ap (λ (k : ℕ). cond (is_numbered k) None (Some l.h.teid)) (sym s.kind) ∙ ap (λ (t : ℕ). cond (is_numbered (octet octets 1)) None (Some t)) (sym s.teid));
+    teid =
+        numbered_kind l.h.kind l.h.teid (drop start octets) m.content l.carries
+        ∙ (ap (λ (k : ℕ). cond (is_numbered k) None (Some l.h.teid)) (sym s.kind)
+        ∙ ap (λ (t : ℕ). cond (is_numbered (octet octets 1)) None (Some t)) (sym s.teid));
     packet =
         carried_packet l.h.kind l.h.teid (drop start octets) m.content l.carries
         ∙ (ap (λ (k : ℕ). cond (k == 255) (Some (l.h.teid, drop start octets)) None) (sym s.kind) ∙ ap (λ (t : ℕ). cond (octet octets 1 == 255) (Some (t, drop start octets)) None) (sym s.teid));
@@ -236,7 +249,8 @@ said octets start m within l = by_header (header_says octets l.h l.header).0 (he
       by_headers [] p = refl
       by_headers (e ∷ es) (follows, after, same, begins, leads) = absurd (omega (arith, same, begins.3))
 
-      with_chain : size ≡ 12 → l.h.first ≡ octet octets 11 → HasNoRest (octet octets 11) (take (start - 12) (drop 12 octets)) × (headers_in (octet octets 11) (take (start - 12) (drop 12 octets)) ≡ m.ext)
+      with_chain : size ≡ 12 → l.h.first ≡ octet octets 11 → HasNoRest (octet octets 11) (take (start - 12) (drop 12 octets))
+          × (headers_in (octet octets 11) (take (start - 12) (drop 12 octets)) ≡ m.ext)
       with_chain twelve first =
           let rest : drop 12 octets ≡ l.h.rest = ap (λ (k : ℕ). drop k octets) (sym twelve) ∙ s.rest in
           chain_alone (octet octets 11) (start - 12) (drop 12 octets) (drop start octets) m.ext
@@ -246,4 +260,5 @@ said octets start m within l = by_header (header_says octets l.h l.header).0 (he
 pub says : (octets : List ℕ) (start : ℕ) (m : MessageValue) → IsViewed octets start → viewed octets ≡ m → Says octets start m
 says octets start m v is =
     subst (Says octets start) (sym (ap message_or_none (read octets (drop start octets) (steps octets (drop start octets) v.tail))) ∙ is)
-    (said octets start (message_of (steps octets (drop start octets) v.tail).h (steps octets (drop start octets) v.tail).c (steps octets (drop start octets) v.tail).content) v.within (lies octets (drop start octets) (steps octets (drop start octets) v.tail)))
+    (said octets start (message_of (steps octets (drop start octets) v.tail).h (steps octets (drop start octets) v.tail).c
+    (steps octets (drop start octets) v.tail).content) v.within (lies octets (drop start octets) (steps octets (drop start octets) v.tail)))

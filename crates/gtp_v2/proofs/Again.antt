@@ -56,7 +56,8 @@ row_again true (Accepted kind instance) es values m h = one_again kind instance 
 row_again false (Accepted kind instance) es values m h = free_again kind instance es values m h
 row_again accepting (Optional kind instance) es values m h = free_again kind instance es values m h
 
-pub rows_again : (accepting : Bool) (rows : List Row) (es : List Element) (all : List (List Value)) → RowsMeet accepting rows all → AllByRecursion (IsFound es) (rows_slots rows all) → RowsAre accepting rows es all
+pub rows_again : (accepting : Bool) (rows : List Row) (es : List Element) (all : List (List Value)) → RowsMeet accepting rows all
+    → AllByRecursion (IsFound es) (rows_slots rows all) → RowsAre accepting rows es all
 rows_again accepting [] es all m f = m
 rows_again accepting (row ∷ rows) es [] m f = absurd m
 rows_again accepting (row ∷ rows) es (values ∷ others) m f = (row_again accepting row es values m.0 f.0, rows_again (accepting && accepts values) rows es others m.2 f.1)
@@ -73,7 +74,8 @@ rows_octets [] [] = refl
 rows_octets [] (values ∷ others) = refl
 rows_octets (row ∷ rows) [] = refl
 rows_octets (row ∷ rows) (values ∷ others) =
-    ap (λ (xs : List ℕ). xs ++ rows_encoding rows others) (slot_octets row values) ∙ (ap (λ (xs : List ℕ). flat_map element_octets (slot_elements (row_slot row values)) ++ xs) (rows_octets rows others)
+    ap (λ (xs : List ℕ). xs ++ rows_encoding rows others) (slot_octets row values) ∙
+    (ap (λ (xs : List ℕ). flat_map element_octets (slot_elements (row_slot row values)) ++ xs) (rows_octets rows others)
     ∙ sym (flat_map-append element_octets (slot_elements (row_slot row values)) (slots_elements (rows_slots rows others))))
 
 all_append : {X : Type 0} (P : X → Type 0) (xs ys : List X) → AllByRecursion P xs → AllByRecursion P ys → AllByRecursion P (xs ++ ys)
@@ -101,7 +103,9 @@ rows_plain accepting [] [] m = tt
 rows_plain accepting [] (values ∷ others) m = tt
 rows_plain accepting (row ∷ rows) [] m = tt
 rows_plain accepting (row ∷ rows) (values ∷ others) m =
-    all_append IsPlain (slot_elements (row_slot row values)) (slots_elements (rows_slots rows others)) (alone_plain (kind_of row) (instance_of row) values (row_at_most accepting row values m.0) m.1) (rows_plain (accepting && accepts values) rows others m.2)
+    all_append IsPlain (slot_elements (row_slot row values)) (slots_elements (rows_slots rows others))
+    (alone_plain (kind_of row) (instance_of row) values (row_at_most accepting row values m.0) m.1)
+    (rows_plain (accepting && accepts values) rows others m.2)
 
 -- ---- distinct rows have distinct slots
 
@@ -127,7 +131,8 @@ found_placed : (at : ℕ) (es : List Element) (slots : List Slot) → AllByRecur
 found_placed at es [] f = tt
 found_placed at es (s ∷ slots) f = (bodies-placed s.kind s.instance at es ∙ f.0, found_placed at es slots f.1)
 
-group_again : (accepting : Bool) (rows : List Row) (e : Element) (all : List (List Value)) → are_apart rows ≡ true → GroupMeets accepting rows all → e.body ≡ rows_encoding rows all → GroupIs accepting rows e all
+group_again : (accepting : Bool) (rows : List Row) (e : Element) (all : List (List Value)) → are_apart rows ≡ true → GroupMeets accepting rows all
+    → e.body ≡ rows_encoding rows all → GroupIs accepting rows e all
 group_again accepting rows e all apart m h =
     let slots : List Slot = rows_slots rows all in
     let es : List Element = slots_elements slots in (
@@ -136,7 +141,8 @@ group_again accepting rows e all apart m h =
       rows_again accepting rows (placed (e.at + 4) es) all m.rows_meet (found_placed (e.at + 4) es slots (all_found slots (apart_distinct rows all apart))),
     )
 
-groups_again : (accepting : Bool) (rows : List Row) (es : List Element) (groups : List (List (List Value))) → are_apart rows ≡ true → AllByRecursion (GroupMeets accepting rows) groups → HaveBodies es (map (rows_encoding rows) groups) → GroupsAre accepting rows es groups
+groups_again : (accepting : Bool) (rows : List Row) (es : List Element) (groups : List (List (List Value))) → are_apart rows ≡ true
+    → AllByRecursion (GroupMeets accepting rows) groups → HaveBodies es (map (rows_encoding rows) groups) → GroupsAre accepting rows es groups
 groups_again accepting rows [] [] apart m h = refl
 groups_again accepting rows [] (g ∷ gs) apart m h = absurd cc
 groups_again accepting rows (e ∷ es) [] apart m h = absurd h
@@ -157,7 +163,8 @@ abbrev pub lines_slots : List Line → List Field → List Slot
 lines_slots (line ∷ lines) (field ∷ fields) = line_slot line field ∷ lines_slots lines fields
 lines_slots lines fields = []
 
-groups_octets : (kind instance : ℕ) (rows : List Row) (groups : List (List (List Value))) → groups_encoding kind instance rows groups ≡ flat_map element_octets (map (element_with kind instance) (map (rows_encoding rows) groups))
+groups_octets : (kind instance : ℕ) (rows : List Row) (groups : List (List (List Value)))
+    → groups_encoding kind instance rows groups ≡ flat_map element_octets (map (element_with kind instance) (map (rows_encoding rows) groups))
 unfolding groups_encoding
 groups_octets kind instance rows [] = refl
 groups_octets kind instance rows (g ∷ gs) = ap (λ (xs : List ℕ). element_encoding kind instance (rows_encoding rows g) ++ xs) (groups_octets kind instance rows gs)
@@ -180,10 +187,12 @@ lines_octets [] [] = refl
 lines_octets [] (field ∷ fields) = refl
 lines_octets (line ∷ lines) [] = refl
 lines_octets (line ∷ lines) (field ∷ fields) =
-    ap (λ (xs : List ℕ). xs ++ lines_encoding lines fields) (line_octets line field) ∙ (ap (λ (xs : List ℕ). flat_map element_octets (slot_elements (line_slot line field)) ++ xs) (lines_octets lines fields)
+    ap (λ (xs : List ℕ). xs ++ lines_encoding lines fields) (line_octets line field) ∙
+    (ap (λ (xs : List ℕ). flat_map element_octets (slot_elements (line_slot line field)) ++ xs) (lines_octets lines fields)
     ∙ sym (flat_map-append element_octets (slot_elements (line_slot line field)) (slots_elements (lines_slots lines fields))))
 
-groups_plain : (kind instance : ℕ) (accepting : Bool) (rows : List Row) (groups : List (List (List Value))) → AllByRecursion (GroupMeets accepting rows) groups → instance < 16 → AllByRecursion IsPlain (map (element_with kind instance) (map (rows_encoding rows) groups))
+groups_plain : (kind instance : ℕ) (accepting : Bool) (rows : List Row) (groups : List (List (List Value))) → AllByRecursion (GroupMeets accepting rows) groups
+    → instance < 16 → AllByRecursion IsPlain (map (element_with kind instance) (map (rows_encoding rows) groups))
 groups_plain kind instance accepting rows [] m lt = tt
 groups_plain kind instance accepting rows (g ∷ gs) m lt = (record { spare = refl; instance = lt; body = m.0.short }, groups_plain kind instance accepting rows gs m.1 lt)
 
@@ -233,23 +242,29 @@ line_again state (Single row) es (Plain values) m f = (values, row_again state.a
 line_again state (Single row) es (Groups groups) m f = absurd m
 line_again state (Grouped row rows) es (Plain values) m f = absurd m
 line_again state (Grouped row rows) es (Groups groups) m f =
-    let have : HaveBodies (all_of (kind_of row) (instance_of row) es) (map (rows_encoding rows) groups) = subst (HaveBodies (all_of (kind_of row) (instance_of row) es)) f (all_from_bodies (kind_of row) (instance_of row) es) in
+    let have : HaveBodies (all_of (kind_of row) (instance_of row) es) (map (rows_encoding rows) groups) =
+    subst (HaveBodies (all_of (kind_of row) (instance_of row) es)) f (all_from_bodies (kind_of row) (instance_of row) es) in
     (groups, (groups_again state.accepting rows (all_of (kind_of row) (instance_of row) es) groups m.3 m.0 have, m.1), refl)
 line_again state (Several kind instance missed) es (Plain values) m f =
     let have : HaveBodies (all_of kind instance es) (map encoding_of values) = subst (HaveBodies (all_of kind instance es)) f (all_from_bodies kind instance es) in
     (values, (values_again kind (all_of kind instance es) values m.0 have, m.1), refl)
 line_again state (Several kind instance missed) es (Groups groups) m f = absurd m
 
-lines_again : (state : State) (lines : List Line) (es : List Element) (fields : List Field) → LinesMeet state lines fields → AllByRecursion (IsFound es) (lines_slots lines fields) → LinesAre state lines es fields
+lines_again : (state : State) (lines : List Line) (es : List Element) (fields : List Field) → LinesMeet state lines fields
+    → AllByRecursion (IsFound es) (lines_slots lines fields) → LinesAre state lines es fields
 lines_again state [] es fields m f = m
 lines_again state (line ∷ lines) es [] m f = absurd m
 lines_again state (line ∷ lines) es (field ∷ fields) m f = (line_again state line es field m.0 f.0, lines_again (after state field) lines es fields m.1 f.1)
 
 -- fields that meet their table are read from their text
-pub fields_again : (at : ℕ) (lines : List Line) (fields : List Field) → lines_apart lines ≡ true → LinesMeet start lines fields → (whole (elements_of at (lines_encoding lines fields)) >>= λ es. lines_at start lines es) ≡ Ok fields
+pub fields_again : (at : ℕ) (lines : List Line) (fields : List Field) → lines_apart lines ≡ true → LinesMeet start lines fields
+    → (whole (elements_of at (lines_encoding lines fields)) >>= λ es. lines_at start lines es) ≡ Ok fields
 fields_again at lines fields apart m =
     let slots : List Slot = lines_slots lines fields in
     let es : List Element = placed at (slots_elements slots) in
-    let spans : AreElements at (lines_encoding lines fields) es = subst (λ (xs : List ℕ). AreElements at xs es) (sym (lines_octets lines fields)) (spans_placed at (slots_elements slots) (lines_plain start lines fields m)) in
+    let spans : AreElements at (lines_encoding lines fields) es =
+    subst (λ (xs : List ℕ). AreElements at xs es) (sym (lines_octets lines fields))
+    (spans_placed at (slots_elements slots) (lines_plain start lines fields m)) in
     let are : LinesAre start lines es fields = lines_again start lines es fields m (found_placed at (slots_elements slots) slots (all_found slots (lines_distinct lines fields apart))) in
-    bind_at (whole (elements_of at (lines_encoding lines fields))) (λ es. lines_at start lines es) es ((whole_decided at (lines_encoding lines fields)).is es spans) ∙ (lines_decided start lines es).is fields are
+    bind_at (whole (elements_of at (lines_encoding lines fields))) (λ es. lines_at start lines es) es
+    ((whole_decided at (lines_encoding lines fields)).is es spans) ∙ (lines_decided start lines es).is fields are

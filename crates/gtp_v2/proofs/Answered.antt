@@ -95,7 +95,8 @@ pub fault : {X : Type 0} (view : X → DatagramValue) (r : Result X V2Fault) (oc
 fault view (Ok v) octets h = tt
 fault view (Err f) octets h = (datagram_decided octets).err f h
 
-pub only : {X : Type 0} (view : X → DatagramValue) (r : Result X V2Fault) (octets : List ℕ) → Gives view r (datagram_at octets) → (d : DatagramValue) → IsDatagram octets d → IsOkAnd r (λ v. view v ≡ d)
+pub only : {X : Type 0} (view : X → DatagramValue) (r : Result X V2Fault) (octets : List ℕ) → Gives view r (datagram_at octets) → (d : DatagramValue)
+    → IsDatagram octets d → IsOkAnd r (λ v. view v ≡ d)
 only view (Ok v) octets h d is = ok_same V2Fault (view v) d (sym h ∙ (datagram_decided octets).is d is)
 only view (Err f) octets h d is = absurd (apart d f (sym ((datagram_decided octets).is d is) ∙ h))
 
@@ -106,14 +107,16 @@ first view (Err g) octets h f is = ap (λ (e : V2Fault). Err e) (err_same Datagr
 -- ---- what a caller of decode is told
 
 -- what is answered is a message that the octets spell
-pub answers_ok : {X : Type 0} (view : X → DatagramValue) (r : Result X V2Fault) (octets : List ℕ) → MessageGives DatagramAllocates view r (datagram_at octets) → IfOk r (λ m. IsDatagram octets (view m))
+pub answers_ok : {X : Type 0} (view : X → DatagramValue) (r : Result X V2Fault) (octets : List ℕ) → MessageGives DatagramAllocates view r (datagram_at octets)
+    → IfOk r (λ m. IsDatagram octets (view m))
 answers_ok view (Ok x) octets h = (datagram_decided octets).ok (view x) h
 answers_ok view (Err f) octets h = tt
 
 -- out of memory, for a message for which memory is allocated, or the fault that the octets have
 fault_told : (f : V2Fault) (octets : List ℕ) → FaultIs DatagramAllocates f (datagram_at octets) → ((f ≡ faults.Memory) × MayAllocate octets) ⊎ (datagram_at octets ≡ Err f)
 fault_told faults.Memory octets h = by_reading (datagram_at octets) refl h where
-  by_reading : (r : Result DatagramValue V2Fault) → datagram_at octets ≡ r → IsOkAnd r DatagramAllocates → ((faults.Memory ≡ faults.Memory) × MayAllocate octets) ⊎ (datagram_at octets ≡ Err faults.Memory)
+  by_reading : (r : Result DatagramValue V2Fault) → datagram_at octets ≡ r → IsOkAnd r DatagramAllocates
+      → ((faults.Memory ≡ faults.Memory) × MayAllocate octets) ⊎ (datagram_at octets ≡ Err faults.Memory)
   by_reading (Ok m) e h = inl (refl, (m, (datagram_decided octets).ok m e, h))
   by_reading (Err f) e h = absurd h
 fault_told (faults.Short n) octets h = inr h
@@ -126,12 +129,14 @@ fault_told (faults.Missing a b c d e) octets h = inr h
 fault_told (faults.Element a b) octets h = inr h
 
 -- a fault is the first one, or out of memory
-pub answers_fault : {X : Type 0} (view : X → DatagramValue) (r : Result X V2Fault) (octets : List ℕ) → MessageGives DatagramAllocates view r (datagram_at octets) → IfErr r (λ f. (f ≡ faults.Memory) ⊎ IsDatagramFault octets f)
+pub answers_fault : {X : Type 0} (view : X → DatagramValue) (r : Result X V2Fault) (octets : List ℕ) → MessageGives DatagramAllocates view r (datagram_at octets)
+    → IfErr r (λ f. (f ≡ faults.Memory) ⊎ IsDatagramFault octets f)
 answers_fault view (Ok x) octets h = tt
 answers_fault view (Err f) octets h = elim (fault_told f octets h) [ inl p ↦ inl p.0 | inr e ↦ inr ((datagram_decided octets).err f e) ]
 
 -- memory runs out where it is allocated for a message
-pub answers_memory : {X : Type 0} (view : X → DatagramValue) (r : Result X V2Fault) (octets : List ℕ) → MessageGives DatagramAllocates view r (datagram_at octets) → r ≡ Err faults.Memory → MayAllocate octets
+pub answers_memory : {X : Type 0} (view : X → DatagramValue) (r : Result X V2Fault) (octets : List ℕ) → MessageGives DatagramAllocates view r (datagram_at octets)
+    → r ≡ Err faults.Memory → MayAllocate octets
 answers_memory view r octets h wanting = by_reading (datagram_at octets) refl (subst (λ (o : Result _ V2Fault). MessageGives DatagramAllocates view o (datagram_at octets)) wanting h) where
   by_reading : (o : Result DatagramValue V2Fault) → datagram_at octets ≡ o → IsOkAnd o DatagramAllocates → MayAllocate octets
   by_reading (Ok m) e h = (m, (datagram_decided octets).ok m e, h)
@@ -148,12 +153,14 @@ only_memory faults.TooLong m h = absurd cc
 only_memory (faults.Missing a b c d e) m h = absurd cc
 only_memory (faults.Element a b) m h = absurd cc
 
-told_only : {X : Type 0} (view : X → DatagramValue) (r : Result X V2Fault) (m : DatagramValue) → MessageGives DatagramAllocates view r (Ok m) → IsOkAnd r (λ d. view d ≡ m) ⊎ ((r ≡ Err faults.Memory) × DatagramAllocates m)
+told_only : {X : Type 0} (view : X → DatagramValue) (r : Result X V2Fault) (m : DatagramValue) → MessageGives DatagramAllocates view r (Ok m)
+    → IsOkAnd r (λ d. view d ≡ m) ⊎ ((r ≡ Err faults.Memory) × DatagramAllocates m)
 told_only view (Ok x) m h = inl cc
 told_only view (Err f) m h = let wanting = only_memory f m h in inr (ap (λ (e : V2Fault). Err e) wanting.0, wanting.1)
 
 -- what the octets spell is answered, unless memory runs out
-pub answers_only : {X : Type 0} (view : X → DatagramValue) (r : Result X V2Fault) (octets : List ℕ) → MessageGives DatagramAllocates view r (datagram_at octets) → (m : DatagramValue) → IsDatagram octets m → IsOkAnd r (λ d. view d ≡ m) ⊎ ((r ≡ Err faults.Memory) × DatagramAllocates m)
+pub answers_only : {X : Type 0} (view : X → DatagramValue) (r : Result X V2Fault) (octets : List ℕ) → MessageGives DatagramAllocates view r (datagram_at octets)
+    → (m : DatagramValue) → IsDatagram octets m → IsOkAnd r (λ d. view d ≡ m) ⊎ ((r ≡ Err faults.Memory) × DatagramAllocates m)
 answers_only view r octets h m is = told_only view r m (subst (MessageGives DatagramAllocates view r) ((datagram_decided octets).is m is) h)
 
 -- and so is their first fault, whether or not there is memory
@@ -172,7 +179,8 @@ fault_told_first : {X : Type 0} (view : X → DatagramValue) (r : Result X V2Fau
 fault_told_first view (Ok x) f h = absurd cc
 fault_told_first view (Err g) f h = ap (λ (e : V2Fault). Err e) (first_fault g f h)
 
-pub answers_first : {X : Type 0} (view : X → DatagramValue) (r : Result X V2Fault) (octets : List ℕ) → MessageGives DatagramAllocates view r (datagram_at octets) → (f : V2Fault) → IsDatagramFault octets f → r ≡ Err f
+pub answers_first : {X : Type 0} (view : X → DatagramValue) (r : Result X V2Fault) (octets : List ℕ) → MessageGives DatagramAllocates view r (datagram_at octets)
+    → (f : V2Fault) → IsDatagramFault octets f → r ≡ Err f
 answers_first view r octets h f is = fault_told_first view r f (subst (MessageGives DatagramAllocates view r) ((datagram_decided octets).fails f is) h)
 
 -- and the instance that it names is below 16

@@ -49,7 +49,8 @@ carried_by octets h elements (Some table) is reads walked =
     let are : AreElements h.at h.rest w.0 = (whole_decided h.at h.rest).ok w.0 w.1.0 in
     let rest : AreElements h.at (drop h.at octets) w.0 = subst (λ (xs : List ℕ). AreElements h.at xs w.0) (sym is.rest) are in
     let placed : AreElements (place_of h.teid) (drop (place_of h.teid) octets) w.0 = subst (λ (n : ℕ). AreElements n (drop n octets) w.0) (sym is.place) rest in
-    subst (λ (c : Content). ElementsAre octets (with_content h c) c (list_or_none elements)) (sym content) (subst (λ (es : List Element). AreElements (place_of h.teid) (drop (place_of h.teid) octets) es) (sym all) placed)
+    subst (λ (c : Content). ElementsAre octets (with_content h c) c (list_or_none elements)) (sym content)
+    (subst (λ (es : List Element). AreElements (place_of h.teid) (drop (place_of h.teid) octets) es) (sym all) placed)
 
 pub carried : (octets : List ℕ) (h : Headed) (elements : Option (List Element)) → header_at octets ≡ Ok h → IsViewed h elements → Carries octets (viewed h elements)
 unfolding content_at
@@ -62,7 +63,8 @@ followed octets h elements headed =
     sym after.rest ∙ ap (λ (n : ℕ). drop n octets) (sym after.place)
 
 -- the octets of a message that is kept as octets
-raw_by : (h : Headed) (elements : Option (List Element)) (rest : Option (List ℕ)) (table : Option Table) → forgotten (by_table table h) ≡ Ok tt → elements ≡ elements_by table h → (elements ≡ None → rest ≡ Some h.rest) → ((es : List Element) → elements ≡ Some es → rest ≡ None)
+raw_by : (h : Headed) (elements : Option (List Element)) (rest : Option (List ℕ)) (table : Option Table) → forgotten (by_table table h) ≡ Ok tt
+    → elements ≡ elements_by table h → (elements ≡ None → rest ≡ Some h.rest) → ((es : List Element) → elements ≡ Some es → rest ≡ None)
     → rest ≡ raw_of (content_or_none (by_table table h))
 raw_by h elements rest None reads walked raw typed = raw walked
 raw_by h elements rest (Some table) reads walked raw typed =
@@ -71,6 +73,7 @@ raw_by h elements rest (Some table) reads walked raw typed =
     let content : content_or_none (by_table (Some table) h) ≡ Fields b.0 = content_is (by_table (Some table) h) r.0 r.1 ∙ sym (content_is (content_ok (Fields b.0)) r.0 b.2) in
     typed (list_of (elements_of h.at h.rest)) walked ∙ sym (ap raw_of content)
 
-pub raw_is : (h : Headed) (elements : Option (List Element)) (rest : Option (List ℕ)) (m : Viewed) → viewed h elements ≡ m → IsViewed h elements → (elements ≡ None → rest ≡ Some h.rest) → ((es : List Element) → elements ≡ Some es → rest ≡ None) → rest ≡ raw_of m.message.content
+pub raw_is : (h : Headed) (elements : Option (List Element)) (rest : Option (List ℕ)) (m : Viewed) → viewed h elements ≡ m → IsViewed h elements
+    → (elements ≡ None → rest ≡ Some h.rest) → ((es : List Element) → elements ≡ Some es → rest ≡ None) → rest ≡ raw_of m.message.content
 unfolding content_at
 raw_is h elements rest m view inv raw typed = raw_by h elements rest (table_of h.kind) inv.reads inv.walked raw typed ∙ ap (λ (v : Viewed). raw_of v.message.content) view

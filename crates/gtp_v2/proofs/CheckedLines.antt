@@ -130,7 +130,8 @@ group_checked a rows e =
 abbrev silent_after : Result (List (List (List Value))) RowFault → Result Bool RowFault
 silent_after r = r >>= λ groups. Ok (is_silent (Groups groups))
 
-others_silent : (x y : List (List Value)) (xs ys : Result (List (List (List Value))) RowFault) → silent_after xs ≡ silent_after ys → silent_after (xs >>= λ others. Ok (x ∷ others)) ≡ silent_after (ys >>= λ others. Ok (y ∷ others))
+others_silent : (x y : List (List Value)) (xs ys : Result (List (List (List Value))) RowFault) → silent_after xs ≡ silent_after ys
+    → silent_after (xs >>= λ others. Ok (x ∷ others)) ≡ silent_after (ys >>= λ others. Ok (y ∷ others))
 others_silent x y (Ok xs) (Ok ys) h = refl
 others_silent x y (Ok xs) (Err f) h = absurd cc
 others_silent x y (Err f) (Ok ys) h = absurd cc
@@ -143,7 +144,8 @@ first_silent (Ok x) (Err b) xs ys h others = absurd cc
 first_silent (Err a) (Ok y) xs ys h others = absurd cc
 first_silent (Err a) (Err b) xs ys h others = ap (λ (c : RowFault). Err c) (err_same (Unit {0}) a b h)
 
-each_silent : (f g : Element → Result (List (List Value)) RowFault) → ((e : Element) → forgotten (f e) ≡ forgotten (g e)) → (es : List Element) → silent_after (each_at f es) ≡ silent_after (each_at g es)
+each_silent : (f g : Element → Result (List (List Value)) RowFault) → ((e : Element) → forgotten (f e) ≡ forgotten (g e)) → (es : List Element)
+    → silent_after (each_at f es) ≡ silent_after (each_at g es)
 unfolding each_at
 each_silent f g same [] = refl
 each_silent f g same (e ∷ es) = first_silent (f e) (g e) (each_at f es) (each_at g es) (same e) (each_silent f g same es)
@@ -189,7 +191,8 @@ lines_checked (Several kind instance missed ∷ lines) es state =
     said_after state state (checked_lines lines) lines (line_says state (Several kind instance missed) es) es (λ one. lines_checked lines es (merged state one))
 lines_checked (Grouped row rows ∷ lines) es state =
     let of = all_of (kind_of row) (instance_of row) es in
-    ap (λ (r : Result State RowFault). forgotten (r >>= λ one. lines_say (merged state one) (checked_lines lines) es)) (say_checked (need_of state.accepting row) (kind_of row) (instance_of row) state.accepting rows of)
+    ap (λ (r : Result State RowFault). forgotten (r >>= λ one. lines_say (merged state one) (checked_lines lines) es))
+    (say_checked (need_of state.accepting row) (kind_of row) (instance_of row) state.accepting rows of)
     ∙ said_after state state (checked_lines lines) lines (line_says state (Grouped row rows) es) es (λ one. lines_checked lines es (merged state one))
 lines_checked (Single row ∷ lines) es state = by_free (is_unchecked row && not (has_list lines)) refl (lines_checked lines es) where
   by_free : (b : Bool) → (is_unchecked row && not (has_list lines)) ≡ b → ((s : State) → forgotten (lines_say s (checked_lines lines) es) ≡ forgotten (lines_say s lines es))
@@ -221,7 +224,8 @@ typed_checked has_teid lines h = by_list (list_at has_teid h) where
   by_list (Err f) = refl
 
 -- what a message carries reads where what the program checks of it does
-pub content_checked : (h : Headed) (asked : Shape) → Some (shape_of asked) ≡ option_map shape_in (table_of h.kind) → forgotten (typed_at asked.has_teid (map line_of asked.lines.now) h) ≡ forgotten (content_at h)
+pub content_checked : (h : Headed) (asked : Shape) → Some (shape_of asked) ≡ option_map shape_in (table_of h.kind)
+    → forgotten (typed_at asked.has_teid (map line_of asked.lines.now) h) ≡ forgotten (content_at h)
 unfolding content_at
 content_checked h asked is = by_table_of (table_of h.kind) is where
   by_table_of : (o : Option Table) → Some (shape_of asked) ≡ option_map shape_in o → forgotten (typed_at asked.has_teid (map line_of asked.lines.now) h) ≡ forgotten (by_table o h)

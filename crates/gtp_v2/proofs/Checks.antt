@@ -19,16 +19,21 @@ use Rattle.gtp_v2.specs.declared.table.Line.{Line as Kept}
 use Rattle.gtp_v2.specs.declared.table.Line.TheVariants as kept
 use Rattle.gtp_v2.specs.reading.Lines.{line_of}
 use Rattle.gtp_v2.specs.Grammar.{in_group}
-use Rattle.gtp_v2.specs.reading.Rows.{fault_as, row_at, rows_at, inner_at, group_at, groups_at, each_at, line_at, lines_at, some_groups, several_at, values_at, one_at, named, needed, needed_at, no_group, no_value}
-use Rattle.gtp_v2.specs.reading.Checked.{row_says, rows_accept, forgotten, inner_passes, group_passes, one_accepts, says, with_one, after_groups, after_values, line_says, lines_say, merged, groups_silent, groups_say, values_say, several_say}
+use Rattle.gtp_v2.specs.reading.Rows.{fault_as, row_at, rows_at, inner_at, group_at, groups_at, each_at, line_at, lines_at, some_groups, several_at}
+use Rattle.gtp_v2.specs.reading.Rows.{values_at, one_at, named, needed, needed_at, no_group, no_value}
+use Rattle.gtp_v2.specs.reading.Checked.{row_says, rows_accept, forgotten, inner_passes, group_passes, one_accepts, says, with_one, after_groups}
+use Rattle.gtp_v2.specs.reading.Checked.{after_values, line_says, lines_say, merged, groups_silent, groups_say, values_say, several_say}
 use Rattle.gtp_v2.proofs.Loop.{with_front, goes_on, ends, is_done, nothing_before}
 
 -- ---- rows
 
-pub rows_on : (a b : Bool) (now : State) (rows : List Row) (i : ℕ) (d : Row) (es : List Element) → i < length rows → row_says a (get_or rows i d) es ≡ Ok now → b ≡ a && now.accepting → rows_accept a (drop i rows) es ≡ rows_accept b (drop (i + 1) rows) es
+pub rows_on : (a b : Bool) (now : State) (rows : List Row) (i : ℕ) (d : Row) (es : List Element) → i < length rows → row_says a (get_or rows i d) es ≡ Ok now
+    → b ≡ a && now.accepting → rows_accept a (drop i rows) es ≡ rows_accept b (drop (i + 1) rows) es
 unfolding rows_accept
 rows_on a b now rows i d es lt h is =
-    at_drop_more (λ rs. rows_accept a rs es) rows i d lt ∙ bind_at (row_says a (get_or rows i d) es) (λ (s : State). rows_accept (a && s.accepting) (drop (i + 1) rows) es) now h ∙ ap (λ c. rows_accept c (drop (i + 1) rows) es) (sym is)
+    at_drop_more (λ rs. rows_accept a rs es) rows i d lt
+    ∙ bind_at (row_says a (get_or rows i d) es) (λ (s : State). rows_accept (a && s.accepting) (drop (i + 1) rows) es) now h
+    ∙ ap (λ c. rows_accept c (drop (i + 1) rows) es) (sym is)
 
 pub rows_stop : (a : Bool) (rows : List Row) (i : ℕ) (d : Row) (es : List Element) (f : RowFault) → i < length rows → row_says a (get_or rows i d) es ≡ Err f → rows_accept a (drop i rows) es ≡ Err f
 unfolding rows_accept
@@ -65,15 +70,20 @@ rows_forget a (row ∷ rows) es =
 abbrev pub no_line : Kept
 no_line = kept.Single (Mandatory 0 0)
 
-pub lines_on : (state now : State) (lines : List Kept) (i : ℕ) (d : Kept) (es : List Element) → i < length lines → line_says state (line_of (get_or lines i d)) es ≡ Ok now → lines_say state (map line_of (drop i lines)) es ≡ lines_say (merged state now) (map line_of (drop (i + 1) lines)) es
+pub lines_on : (state now : State) (lines : List Kept) (i : ℕ) (d : Kept) (es : List Element) → i < length lines
+    → line_says state (line_of (get_or lines i d)) es ≡ Ok now
+    → lines_say state (map line_of (drop i lines)) es ≡ lines_say (merged state now) (map line_of (drop (i + 1) lines)) es
 unfolding lines_say
 lines_on state now lines i d es lt h =
-    at_drop_more (λ ls. lines_say state (map line_of ls) es) lines i d lt ∙ bind_at (line_says state (line_of (get_or lines i d)) es) (λ s. lines_say (merged state s) (map line_of (drop (i + 1) lines)) es) now h
+    at_drop_more (λ ls. lines_say state (map line_of ls) es) lines i d lt
+    ∙ bind_at (line_says state (line_of (get_or lines i d)) es) (λ s. lines_say (merged state s) (map line_of (drop (i + 1) lines)) es) now h
 
-pub lines_stop : (state : State) (lines : List Kept) (i : ℕ) (d : Kept) (es : List Element) (f : RowFault) → i < length lines → line_says state (line_of (get_or lines i d)) es ≡ Err f → lines_say state (map line_of (drop i lines)) es ≡ Err f
+pub lines_stop : (state : State) (lines : List Kept) (i : ℕ) (d : Kept) (es : List Element) (f : RowFault) → i < length lines
+    → line_says state (line_of (get_or lines i d)) es ≡ Err f → lines_say state (map line_of (drop i lines)) es ≡ Err f
 unfolding lines_say
 lines_stop state lines i d es f lt h =
-    at_drop_more (λ ls. lines_say state (map line_of ls) es) lines i d lt ∙ bind_at_err (line_says state (line_of (get_or lines i d)) es) (λ s. lines_say (merged state s) (map line_of (drop (i + 1) lines)) es) f h
+    at_drop_more (λ ls. lines_say state (map line_of ls) es) lines i d lt
+    ∙ bind_at_err (line_says state (line_of (get_or lines i d)) es) (λ s. lines_say (merged state s) (map line_of (drop (i + 1) lines)) es) f h
 
 pub lines_end : (state : State) (lines : List Kept) (i : ℕ) (es : List Element) → length lines ≤ i → lines_say state (map line_of (drop i lines)) es ≡ Ok state
 unfolding lines_say
@@ -84,7 +94,8 @@ map_map (Ok x) g k = refl
 map_map (Err e) g k = refl
 
 groups_said : (need : Need) (kind instance : ℕ) (r : Result (List (List (List Value))) RowFault)
-    → ((r >>= λ groups. Ok (is_silent (Groups groups))) >>= λ silent. after_groups need kind instance silent) ≡ ((r >>= λ groups. if length groups == 0 then no_group need kind instance else Ok groups) >>= λ groups. Ok (says (Groups groups)))
+    → ((r >>= λ groups. Ok (is_silent (Groups groups))) >>= λ silent. after_groups need kind instance silent)
+    ≡ ((r >>= λ groups. if length groups == 0 then no_group need kind instance else Ok groups) >>= λ groups. Ok (says (Groups groups)))
 groups_said needs.Mandatory kind instance (Ok []) = refl
 groups_said needs.Conditional kind instance (Ok []) = refl
 groups_said needs.Optional kind instance (Ok []) = refl
@@ -92,7 +103,8 @@ groups_said need kind instance (Ok (group ∷ groups)) = let some : (length (gro
 groups_said need kind instance (Err f) = refl
 
 several_said : (needed : Bool) (kind missed : ℕ) (r : Result (List Value) RowFault)
-    → ((r >>= λ values. Ok (says (Plain values))) >>= λ said. after_values needed kind missed said) ≡ ((r >>= λ values. if length values == 0 then no_value needed kind missed else Ok values) >>= λ values. Ok (says (Plain values)))
+    → ((r >>= λ values. Ok (says (Plain values))) >>= λ said. after_values needed kind missed said)
+    ≡ ((r >>= λ values. if length values == 0 then no_value needed kind missed else Ok values) >>= λ values. Ok (says (Plain values)))
 several_said true kind missed (Ok []) = refl
 several_said false kind missed (Ok []) = refl
 several_said true kind missed (Ok (v ∷ values)) = let some : (length (v ∷ values) == 0) ≡ false = search rules in rw some refl
@@ -216,9 +228,11 @@ pub group_stop : (a : Bool) (rows : List Row) (silent : Bool) (f : RowFault) (e 
     → left ≡ e ∷ es → group_passes a rows e ≡ Err f → Passes (group_at a rows) none_of silent left (groups_at a rows all) → groups_silent a rows all ≡ Err f
 unfolding group_passes groups_silent
 group_stop a rows silent f e es left all split h so_far =
-    bind_at_err (groups_at a rows all) (λ groups. Ok (none_of groups)) f (passes_fault (group_at a rows) none_of silent f e es left (groups_at a rows all) split (was_fault (group_at a rows e) f h) so_far)
+    bind_at_err (groups_at a rows all) (λ groups. Ok (none_of groups)) f
+    (passes_fault (group_at a rows) none_of silent f e es left (groups_at a rows all) split (was_fault (group_at a rows e) f h) so_far)
 
-pub groups_end : (a : Bool) (rows : List Row) (silent : Bool) (left all : List Element) → left ≡ [] → Passes (group_at a rows) none_of silent left (groups_at a rows all) → groups_silent a rows all ≡ Ok silent
+pub groups_end : (a : Bool) (rows : List Row) (silent : Bool) (left all : List Element) → left ≡ []
+    → Passes (group_at a rows) none_of silent left (groups_at a rows all) → groups_silent a rows all ≡ Ok silent
 unfolding groups_silent
 groups_end a rows silent left all none so_far =
     let r = passed (group_at a rows) none_of silent left (groups_at a rows all) none so_far in
@@ -239,15 +253,20 @@ pub value_on : (kind instance : ℕ) (said more : State) (now : Bool) (e : Eleme
 unfolding one_accepts
 value_on kind instance said more now e es left total split h grown so_far =
     let r = bind_ok (one_at kind instance e) (λ v. Ok (accepts (v ∷ []))) now h in
-    passes_on (one_at kind instance) said_of said more e es left r.0 total split r.1 (λ front is. said_more front r.0 ∙ ap (λ (s : State). with_one s (accepts (r.0 ∷ []))) is ∙ ap (with_one said) (ok_same RowFault (accepts (r.0 ∷ [])) now r.2) ∙ sym grown) so_far
+    passes_on (one_at kind instance) said_of said more e es left r.0 total split r.1 (λ front is.
+    said_more front r.0 ∙ ap (λ (s : State). with_one s (accepts (r.0 ∷ []))) is ∙ ap (with_one said) (ok_same RowFault (accepts (r.0 ∷ [])) now r.2)
+    ∙ sym grown) so_far
 
 pub value_stop : (kind instance : ℕ) (said : State) (f : RowFault) (e : Element) (es left all : List Element)
     → left ≡ e ∷ es → one_accepts kind instance e ≡ Err f → Passes (one_at kind instance) said_of said left (values_at kind instance all) → values_say kind instance all ≡ Err f
 unfolding one_accepts values_say
 value_stop kind instance said f e es left all split h so_far =
-    bind_at_err (values_at kind instance all) (λ values. Ok (said_of values)) f (passes_fault (one_at kind instance) said_of said f e es left (values_at kind instance all) split (map_err (one_at kind instance e) (λ v. accepts (v ∷ [])) f h) so_far)
+    bind_at_err (values_at kind instance all) (λ values. Ok (said_of values)) f
+    (passes_fault (one_at kind instance) said_of said f e es left (values_at kind instance all) split
+    (map_err (one_at kind instance e) (λ v. accepts (v ∷ [])) f h) so_far)
 
-pub values_end : (kind instance : ℕ) (said : State) (left all : List Element) → left ≡ [] → Passes (one_at kind instance) said_of said left (values_at kind instance all) → values_say kind instance all ≡ Ok said
+pub values_end : (kind instance : ℕ) (said : State) (left all : List Element) → left ≡ []
+    → Passes (one_at kind instance) said_of said left (values_at kind instance all) → values_say kind instance all ≡ Ok said
 unfolding values_say
 values_end kind instance said left all none so_far =
     let r = passed (one_at kind instance) said_of said left (values_at kind instance all) none so_far in

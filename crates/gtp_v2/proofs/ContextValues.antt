@@ -25,7 +25,8 @@ first_among : (asked : Line → Bool) (lines : List Line) (fields : List Field) 
 first_among asked [] fields p found = absurd cc
 first_among asked (line ∷ lines) [] p found = absurd cc
 first_among asked (line ∷ lines) (field ∷ fields) p found = by (asked line) found (first_among asked lines fields p) where
-  by : (b : Bool) → cond b (Some (line, field)) (found_among asked lines fields) ≡ Some p → (found_among asked lines fields ≡ Some p → line_among asked lines ≡ Some p.0) → cond b (Some line) (line_among asked lines) ≡ Some p.0
+  by : (b : Bool) → cond b (Some (line, field)) (found_among asked lines fields) ≡ Some p
+      → (found_among asked lines fields ≡ Some p → line_among asked lines ≡ Some p.0) → cond b (Some line) (line_among asked lines) ≡ Some p.0
   by true found later = ap (option_map (λ (q : Line × Field). q.0)) found
   by false found later = later found
 
@@ -62,7 +63,8 @@ has_them v read has =
     first_by (Some table) (Raw octets) p found = absurd cc
 
 -- their rows have what their elements say
-pub contexts_are : (v : Viewed) → IsRead v → has_contexts v.message.kind ≡ true → contexts_of v.message ≡ map (values_in (context_rows v.message.kind)) (map inner_of (all_of bearer_context 0 v.elements))
+pub contexts_are : (v : Viewed) → IsRead v → has_contexts v.message.kind ≡ true
+    → contexts_of v.message ≡ map (values_in (context_rows v.message.kind)) (map inner_of (all_of bearer_context 0 v.elements))
 contexts_are v read has =
     let h = has_them v read has in
     h.contexts ∙ groups_found bearer_context 0 v.elements h.line h.field h.state h.read h.is
@@ -75,7 +77,8 @@ there_is_line None is = absurd cc
 there_is_line (Some line) is = refl
 
 -- what is needed is not empty
-some_needed : (fault : RowFault) (r : Result (List (List (List Value))) RowFault) (groups : List (List (List Value))) → (r >>= λ gs. if length gs == 0 then Err fault else Ok gs) ≡ Ok groups → groups ≡ [] → ⊥
+some_needed : (fault : RowFault) (r : Result (List (List (List Value))) RowFault) (groups : List (List (List Value)))
+    → (r >>= λ gs. if length gs == 0 then Err fault else Ok gs) ≡ Ok groups → groups ≡ [] → ⊥
 some_needed fault (Ok []) groups h none = absurd cc
 some_needed fault (Ok (g ∷ gs)) groups h none = by_length (length (g ∷ gs) == 0) (search rules) h where
   by_length : (b : Bool) → b ≡ false → (if b then Err fault else done RowFault (g ∷ gs)) ≡ Ok groups → ⊥
@@ -86,10 +89,14 @@ some_needed fault (Err f) groups h none = absurd cc
 some_group : (state : State) (line : Line) (field : Field) (es : List Element) → line_at state line es ≡ Ok field → always_some line ≡ true → groups_of field ≡ [] → ⊥
 unfolding some_groups
 some_group state (Grouped (Mandatory kind instance) rows) field es one always none =
-    let g = bind_ok (some_groups (need_of state.accepting (Mandatory kind instance)) kind instance state.accepting rows (all_of kind instance es)) (λ groups. done RowFault (Groups groups)) field one in
+    let g =
+    bind_ok (some_groups (need_of state.accepting (Mandatory kind instance)) kind instance state.accepting rows (all_of kind instance es))
+    (λ groups. done RowFault (Groups groups)) field one in
     some_needed (Missing kind instance false None) (groups_at state.accepting rows (all_of kind instance es)) g.0 g.1 (ap groups_of (ok_same RowFault (Groups g.0) field g.2) ∙ none)
 some_group state (Grouped (Conditional kind instance) rows) field es one always none =
-    let g = bind_ok (some_groups (need_of state.accepting (Conditional kind instance)) kind instance state.accepting rows (all_of kind instance es)) (λ groups. done RowFault (Groups groups)) field one in
+    let g =
+    bind_ok (some_groups (need_of state.accepting (Conditional kind instance)) kind instance state.accepting rows (all_of kind instance es))
+    (λ groups. done RowFault (Groups groups)) field one in
     some_needed (Missing kind instance true None) (groups_at state.accepting rows (all_of kind instance es)) g.0 g.1 (ap groups_of (ok_same RowFault (Groups g.0) field g.2) ∙ none)
 some_group state (Grouped (Accepted kind instance) rows) field es one always none = absurd cc
 some_group state (Grouped (Optional kind instance) rows) field es one always none = absurd cc
@@ -108,7 +115,8 @@ some_inner v read always none =
 
 -- ---- each has a value in each row that always has one
 
-row_there : (accepting : Bool) (row : Row) (es : List Element) (values : List Value) → row_at accepting row es ≡ Ok values → always_there row ≡ true → is_some (optional_at (kind_of row) (instance_of row) es) ≡ true
+row_there : (accepting : Bool) (row : Row) (es : List Element) (values : List Value) → row_at accepting row es ≡ Ok values → always_there row ≡ true
+    → is_some (optional_at (kind_of row) (instance_of row) es) ≡ true
 row_there accepting (Mandatory kind instance) es values h always =
     let b = bind_ok (needed_at false kind instance es) (λ v. done RowFault (v ∷ [])) values h in ap (λ (o : Option Value). is_some o) (needed_is false kind instance es b.0 b.1)
 row_there accepting (Conditional kind instance) es values h always =
@@ -116,7 +124,8 @@ row_there accepting (Conditional kind instance) es values h always =
 row_there accepting (Accepted kind instance) es values h always = absurd cc
 row_there accepting (Optional kind instance) es values h always = absurd cc
 
-rows_there : (accepting : Bool) (kind instance : ℕ) (rows : List Row) (es : List Element) (all : List (List Value)) → rows_at accepting rows es ≡ Ok all → always_among kind instance rows ≡ true → is_some (optional_at kind instance es) ≡ true
+rows_there : (accepting : Bool) (kind instance : ℕ) (rows : List Row) (es : List Element) (all : List (List Value)) → rows_at accepting rows es ≡ Ok all
+    → always_among kind instance rows ≡ true → is_some (optional_at kind instance es) ≡ true
 unfolding rows_at
 rows_there accepting kind instance [] es all h always = absurd cc
 rows_there accepting kind instance (row ∷ rows) es all h always =
@@ -124,14 +133,19 @@ rows_there accepting kind instance (row ∷ rows) es all h always =
     let d = bind_ok (rows_at (accepting && accepts b.0) rows es) (λ others. done RowFault (b.0 ∷ others)) all b.2 in
     by ((kind_of row == kind) && (instance_of row == instance)) refl always b.0 b.1 (rows_there (accepting && accepts b.0) kind instance rows es d.0 d.1)
   where
-    by : (same : Bool) → ((kind_of row == kind) && (instance_of row == instance)) ≡ same → cond same (always_there row) (always_among kind instance rows) ≡ true → (values : List Value) → row_at accepting row es ≡ Ok values → (always_among kind instance rows ≡ true → is_some (optional_at kind instance es) ≡ true) → is_some (optional_at kind instance es) ≡ true
-    by true same always values one later = let p = both_same (kind_of row) kind (instance_of row) instance same in (λ i. is_some (optional_at (sym p.0 i) (sym p.1 i) es)) ∙ row_there accepting row es values one always
+    by : (same : Bool) → ((kind_of row == kind) && (instance_of row == instance)) ≡ same
+        → cond same (always_there row) (always_among kind instance rows) ≡ true → (values : List Value) → row_at accepting row es ≡ Ok values
+        → (always_among kind instance rows ≡ true → is_some (optional_at kind instance es) ≡ true) → is_some (optional_at kind instance es) ≡ true
+    by true same always values one later =
+        let p = both_same (kind_of row) kind (instance_of row) instance same in
+        (λ i. is_some (optional_at (sym p.0 i) (sym p.1 i) es)) ∙ row_there accepting row es values one always
     by false same always values one later = later always
 
 abbrev IsThere : ℕ → ℕ → List Element → Type 0
 IsThere kind instance es = IsTrue (is_some (optional_at kind instance es))
 
-groups_there : (accepting : Bool) (kind instance : ℕ) (rows : List Row) (es : List Element) (groups : List (List (List Value))) → groups_at accepting rows es ≡ Ok groups → always_among kind instance rows ≡ true → All (IsThere kind instance) (map inner_of es)
+groups_there : (accepting : Bool) (kind instance : ℕ) (rows : List Row) (es : List Element) (groups : List (List (List Value)))
+    → groups_at accepting rows es ≡ Ok groups → always_among kind instance rows ≡ true → All (IsThere kind instance) (map inner_of es)
 unfolding each_at group_at
 groups_there accepting kind instance rows [] groups h always = All-nil (IsThere kind instance)
 groups_there accepting kind instance rows (e ∷ es) groups h always =
@@ -142,7 +156,9 @@ groups_there accepting kind instance rows (e ∷ es) groups h always =
     (ap (λ (xs : List Element). is_some (optional_at kind instance xs)) (whole_is (elements_of (e.at + 4) e.body) g.0 g.1) ∙ rows_there accepting kind instance rows g.0 b.0 g.2 always)
     (groups_there accepting kind instance rows es d.0 d.1 always)
 
-line_there : (kind instance : ℕ) (state : State) (line : Line) (field : Field) (es : List Element) → line_at state line es ≡ Ok field → is_groups bearer_context 0 line ≡ true → always_among kind instance (rows_of line) ≡ true → All (IsThere kind instance) (map inner_of (all_of bearer_context 0 es))
+line_there : (kind instance : ℕ) (state : State) (line : Line) (field : Field) (es : List Element) → line_at state line es ≡ Ok field
+    → is_groups bearer_context 0 line ≡ true → always_among kind instance (rows_of line) ≡ true
+    → All (IsThere kind instance) (map inner_of (all_of bearer_context 0 es))
 unfolding some_groups
 line_there kind instance state (Grouped row rows) field es one same always =
     let of = all_of (kind_of row) (instance_of row) es in

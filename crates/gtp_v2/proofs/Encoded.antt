@@ -86,7 +86,8 @@ ContentMeets None teid (Fields fields) = ⊥
 ContentMeets (Some table) teid (Raw octets) = ⊥
 ContentMeets (Some table) teid (Fields fields) = (is_some teid ≡ table.has_teid) × LinesMeet start table.lines fields
 
-content_again : (table : Option Table) (kind : ℕ) (teid : Option ℕ) (seq : ℕ) (priority : Option ℕ) (content : Content) → ((t : Table) → table ≡ Some t → lines_apart t.lines ≡ true) → ContentMeets table teid content
+content_again : (table : Option Table) (kind : ℕ) (teid : Option ℕ) (seq : ℕ) (priority : Option ℕ) (content : Content)
+    → ((t : Table) → table ≡ Some t → lines_apart t.lines ≡ true) → ContentMeets table teid content
     → CarriesBy table (headed_by kind teid seq priority (carried_by table content) (place_of teid)) content
 content_again None kind teid seq priority (Raw octets) apart m = refl
 content_again None kind teid seq priority (Fields fields) apart m = absurd m

@@ -49,7 +49,8 @@ optional_given view kind instance accepting rows es cs reads = rw reads (any_giv
 
 -- values, of which there is one where one is needed
 pub several_given : {C : Type 0} (view : C → Value) (needed empty : Bool) (kind instance missed : ℕ) (es : List Element) (cs : List C)
-    → values_at kind instance (all_of kind instance es) ≡ Ok (map view cs) → (length cs ≡ 0 → IsTrue empty) → IsTrue (not (needed && empty)) → several_at needed kind instance missed es ≡ Ok (map view cs)
+    → values_at kind instance (all_of kind instance es) ≡ Ok (map view cs) → (length cs ≡ 0 → IsTrue empty) → IsTrue (not (needed && empty))
+    → several_at needed kind instance missed es ≡ Ok (map view cs)
 unfolding several_at
 several_given view true true kind instance missed es cs reads none some = absurd cc
 several_given view true false kind instance missed es cs reads none some = rw reads (some_given view cs (no_value true kind missed) (λ e. let bad = none e in absurd cc))
@@ -69,6 +70,7 @@ content_given h es has_teid content form walked given = by_table (table_of h.kin
   by_table None is p = absurd p
 
 -- the message that is built of what carries its header and content
-pub message_given : (octets : List ℕ) (h : Header) (m : Message) → header_at octets ≡ Ok (headed_of h) → content_at (headed_of h) ≡ Ok (content_of m.body) → kind_of m.body ≡ h.kind → HasHeader h m → message_at octets ≡ Ok (message_value m)
+pub message_given : (octets : List ℕ) (h : Header) (m : Message) → header_at octets ≡ Ok (headed_of h) → content_at (headed_of h) ≡ Ok (content_of m.body)
+    → kind_of m.body ≡ h.kind → HasHeader h m → message_at octets ≡ Ok (message_value m)
 unfolding message_at
 message_given octets h m header content kind has = rw (header, content, kind, has.0, has.1, has.2) refl

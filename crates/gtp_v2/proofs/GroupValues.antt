@@ -40,7 +40,8 @@ rows_values accepting (row ∷ rows) es all h =
     let b = bind_ok (row_at accepting row es) (λ values. rows_at (accepting && accepts values) rows es >>= λ others. done RowFault (values ∷ others)) all h in
     let d = bind_ok (rows_at (accepting && accepts b.0) rows es) (λ others. done RowFault (b.0 ∷ others)) all b.2 in
     let value : option_to_list (optional_at (kind_of row) (instance_of row) es) ≡ b.0 = ap option_to_list (row_is accepting row es b.0 b.1) ∙ at_most_one accepting row es b.0 b.1 in
-    sym (ok_same RowFault (b.0 ∷ d.0) all d.2) ∙ ap (λ vs. vs ∷ d.0) (sym value) ∙ ap (λ others. option_to_list (optional_at (kind_of row) (instance_of row) es) ∷ others) (rows_values (accepting && accepts b.0) rows es d.0 d.1)
+    sym (ok_same RowFault (b.0 ∷ d.0) all d.2) ∙ ap (λ vs. vs ∷ d.0) (sym value)
+    ∙ ap (λ others. option_to_list (optional_at (kind_of row) (instance_of row) es) ∷ others) (rows_values (accepting && accepts b.0) rows es d.0 d.1)
 
 -- what reads does, however a fault is told
 pub fault_as_ok : {X E : Type 0} (told : E → E) (r : Result X E) (x : X) → fault_as told r ≡ Ok x → r ≡ Ok x
@@ -54,15 +55,18 @@ group_values accepting rows e all h =
     rows_values accepting rows b.0 all b.2 ∙ ap (values_in rows) (sym (whole_is (elements_of (e.at + 4) e.body) b.0 b.1))
 
 -- what groups have is what their elements say, in order
-pub groups_values : (accepting : Bool) (rows : List Row) (es : List Element) (groups : List (List (List Value))) → groups_at accepting rows es ≡ Ok groups → groups ≡ map (values_in rows) (map inner_of es)
+pub groups_values : (accepting : Bool) (rows : List Row) (es : List Element) (groups : List (List (List Value))) → groups_at accepting rows es ≡ Ok groups
+    → groups ≡ map (values_in rows) (map inner_of es)
 unfolding each_at
 groups_values accepting rows [] groups h = sym (ok_same RowFault [] groups h)
 groups_values accepting rows (e ∷ es) groups h =
     let b = bind_ok (group_at accepting rows e) (λ first. each_at (group_at accepting rows) es >>= λ others. done RowFault (first ∷ others)) groups h in
     let d = bind_ok (each_at (group_at accepting rows) es) (λ others. done RowFault (b.0 ∷ others)) groups b.2 in
-    sym (ok_same RowFault (b.0 ∷ d.0) groups d.2) ∙ ap (λ first. first ∷ d.0) (group_values accepting rows e b.0 b.1) ∙ ap (λ others. values_in rows (inner_of e) ∷ others) (groups_values accepting rows es d.0 d.1)
+    sym (ok_same RowFault (b.0 ∷ d.0) groups d.2) ∙ ap (λ first. first ∷ d.0) (group_values accepting rows e b.0 b.1)
+    ∙ ap (λ others. values_in rows (inner_of e) ∷ others) (groups_values accepting rows es d.0 d.1)
 
-pub some_are : (need : Need) (kind instance : ℕ) (r : Result (List (List (List Value))) RowFault) (groups : List (List (List Value))) → (r >>= λ gs. if length gs == 0 then no_group need kind instance else Ok gs) ≡ Ok groups → r ≡ Ok groups
+pub some_are : (need : Need) (kind instance : ℕ) (r : Result (List (List (List Value))) RowFault) (groups : List (List (List Value)))
+    → (r >>= λ gs. if length gs == 0 then no_group need kind instance else Ok gs) ≡ Ok groups → r ≡ Ok groups
 some_are needs.Mandatory kind instance (Ok []) groups h = absurd cc
 some_are needs.Conditional kind instance (Ok []) groups h = absurd cc
 some_are needs.Optional kind instance (Ok []) groups h = h
@@ -72,7 +76,8 @@ some_are need kind instance (Ok (g ∷ gs)) groups h = by_length (length (g ∷ 
   by_length false is h = h
 some_are need kind instance (Err f) groups h = absurd cc
 
-pub groups_found : (kind instance : ℕ) (es : List Element) (line : Line) (field : Field) (state : State) → line_at state line es ≡ Ok field → is_groups kind instance line ≡ true → groups_of field ≡ map (values_in (rows_of line)) (map inner_of (all_of kind instance es))
+pub groups_found : (kind instance : ℕ) (es : List Element) (line : Line) (field : Field) (state : State) → line_at state line es ≡ Ok field
+    → is_groups kind instance line ≡ true → groups_of field ≡ map (values_in (rows_of line)) (map inner_of (all_of kind instance es))
 unfolding some_groups
 groups_found kind instance es (Grouped row rows) field state one same =
     let of = all_of (kind_of row) (instance_of row) es in
@@ -85,7 +90,8 @@ groups_found kind instance es (Single row) field state one same = absurd cc
 groups_found kind instance es (Several k i missed) field state one same = absurd cc
 
 -- the groups of the message are those of its elements
-pub groups_are : (kind instance : ℕ) (v : Viewed) → IsRead v → (p : List Row × List (List (List Value))) → in_groups kind instance v.message ≡ Some p → p.1 ≡ map (values_in p.0) (map inner_of (all_of kind instance v.elements))
+pub groups_are : (kind instance : ℕ) (v : Viewed) → IsRead v → (p : List Row × List (List (List Value))) → in_groups kind instance v.message ≡ Some p
+    → p.1 ≡ map (values_in p.0) (map inner_of (all_of kind instance v.elements))
 groups_are kind instance v read p is =
     let q = made_of (λ (x : Line × Field). (rows_of x.0, groups_of x.1)) (found_by (is_groups kind instance) (table_of v.message.kind) v.message.content) p is in
     let f = found_is (is_groups kind instance) v read q.0 q.1 in

@@ -72,7 +72,8 @@ at_second flags kind high low following lt =
     let second : (((80 + flags) / 16) % 2 == 1) ≡ true = grind (arith, nat_tests) in
     rw (version, second) refl
 
-at_length : (flags kind high low : ℕ) (following : List ℕ) → flags < 16 → 256 * high + low ≢ length following → header_at (begins (64 + flags) kind high low following) ≡ Err (faults.Length (256 * high + low) (length following))
+at_length : (flags kind high low : ℕ) (following : List ℕ) → flags < 16 → 256 * high + low ≢ length following
+    → header_at (begins (64 + flags) kind high low following) ≡ Err (faults.Length (256 * high + low) (length following))
 at_length flags kind high low following lt ne =
     let version : ((64 + flags) / 32 == 2) ≡ true = grind (arith, nat_tests) in
     let no_second : (((64 + flags) / 16) % 2 == 1) ≡ false = grind (arith, nat_tests) in
@@ -87,7 +88,8 @@ at_plain flags kind high low following lt e =
     let same : (256 * high + low == length following) ≡ true = grind (arith, nat_tests) in
     rw (version, no_second, same, no_teid) refl
 
-at_teid : (flags kind high low : ℕ) (following : List ℕ) → flags < 8 → 256 * high + low ≡ length following → header_at (begins (72 + flags) kind high low following) ≡ after_teid (72 + flags) kind following
+at_teid : (flags kind high low : ℕ) (following : List ℕ) → flags < 8 → 256 * high + low ≡ length following
+    → header_at (begins (72 + flags) kind high low following) ≡ after_teid (72 + flags) kind following
 at_teid flags kind high low following lt e =
     let version : ((72 + flags) / 32 == 2) ≡ true = grind (arith, nat_tests) in
     let no_second : (((72 + flags) / 16) % 2 == 1) ≡ false = grind (arith, nat_tests) in
@@ -105,7 +107,8 @@ fault_is octets f (inr (first, kind, high, low, following, text, inr (inr (inl (
 fault_is octets f (inr (first, kind, high, low, following, text, inr (inr (inr (inl (flags, lt, is, long, shorter, e)))))) =
     ap header_at (text ∙ ap (λ n. begins n kind high low following) is) ∙ (at_plain flags kind high low following lt long ∙ (few_plain kind following shorter ∙ ap (λ (x : V2Fault). Err x) (sym e)))
 fault_is octets f (inr (first, kind, high, low, following, text, inr (inr (inr (inr (flags, lt, is, long, shorter, e)))))) =
-    ap header_at (text ∙ ap (λ n. begins n kind high low following) is) ∙ (at_teid flags kind high low following lt long ∙ (few_teid (72 + flags) kind following shorter ∙ ap (λ (x : V2Fault). Err x) (sym e)))
+    ap header_at (text ∙ ap (λ n. begins n kind high low following) is)
+    ∙ (at_teid flags kind high low following lt long ∙ (few_teid (72 + flags) kind following shorter ∙ ap (λ (x : V2Fault). Err x) (sym e)))
 
 -- ---- each list of octets is a header or at fault
 
@@ -145,7 +148,18 @@ sorted_teid flags kind high low following lt e = elim (cases_lt (length followin
 
 by_length : (first kind high low : ℕ) (following : List ℕ) → 64 ≤ first → first < 80 → (b : Bool) → (256 * high + low == length following) ≡ b → Sorted (begins first kind high low following)
 by_length first kind high low following le lt false t =
-    inr (faults.Length (256 * high + low) (length following), inr (first, kind, high, low, following, refl, inr (inr (inl (first - 64, omega arith, omega arith, (λ e. absurd (unequal (256 * high + low) (length following) t e)), refl)))))
+    inr (
+      faults.Length (256 * high + low) (length following),
+      inr (
+        first,
+        kind,
+        high,
+        low,
+        following,
+        refl,
+        inr (inr (inl (first - 64, omega arith, omega arith, (λ e. absurd (unequal (256 * high + low) (length following) t e)), refl))),
+      ),
+    )
 by_length first kind high low following le lt true t =
     let e : 256 * high + low ≡ length following = eqb-true _ _ t in
     elim (cases_lt first 72) [

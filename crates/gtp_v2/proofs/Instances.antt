@@ -55,7 +55,8 @@ told_small at (row_faults.Element fault) small = small
 group_small : (accepting : Bool) (rows : List Row) (e : Element) (f : RowFault) → all_small rows ≡ true → GroupFails accepting rows e f → RowInstanceIsSmall f
 group_small accepting rows e f all fails = subst RowInstanceIsSmall (sym fails.2) (told_small e.at fails.0 (inner_small accepting rows e fails.0 all fails.1))
 
-some_small : {X : Type 0} (Is : Element → X → Type 0) (Fails : Element → RowFault → Type 0) (es : List Element) (f : RowFault) → ((e : Element) → Fails e f → RowInstanceIsSmall f) → SomeFails Is Fails es f → RowInstanceIsSmall f
+some_small : {X : Type 0} (Is : Element → X → Type 0) (Fails : Element → RowFault → Type 0) (es : List Element) (f : RowFault)
+    → ((e : Element) → Fails e f → RowInstanceIsSmall f) → SomeFails Is Fails es f → RowInstanceIsSmall f
 some_small Is Fails [] f each fails = absurd fails
 some_small Is Fails (e ∷ es) f each fails = elim fails [ inl first ↦ each e first | inr later ↦ some_small Is Fails es f each later.2 ]
 

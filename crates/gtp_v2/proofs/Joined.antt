@@ -95,7 +95,8 @@ module _ (flags kind high low : ℕ) (following back : List ℕ) (small : flags 
       subst (IsDatagramFault (opened (80 + flags) kind high low (take k (following ++ back)))) (is ∙ short_of_first (4 + k) (length whole_first) (length back) (omega (arith, lt)))
       (inr (inl (flags, kind, high, low, take k (following ++ back), (small, refl), omega (arith, lt, len, long), refl)))
 
-  second_fails : (b : MessageValue) (j : ℕ) → IsMessage back b → j < length back → SecondFails (length whole_first) (take j back) (pair_prefix_fault (length whole_first + j) (length whole_first) (length back))
+  second_fails : (b : MessageValue) (j : ℕ) → IsMessage back b → j < length back
+      → SecondFails (length whole_first) (take j back) (pair_prefix_fault (length whole_first + j) (length whole_first) (length back))
   second_fails b zero is lt = inl (refl, sym (at_its_end (length whole_first + 0) (length whole_first) (length back) (omega arith)))
   second_fails b (suc j) is lt =
       inr (
@@ -110,7 +111,12 @@ module _ (flags kind high low : ℕ) (following back : List ℕ) (small : flags 
   in_second : (a b : MessageValue) (j : ℕ) → IsMessage whole_first a → IsMessage back b → j < length back
       → IsDatagramFault (opened (80 + flags) kind high low (take (length following + j) (following ++ back))) (pair_prefix_fault (length whole_first + j) (length whole_first) (length back))
   in_second a b j first second lt =
-      inr (inr (whole_first, take j back, (flags, kind, high, low, following, (small, ap (opened (80 + flags) kind high low) (take-append-add following back j)), long, refl), inr (a, first, second_fails b j second lt)))
+      inr (inr (
+        whole_first,
+        take j back,
+        (flags, kind, high, low, following, (small, ap (opened (80 + flags) kind high low) (take-append-add following back j)), long, refl),
+        inr (a, first, second_fails b j second lt),
+      ))
 
   after_four : (a b : MessageValue) (k : ℕ) → IsMessage whole_first a → IsMessage back b → k < length (following ++ back)
       → IsDatagramFault (opened (80 + flags) kind high low (take k (following ++ back))) (pair_prefix_fault (4 + k) (length whole_first) (length back))
@@ -120,7 +126,8 @@ module _ (flags kind high low : ℕ) (following back : List ℕ) (small : flags 
         let j : length following + (k - length following) ≡ k = omega (arith, over) in
         let n : length whole_first + (k - length following) ≡ 4 + k = omega (arith, over) in
         subst (λ n. IsDatagramFault (opened (80 + flags) kind high low (take k (following ++ back))) (pair_prefix_fault n (length whole_first) (length back))) n
-        (subst (λ i. IsDatagramFault (opened (80 + flags) kind high low (take i (following ++ back))) (pair_prefix_fault (length whole_first + (k - length following)) (length whole_first) (length back))) j
+        (subst (λ i. IsDatagramFault (opened (80 + flags) kind high low (take i (following ++ back)))
+        (pair_prefix_fault (length whole_first + (k - length following)) (length whole_first) (length back))) j
         (in_second a b (k - length following) first second (omega (arith, over, lt, length-append following back))))
   ]
 
@@ -132,9 +139,13 @@ module _ (flags kind high low : ℕ) (following back : List ℕ) (small : flags 
   cut_at a b (suc (suc (suc zero))) first second lt = few_octets ((80 + flags) ∷ kind ∷ high ∷ []) (length whole_first) (length back) (omega arith) (omega arith)
   cut_at a b (suc (suc (suc (suc k)))) first second lt =
       let n : 4 + k ≡ suc (suc (suc (suc k))) = omega arith in
-      subst (λ n. IsDatagramFault (opened (80 + flags) kind high low (take k (following ++ back))) (pair_prefix_fault n (length whole_first) (length back))) n (after_four a b k first second (omega (arith, lt)))
+      subst
+      (λ n. IsDatagramFault (opened (80 + flags) kind high low (take k (following ++ back))) (pair_prefix_fault n (length whole_first) (length back)))
+      n (after_four a b k first second (omega (arith, lt)))
 
-pub pair_prefixes_fail : (octets front back : List ℕ) (a b : MessageValue) (n : ℕ) → Announces octets front back → IsMessage front a → IsMessage back b → n < length octets → IsDatagramFault (take n octets) (pair_prefix_fault n (length front) (length back))
+pub pair_prefixes_fail :
+    (octets front back : List ℕ) (a b : MessageValue) (n : ℕ) → Announces octets front back → IsMessage front a → IsMessage back b → n < length octets
+    → IsDatagramFault (take n octets) (pair_prefix_fault n (length front) (length back))
 pair_prefixes_fail octets front back a b n (flags, kind, high, low, following, (small, text), long, is) first second lt =
     subst (λ xs. IsDatagramFault (take n xs) (pair_prefix_fault n (length front) (length back))) (sym text)
     (subst (λ xs. IsDatagramFault (take n (opened (80 + flags) kind high low (following ++ back))) (pair_prefix_fault n (length xs) (length back))) (sym is)
@@ -142,6 +153,7 @@ pair_prefixes_fail octets front back a b n (flags, kind, high, low, following, (
 
 -- ---- what is read of two messages has the marks of each
 
-pub both_again : (a b : MessageValue) (r : Result (Vec ℕ) V2Fault) → IfOk r (λ octets. MeetsMarks a → MeetsMarks b → IsDatagram octets.items (both a b)) → IfOk r (λ octets. (MeetsMarks a × MeetsMarks b) ↔ IsDatagram octets.items (both a b))
+pub both_again : (a b : MessageValue) (r : Result (Vec ℕ) V2Fault) → IfOk r (λ octets. MeetsMarks a → MeetsMarks b → IsDatagram octets.items (both a b))
+    → IfOk r (λ octets. (MeetsMarks a × MeetsMarks b) ↔ IsDatagram octets.items (both a b))
 both_again a b (Err f) again = tt
 both_again a b (Ok octets) again = ((λ m. again m.0 m.1), datagram_marked octets.items (both a b))

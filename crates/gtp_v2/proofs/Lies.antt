@@ -40,7 +40,8 @@ pub no_second : (place : ℕ) (octets : List ℕ) → octets ≡ [] → second_a
 no_second place octets none = λ i. second_at place (none i)
 
 -- the first message lies in its own octets, and the second in those after them
-pub lie_both : (first kind high low : ℕ) (held : List ℕ) → first / 16 ≡ 5 → 256 * high + low ≤ length held → (a b : Viewed) → LiesIn (opened (first - 16) kind high low (take (256 * high + low) held)) a → LiesIn (drop (256 * high + low) held) b
+pub lie_both : (first kind high low : ℕ) (held : List ℕ) → first / 16 ≡ 5 → 256 * high + low ≤ length held → (a b : Viewed)
+    → LiesIn (opened (first - 16) kind high low (take (256 * high + low) held)) a → LiesIn (drop (256 * high + low) held) b
     → LieIn (opened first kind high low held) a (Some b) (drop (256 * high + low) held)
 lie_both first kind high low held five le a b la lb =
     let is : 80 + (first - 80) ≡ first = omega (arith, five) in
@@ -66,7 +67,8 @@ reads_so octets h elements headed inv =
 pub fails_so : (octets : List ℕ) (h : Headed) (f : V2Fault) → header_at octets ≡ Ok h → forgotten (content_at h) ≡ Err f → message_at octets ≡ Err f
 unfolding message_at
 fails_so octets h f headed fails =
-    bind_at (header_at octets) (λ x. content_at x >>= λ content. Ok (with_content x content)) h headed ∙ bind_at_err (content_at h) (λ content. Ok (with_content h content)) f (was_fault (content_at h) f fails)
+    bind_at (header_at octets) (λ x. content_at x >>= λ content. Ok (with_content x content)) h headed
+    ∙ bind_at_err (content_at h) (λ content. Ok (with_content h content)) f (was_fault (content_at h) f fails)
 
 pub viewed_lies : (octets : List ℕ) (h : Headed) (elements : Option (List Element)) → header_at octets ≡ Ok h → IsViewed h elements → LiesIn octets (viewed h elements)
 viewed_lies octets h elements headed inv = lies_one (viewed h elements) octets (reads_so octets h elements headed inv) (followed octets h elements headed) (carried octets h elements headed inv)

@@ -19,9 +19,11 @@ each_value kind instance [] values h = ok_same RowFault [] values h
 each_value kind instance (e ∷ es) values h =
     let b = bind_ok (one_at kind instance e) (λ first. each_at (one_at kind instance) es >>= λ others. done RowFault (first ∷ others)) values h in
     let d = bind_ok (each_at (one_at kind instance) es) (λ others. done RowFault (b.0 ∷ others)) values b.2 in
-    ap (λ (o : Option Value). option_to_list o ++ values_of kind es) (one_is kind instance e b.0 b.1) ∙ ap (λ others. b.0 ∷ others) (each_value kind instance es d.0 d.1) ∙ ok_same RowFault (b.0 ∷ d.0) values d.2
+    ap (λ (o : Option Value). option_to_list o ++ values_of kind es) (one_is kind instance e b.0 b.1)
+    ∙ ap (λ others. b.0 ∷ others) (each_value kind instance es d.0 d.1) ∙ ok_same RowFault (b.0 ∷ d.0) values d.2
 
-kept_are : (needed : Bool) (kind missed : ℕ) (r : Result (List Value) RowFault) (values : List Value) → (r >>= λ vs. if length vs == 0 then no_value needed kind missed else Ok vs) ≡ Ok values → r ≡ Ok values
+kept_are : (needed : Bool) (kind missed : ℕ) (r : Result (List Value) RowFault) (values : List Value)
+    → (r >>= λ vs. if length vs == 0 then no_value needed kind missed else Ok vs) ≡ Ok values → r ≡ Ok values
 kept_are true kind missed (Ok []) values h = absurd cc
 kept_are false kind missed (Ok []) values h = h
 kept_are needed kind missed (Ok (v ∷ vs)) values h = by_length (length (v ∷ vs) == 0) (search rules) h where
@@ -30,13 +32,15 @@ kept_are needed kind missed (Ok (v ∷ vs)) values h = by_length (length (v ∷ 
   by_length false is h = h
 kept_are needed kind missed (Err f) values h = absurd cc
 
-list_found : (kind instance : ℕ) (es : List Element) (line : Line) (field : Field) (state : State) → line_at state line es ≡ Ok field → is_list kind instance line ≡ true → values_of kind (all_of kind instance es) ≡ plain_of field
+list_found : (kind instance : ℕ) (es : List Element) (line : Line) (field : Field) (state : State) → line_at state line es ≡ Ok field
+    → is_list kind instance line ≡ true → values_of kind (all_of kind instance es) ≡ plain_of field
 unfolding several_at
 list_found kind instance es (Several k i missed) field state one same =
     let of = all_of k i es in
     let g = bind_ok (several_at state.silent k i missed es) (λ vs. done RowFault (Plain vs)) field one in
     let p = both_same k kind i instance same in
-    (λ j. values_of (sym p.0 j) (all_of (sym p.0 j) (sym p.1 j) es)) ∙ each_value k i of g.0 (kept_are state.silent k missed (values_at k i of) g.0 g.1) ∙ ap plain_of (ok_same RowFault (Plain g.0) field g.2)
+    (λ j. values_of (sym p.0 j) (all_of (sym p.0 j) (sym p.1 j) es))
+    ∙ each_value k i of g.0 (kept_are state.silent k missed (values_at k i of) g.0 g.1) ∙ ap plain_of (ok_same RowFault (Plain g.0) field g.2)
 list_found kind instance es (Single row) field state one same = absurd cc
 list_found kind instance es (Grouped row rows) field state one same = absurd cc
 

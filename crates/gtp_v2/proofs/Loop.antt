@@ -34,7 +34,8 @@ ends read f front e es left total split h so_far =
     sym so_far ∙ one
 
 -- no element is left
-pub is_done : {X : Type 0} (read : Element → Result X RowFault) (front : List X) (left : List Element) (total : Result (List X) RowFault) → left ≡ [] → with_front front (each_at read left) ≡ total → total ≡ Ok front
+pub is_done : {X : Type 0} (read : Element → Result X RowFault) (front : List X) (left : List Element) (total : Result (List X) RowFault) → left ≡ []
+    → with_front front (each_at read left) ≡ total → total ≡ Ok front
 unfolding each_at
 is_done {X = X} read front left total none so_far =
     let one : with_front front (each_at read left) ≡ Ok front = rw none (ap (λ (xs : List X). Ok xs) (append-nil front)) in
@@ -66,21 +67,25 @@ gathers_one {X = X} read items e es left total split all so_far =
     by_first (Err f) others h = h
 
 -- and then there is some
-pub gathers_some : {X : Type 0} (Has : List X → Type 0) (has : (x : X) (xs : List X) → Has (x ∷ xs)) (read : Element → Result X RowFault) (items : List X) (e : Element) (es left : List Element) (total : Result (List X) RowFault)
+pub gathers_some : {X : Type 0} (Has : List X → Type 0) (has : (x : X) (xs : List X) → Has (x ∷ xs)) (read : Element → Result X RowFault) (items : List X)
+    (e : Element) (es left : List Element) (total : Result (List X) RowFault)
     → left ≡ e ∷ es → IsOk total → Gathers read items left total → IsOkAnd total Has
 unfolding each_at
 gathers_some {X = X} Has has read items e es left total split all so_far =
     let same : with_front items (read e >>= λ first. each_at read es >>= λ xs. Ok (first ∷ xs)) ≡ total = ap (λ (es : List Element). with_front items (each_at read es)) (sym split) ∙ so_far in
     subst (λ (r : Result (List X) RowFault). IsOkAnd r Has) same (by_first items (read e) (each_at read es) (subst (λ (r : Result (List X) RowFault). IsOk r) (sym same) all))
   where
-    by_first : (front : List X) (r : Result X RowFault) (others : Result (List X) RowFault) → IsOk (with_front front (r >>= λ first. others >>= λ xs. Ok (first ∷ xs))) → IsOkAnd (with_front front (r >>= λ first. others >>= λ xs. Ok (first ∷ xs))) Has
+    by_first : (front : List X) (r : Result X RowFault) (others : Result (List X) RowFault)
+        → IsOk (with_front front (r >>= λ first. others >>= λ xs. Ok (first ∷ xs)))
+        → IsOkAnd (with_front front (r >>= λ first. others >>= λ xs. Ok (first ∷ xs))) Has
     by_first [] (Ok x) (Ok xs) h = has x xs
     by_first (y ∷ ys) (Ok x) (Ok xs) h = has y (ys ++ x ∷ xs)
     by_first front (Ok x) (Err f) h = absurd cc
     by_first front (Err f) others h = absurd cc
 
 -- one that was appended
-pub appended : {C X E : Type 0} (view : C → X) (before : List C) (one : C) (outcome : Result X E) (after : List C) → after ≡ before ++ one ∷ [] → outcome ≡ Ok (view one) → IsAppended view before outcome after
+pub appended : {C X E : Type 0} (view : C → X) (before : List C) (one : C) (outcome : Result X E) (after : List C) → after ≡ before ++ one ∷ []
+    → outcome ≡ Ok (view one) → IsAppended view before outcome after
 appended view before one outcome after items gives = rw (items, gives) (map_push (λ c. Ok (view c)) before one)
 
 -- an element that reads, whose reading was appended

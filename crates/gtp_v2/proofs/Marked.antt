@@ -10,7 +10,8 @@ use Rattle.gtp_ie.specs.Octets.{AreElements}
 use Rattle.gtp_ie.specs.Text.{element_encoding}
 use Rattle.gtp_ie.specs.Value.{Value, encoding_of}
 use Rattle.gtp_values.proofs.Tests.{both}
-use Rattle.gtp_v2.specs.Table.{Row, Mandatory, Conditional, Accepted, Optional, Line, Single, Grouped, Several, Field, Plain, Groups, State, start, Table, accepts, after, need_of, kind_of, instance_of}
+use Rattle.gtp_v2.specs.Table.{Row, Mandatory, Conditional, Accepted, Optional, Line, Single, Grouped, Several, Field, Plain, Groups, State, start}
+use Rattle.gtp_v2.specs.Table.{Table, accepts, after, need_of, kind_of, instance_of}
 use Rattle.gtp_v2.specs.reading.Rows.{whole, lines_at}
 use Rattle.gtp_v2.specs.Grammar.{IsEnough, LinesAre}
 use Rattle.gtp_v2.specs.Text.{value_encoding, rows_encoding, groups_encoding, several_encoding, line_encoding, lines_encoding}
@@ -45,7 +46,8 @@ row_meets true (Accepted kind instance) values there m = alone kind values there
 row_meets false (Accepted kind instance) values there m = m
 row_meets accepting (Optional kind instance) values there m = m
 
-rows_meet : (accepting : Bool) (rows : List Row) (all : List (List Value)) → RowsMarked accepting rows all → RowsHaveKinds rows all → all_small rows ≡ true → length (rows_encoding rows all) < 65536 → RowsMeet accepting rows all
+rows_meet : (accepting : Bool) (rows : List Row) (all : List (List Value)) → RowsMarked accepting rows all → RowsHaveKinds rows all → all_small rows ≡ true
+    → length (rows_encoding rows all) < 65536 → RowsMeet accepting rows all
 rows_meet accepting [] [] marked have small short = refl
 rows_meet accepting [] (values ∷ others) marked have small short = absurd have
 rows_meet accepting (row ∷ rows) [] marked have small short = absurd have
@@ -57,7 +59,8 @@ rows_meet accepting (row ∷ rows) (values ∷ others) marked have small short =
 
 -- ---- lines
 
-groups_meet : (kind instance : ℕ) (accepting : Bool) (rows : List Row) (groups : List (List (List Value))) → AllByRecursion (RowsMarked accepting rows) groups → AllByRecursion (RowsHaveKinds rows) groups → all_small rows ≡ true
+groups_meet : (kind instance : ℕ) (accepting : Bool) (rows : List Row) (groups : List (List (List Value))) → AllByRecursion (RowsMarked accepting rows) groups
+    → AllByRecursion (RowsHaveKinds rows) groups → all_small rows ≡ true
     → length (groups_encoding kind instance rows groups) < 65536 → AllByRecursion (GroupMeets accepting rows) groups
 unfolding groups_encoding
 groups_meet kind instance accepting rows [] marked have small short = tt
@@ -73,7 +76,8 @@ values_meet kind instance (v ∷ vs) have short =
     let long = length-append (element_encoding kind instance (encoding_of v)) (several_encoding kind instance vs) in
     (record { again = have.0; short = omega arith }, values_meet kind instance vs have.1 (omega arith))
 
-line_meets : (state : State) (line : Line) (field : Field) → LineMarked state line field → LineHasKind line field → fits line ≡ true → length (line_encoding line field) < 65536 → LineMeets state line field
+line_meets : (state : State) (line : Line) (field : Field) → LineMarked state line field → LineHasKind line field → fits line ≡ true
+    → length (line_encoding line field) < 65536 → LineMeets state line field
 line_meets state (Single row) (Plain values) marked have fit short =
     (row_meets state.accepting row values marked (at_most_alone (kind_of row) (instance_of row) values have short), ltb-true _ _ fit)
 line_meets state (Single row) (Groups groups) marked have fit short = absurd have
@@ -88,7 +92,8 @@ line_meets state (Several kind instance missed) (Plain values) marked have fit s
     (values_meet kind instance values (recursion_from_All (HasKind kind) values have) short, marked, ltb-true _ _ (both (ltb instance 16) (ltb missed 16) fit).left)
 line_meets state (Several kind instance missed) (Groups groups) marked have fit short = absurd have
 
-lines_meet : (state : State) (lines : List Line) (fields : List Field) → LinesMarked state lines fields → LinesHaveKinds lines fields → all_fit lines ≡ true → length (lines_encoding lines fields) < 65536 → LinesMeet state lines fields
+lines_meet : (state : State) (lines : List Line) (fields : List Field) → LinesMarked state lines fields → LinesHaveKinds lines fields → all_fit lines ≡ true
+    → length (lines_encoding lines fields) < 65536 → LinesMeet state lines fields
 lines_meet state [] [] marked have fit short = refl
 lines_meet state [] (field ∷ fields) marked have fit short = absurd have
 lines_meet state (line ∷ lines) [] marked have fit short = absurd have
@@ -100,16 +105,20 @@ lines_meet state (line ∷ lines) (field ∷ fields) marked have fit short =
 -- ---- any table
 
 -- the canonical_encoding of its lines spells them
-pub lines_again : (at : ℕ) (lines : List Line) (fields : List Field) → is_table lines ≡ true → LinesHaveKinds lines fields → LinesMarked start lines fields → length (lines_encoding lines fields) < 65536
+pub lines_again : (at : ℕ) (lines : List Line) (fields : List Field) → is_table lines ≡ true → LinesHaveKinds lines fields → LinesMarked start lines fields
+    → length (lines_encoding lines fields) < 65536
     → (es : List Element) × AreElements at (lines_encoding lines fields) es × LinesAre start lines es fields
 lines_again at lines fields table have marked short =
     let p = both (lines_apart lines) (all_fit lines) table in
-    let b = bind_ok (whole (elements_of at (lines_encoding lines fields))) (λ es. lines_at start lines es) fields (fields_again at lines fields p.left (lines_meet start lines fields marked have p.right short)) in
+    let b =
+    bind_ok (whole (elements_of at (lines_encoding lines fields))) (λ es. lines_at start lines es) fields
+    (fields_again at lines fields p.left (lines_meet start lines fields marked have p.right short)) in
     (b.0, (whole_decided at (lines_encoding lines fields)).ok b.0 b.1, (lines_decided start lines b.0).ok fields b.2)
 
 -- ---- messages
 
-content_meets : (table : Option Table) (teid : Option ℕ) (content : Content) → ((t : Table) → table ≡ Some t → all_fit t.lines ≡ true) → ContentMarked table (is_some teid) content → ContentHasKinds table content → length (carried_by table content) < 65536
+content_meets : (table : Option Table) (teid : Option ℕ) (content : Content) → ((t : Table) → table ≡ Some t → all_fit t.lines ≡ true)
+    → ContentMarked table (is_some teid) content → ContentHasKinds table content → length (carried_by table content) < 65536
     → ContentMeets table teid content
 content_meets None teid (Raw octets) fit marked have short = tt
 content_meets None teid (Fields fields) fit marked have short = absurd have

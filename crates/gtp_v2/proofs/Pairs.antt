@@ -51,7 +51,8 @@ OneFails front place back = First_or_later (IsMessage front) (IsFault front) (λ
 pair_decided : (front : List ℕ) (place : ℕ) (back : List ℕ) → Decides (pair_at front place back) (AreBoth front back) (OneFails front place back)
 unfolding pair_at
 pair_decided front place back =
-    decide_bind (message_at front) (λ a. second_at place back >>= λ b. Ok (both a b)) (IsMessage front) (IsFault front) (λ a d. (b : MessageValue) × IsMessage back b × (d ≡ both a b)) (λ a. SecondFails place back)
+    decide_bind (message_at front) (λ a. second_at place back >>= λ b. Ok (both a b)) (IsMessage front) (IsFault front)
+    (λ a d. (b : MessageValue) × IsMessage back b × (d ≡ both a b)) (λ a. SecondFails place back)
     (message_decided front) (λ a. decide_map (second_at place back) (both a) (IsMessage back) (SecondFails place back) (second_decided place back))
 
 -- ---- one message alone
@@ -89,7 +90,8 @@ record Alike (flags kind high low : ℕ) (held : List ℕ) (others k h l : ℕ) 
   low_same : low ≡ l
   held_same : held ≡ xs
 
-alike : (flags kind high low : ℕ) (held : List ℕ) (others k h l : ℕ) (xs : List ℕ) → opened (80 + flags) kind high low held ≡ opened (80 + others) k h l xs → Alike flags kind high low held others k h l xs
+alike : (flags kind high low : ℕ) (held : List ℕ) (others k h l : ℕ) (xs : List ℕ)
+    → opened (80 + flags) kind high low held ≡ opened (80 + others) k h l xs → Alike flags kind high low held others k h l xs
 alike flags kind high low held others k h l xs text =
     let first : 80 + flags ≡ 80 + others = cc text in
     record { flags_same = omega (arith, first); kind_same = cc text; high_same = cc text; low_same = cc text; held_same = cc text }
@@ -100,7 +102,8 @@ module _ (flags kind high low : ℕ) (held : List ℕ) (small : flags < 16) wher
   unfolding message_at
   not_alone m is =
       apart m (faults.BadPiggyback 0) (sym ((message_decided (opened (80 + flags) kind high low held)).is m is)
-      ∙ bind_at_err (header_at (opened (80 + flags) kind high low held)) (λ h. content_at h >>= λ content. Ok (with_content h content)) (faults.BadPiggyback 0) (at_second flags kind high low held small))
+      ∙ bind_at_err (header_at (opened (80 + flags) kind high low held)) (λ h. content_at h >>= λ content. Ok (with_content h content))
+      (faults.BadPiggyback 0) (at_second flags kind high low held small))
 
   announced : IsUnannounced (opened (80 + flags) kind high low held) → ⊥
   announced none = none flags kind high low held (small, refl)
@@ -127,7 +130,16 @@ module _ (flags kind high low : ℕ) (held : List ℕ) (small : flags < 16) wher
 
   -- and so they are announced
   pub parts : 256 * high + low ≤ length held → Announces (opened (80 + flags) kind high low held) (opened (64 + flags) kind high low (take (256 * high + low) held)) (drop (256 * high + low) held)
-  parts le = (flags, kind, high, low, take (256 * high + low) held, (small, ap (opened (80 + flags) kind high low) (sym (take-append-drop (256 * high + low) held))), sym (length-take-le (256 * high + low) held le), refl)
+  parts le = (
+    flags,
+    kind,
+    high,
+    low,
+    take (256 * high + low) held,
+    (small, ap (opened (80 + flags) kind high low) (sym (take-append-drop (256 * high + low) held))),
+    sym (length-take-le (256 * high + low) held le),
+    refl,
+  )
 
   not_more : 256 * high + low ≤ length held → (f : V2Fault) → AnnouncesMore (opened (80 + flags) kind high low held) f → ⊥
   not_more le f (others, k, h, l, xs, (lt, text), more, is) =
@@ -140,28 +152,37 @@ module _ (flags kind high low : ℕ) (held : List ℕ) (small : flags < 16) wher
       is ∙ (λ i. faults.Length (256 * sym a.high_same i + sym a.low_same i) (length (sym a.held_same i)))
 
   whole_pair : 256 * high + low ≤ length held
-      → Decides (pair_at (opened (64 + flags) kind high low (take (256 * high + low) held)) (4 + (256 * high + low)) (drop (256 * high + low) held)) (IsDatagram (opened (80 + flags) kind high low held)) (IsDatagramFault (opened (80 + flags) kind high low held))
+      → Decides (pair_at (opened (64 + flags) kind high low (take (256 * high + low) held)) (4 + (256 * high + low)) (drop (256 * high + low) held))
+      (IsDatagram (opened (80 + flags) kind high low held)) (IsDatagramFault (opened (80 + flags) kind high low held))
   whole_pair le =
       let front = opened (64 + flags) kind high low (take (256 * high + low) held) in
       let back = drop (256 * high + low) held in
-      decide_as (pair_at front (4 + (256 * high + low)) back) (AreBoth front back) (IsDatagram (opened (80 + flags) kind high low held)) (OneFails front (4 + (256 * high + low)) back) (IsDatagramFault (opened (80 + flags) kind high low held))
-      (λ d p. inr (front, back, parts le, p)) to_both (λ f q. inr (inr (front, back, parts le, subst (λ k. OneFails front k back f) here q))) to_fault (pair_decided front (4 + (256 * high + low)) back)
+      decide_as (pair_at front (4 + (256 * high + low)) back) (AreBoth front back) (IsDatagram (opened (80 + flags) kind high low held))
+      (OneFails front (4 + (256 * high + low)) back) (IsDatagramFault (opened (80 + flags) kind high low held))
+      (λ d p. inr (front, back, parts le, p)) to_both (λ f q. inr (inr (front, back, parts le, subst (λ k. OneFails front k back f) here q))) to_fault
+      (pair_decided front (4 + (256 * high + low)) back)
     where
       here : 4 + (256 * high + low) ≡ length (opened (64 + flags) kind high low (take (256 * high + low) held))
       here = omega (arith, length-take-le (256 * high + low) held le)
 
-      to_both : (d : DatagramValue) → IsDatagram (opened (80 + flags) kind high low held) d → AreBoth (opened (64 + flags) kind high low (take (256 * high + low) held)) (drop (256 * high + low) held) d
+      to_both : (d : DatagramValue) → IsDatagram (opened (80 + flags) kind high low held) d
+          → AreBoth (opened (64 + flags) kind high low (take (256 * high + low) held)) (drop (256 * high + low) held) d
       to_both d (inl p) = absurd (not_alone p.0 p.1)
-      to_both d (inr (front, back, announces, are)) = subst (λ xs. AreBoth xs (drop (256 * high + low) held) d) (front_is front back announces) (subst (λ ys. AreBoth front ys d) (back_is front back announces) are)
+      to_both d (inr (front, back, announces, are)) =
+          subst (λ xs. AreBoth xs (drop (256 * high + low) held) d) (front_is front back announces)
+          (subst (λ ys. AreBoth front ys d) (back_is front back announces) are)
 
-      to_fault : (f : V2Fault) → IsDatagramFault (opened (80 + flags) kind high low held) f → OneFails (opened (64 + flags) kind high low (take (256 * high + low) held)) (4 + (256 * high + low)) (drop (256 * high + low) held) f
+      to_fault : (f : V2Fault) → IsDatagramFault (opened (80 + flags) kind high low held) f
+          → OneFails (opened (64 + flags) kind high low (take (256 * high + low) held)) (4 + (256 * high + low)) (drop (256 * high + low) held) f
       to_fault f (inl p) = absurd (announced p.0)
       to_fault f (inr (inl more)) = absurd (not_more le f more)
       to_fault f (inr (inr (front, back, announces, fails))) =
           subst (λ k. OneFails (opened (64 + flags) kind high low (take (256 * high + low) held)) k (drop (256 * high + low) held) f) (sym here)
-          (subst (λ xs. OneFails xs (length xs) (drop (256 * high + low) held) f) (front_is front back announces) (subst (λ ys. OneFails front (length front) ys f) (back_is front back announces) fails))
+          (subst (λ xs. OneFails xs (length xs) (drop (256 * high + low) held) f) (front_is front back announces)
+          (subst (λ ys. OneFails front (length front) ys f) (back_is front back announces) fails))
 
-  cut_pair : length held < 256 * high + low → Decides (cut_off (256 * high + low) (length held)) (IsDatagram (opened (80 + flags) kind high low held)) (IsDatagramFault (opened (80 + flags) kind high low held))
+  cut_pair : length held < 256 * high + low → Decides (cut_off (256 * high + low) (length held)) (IsDatagram (opened (80 + flags) kind high low held))
+      (IsDatagramFault (opened (80 + flags) kind high low held))
   cut_pair less = known_err (faults.Length (256 * high + low) (length held)) (IsDatagram (opened (80 + flags) kind high low held)) (IsDatagramFault (opened (80 + flags) kind high low held))
       (inr (inl (flags, kind, high, low, held, (small, refl), less, refl))) none one
     where
@@ -178,11 +199,15 @@ module _ (flags kind high low : ℕ) (held : List ℕ) (small : flags < 16) wher
   unfolding announced_at
   announced_decided = by_length (nat_le (256 * high + low) (length held)) refl where
     by_length : (b : Bool) → nat_le (256 * high + low) (length held) ≡ b
-        → Decides (cond b (pair_at (opened ((80 + flags) - 16) kind high low (take (256 * high + low) held)) (4 + (256 * high + low)) (drop (256 * high + low) held)) (cut_off (256 * high + low) (length held))) (IsDatagram (opened (80 + flags) kind high low held)) (IsDatagramFault (opened (80 + flags) kind high low held))
+        → Decides (cond b
+        (pair_at (opened ((80 + flags) - 16) kind high low (take (256 * high + low) held)) (4 + (256 * high + low)) (drop (256 * high + low) held))
+        (cut_off (256 * high + low) (length held))) (IsDatagram (opened (80 + flags) kind high low held))
+        (IsDatagramFault (opened (80 + flags) kind high low held))
     by_length true t =
         let le : 256 * high + low ≤ length held = grind (arith, nat_tests) in
         let first : 64 + flags ≡ (80 + flags) - 16 = omega arith in
-        subst (λ n. Decides (pair_at (opened n kind high low (take (256 * high + low) held)) (4 + (256 * high + low)) (drop (256 * high + low) held)) (IsDatagram (opened (80 + flags) kind high low held)) (IsDatagramFault (opened (80 + flags) kind high low held))) first (whole_pair le)
+        subst (λ n. Decides (pair_at (opened n kind high low (take (256 * high + low) held)) (4 + (256 * high + low)) (drop (256 * high + low) held))
+        (IsDatagram (opened (80 + flags) kind high low held)) (IsDatagramFault (opened (80 + flags) kind high low held))) first (whole_pair le)
     by_length false t = let less : length held < 256 * high + low = grind (arith, nat_tests) in cut_pair less
 
 -- ---- any octets
@@ -203,10 +228,13 @@ datagram_decided (a ∷ []) = alone_decided (a ∷ []) (few_unannounced (a ∷ [
 datagram_decided (a ∷ b ∷ []) = alone_decided (a ∷ b ∷ []) (few_unannounced (a ∷ b ∷ []) (omega arith))
 datagram_decided (a ∷ b ∷ c ∷ []) = alone_decided (a ∷ b ∷ c ∷ []) (few_unannounced (a ∷ b ∷ c ∷ []) (omega arith))
 datagram_decided (first ∷ kind ∷ high ∷ low ∷ held) = by_announcement (first / 16 == 5) refl where
-  by_announcement : (b : Bool) → (first / 16 == 5) ≡ b → Decides (cond b (announced_at first kind high low held) (alone_at (opened first kind high low held))) (IsDatagram (opened first kind high low held)) (IsDatagramFault (opened first kind high low held))
+  by_announcement : (b : Bool) → (first / 16 == 5) ≡ b → Decides (cond b (announced_at first kind high low held) (alone_at (opened first kind high low held)))
+      (IsDatagram (opened first kind high low held)) (IsDatagramFault (opened first kind high low held))
   by_announcement true t =
       let five : first / 16 ≡ 5 = same_number (first / 16) 5 t in
       let is : 80 + (first - 80) ≡ first = omega (arith, five) in
       let small : first - 80 < 16 = omega (arith, five) in
-      subst (λ n. Decides (announced_at n kind high low held) (IsDatagram (opened n kind high low held)) (IsDatagramFault (opened n kind high low held))) is (announced_decided (first - 80) kind high low held small)
+      subst
+      (λ n. Decides (announced_at n kind high low held) (IsDatagram (opened n kind high low held)) (IsDatagramFault (opened n kind high low held))) is
+      (announced_decided (first - 80) kind high low held small)
   by_announcement false t = alone_decided (opened first kind high low held) (other_unannounced first kind high low held t)

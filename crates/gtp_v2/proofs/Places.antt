@@ -104,7 +104,8 @@ told_within limit at (row_faults.Element fault) le within = within
 group_within : (accepting : Bool) (rows : List Row) (limit : ℕ) (e : Element) (f : RowFault) → e.at + 4 + length e.body ≤ limit → GroupFails accepting rows e f → IsWithin limit f
 group_within accepting rows limit e f end fails = subst (IsWithin limit) (sym fails.2) (told_within limit e.at fails.0 (omega (arith, end)) (inner_within accepting rows limit e fails.0 end fails.1))
 
-some_within : {X : Type 0} (Is : Element → X → Type 0) (Fails : Element → RowFault → Type 0) (limit : ℕ) (es : List Element) (f : RowFault) → ((e : Element) → e.at + 4 + length e.body ≤ limit → Fails e f → IsWithin limit f) → AllEnd limit es → SomeFails Is Fails es f → IsWithin limit f
+some_within : {X : Type 0} (Is : Element → X → Type 0) (Fails : Element → RowFault → Type 0) (limit : ℕ) (es : List Element) (f : RowFault)
+    → ((e : Element) → e.at + 4 + length e.body ≤ limit → Fails e f → IsWithin limit f) → AllEnd limit es → SomeFails Is Fails es f → IsWithin limit f
 some_within Is Fails limit [] f each all fails = absurd fails
 some_within Is Fails limit (e ∷ es) f each all fails = elim fails [ inl first ↦ each e all.0 first | inr later ↦ some_within Is Fails limit es f each all.1 later.2 ]
 
@@ -120,7 +121,8 @@ none_within needs.Conditional kind instance limit groups f none = subst (IsWithi
 line_within : (state : State) (line : Line) (limit : ℕ) (es : List Element) (f : RowFault) → AllEnd limit es → LineFails state line es f → IsWithin limit f
 line_within state (Single row) limit es f all fails = row_within state.accepting row limit es f all fails
 line_within state (Grouped row rows) limit es f all fails = elim fails [
-  | inl group ↦ some_within _ _ limit (all_of (kind_of row) (instance_of row) es) f (λ e. group_within state.accepting rows limit e f) (filter_end (is_of (kind_of row) (instance_of row)) limit es all) group
+  | inl group ↦ some_within _ _ limit (all_of (kind_of row) (instance_of row) es) f (λ e. group_within state.accepting rows limit e f)
+      (filter_end (is_of (kind_of row) (instance_of row)) limit es all) group
   | inr later ↦ none_within (need_of state.accepting row) (kind_of row) (instance_of row) limit later.0 f later.2
 ]
 line_within state (Several kind instance missed) limit es f all fails = elim fails [

@@ -4,7 +4,8 @@ use Rattle.std.specs.Bool.{Decides}
 use Rattle.std.specs.Cmp.Lexicographic.{bytes_decides}
 use Rattle.std.proofs.lemmas.Bool.Decides.{Decides-eqb}
 use Rattle.gtp_ie.specs.Value.{OfAmbr, OfApn, OfCause, OfChargingId, OfEbi, OfFTeid, OfImsi, OfPaa, OfPdnType, OfPlmn, OfPti, OfQos, OfRat, OfRecovery, OfSelection, OfTft}
-use Rattle.gtp_ie.proofs.Same.{ambr_same, apn_same, cause_same, charging_id_one, charging_id_same, ebi_one, ebi_same, fteid_same, imsi_same, paa_same, pdn_type_one, pdn_type_same, plmn_same, pti_one, pti_same, qos_same, rat_one, rat_same, recovery_one, recovery_same, selection_one, selection_same, tft_same}
+use Rattle.gtp_ie.proofs.Same.{ambr_same, apn_same, cause_same, charging_id_one, charging_id_same, ebi_one, ebi_same, fteid_same, imsi_same, paa_same, pdn_type_one, pdn_type_same}
+use Rattle.gtp_ie.proofs.Same.{plmn_same, pti_one, pti_same, qos_same, rat_one, rat_same, recovery_one, recovery_same, selection_one, selection_same, tft_same}
 use Rattle.gtp_v2.specs.declared.body.Body.{Body}
 use Rattle.gtp_v2.specs.declared.body.Body.TheVariants as bodies
 use Rattle.gtp_v2.specs.contracts.body.BodyPartialEq.TheImpl as body_eq
@@ -62,7 +63,9 @@ echo_request_same a b =
 pub echo_request_one : (a b : EchoRequest) → echo_request_fields a ≡ echo_request_fields b → a ≡ b
 echo_request_one a b e =
     let p0 : a.recovery ≡ b.recovery = row_one a.recovery b.recovery (λ x. OfRecovery x.0.0) recovery_one (plain_one (first_one e)) in
-    let whole : b ≡ record { recovery = a.recovery } = rw p0 refl in
+    let whole : b ≡ record {
+      recovery = a.recovery;
+    } = rw p0 refl in
     sym whole
 
 pub echo_response_same : (a b : EchoResponse) → Decides ((echo_response_eq.ghosts).eq a b) (echo_response_fields a ≡ echo_response_fields b)
@@ -72,7 +75,9 @@ echo_response_same a b =
 pub echo_response_one : (a b : EchoResponse) → echo_response_fields a ≡ echo_response_fields b → a ≡ b
 echo_response_one a b e =
     let p0 : a.recovery ≡ b.recovery = row_one a.recovery b.recovery (λ x. OfRecovery x.0.0) recovery_one (plain_one (first_one e)) in
-    let whole : b ≡ record { recovery = a.recovery } = rw p0 refl in
+    let whole : b ≡ record {
+      recovery = a.recovery;
+    } = rw p0 refl in
     sym whole
 
 pub version_not_supported_same : (a b : VersionNotSupported) → Decides ((version_not_supported_eq.ghosts).eq a b) (version_not_supported_fields a ≡ version_not_supported_fields b)
@@ -95,7 +100,11 @@ session_request_context_one a b e =
     let p1 : a.qos ≡ b.qos = row_one a.qos b.qos OfQos (λ x y d. cc) (first_one e1) in
     let e2 = others_one e1 in
     let p2 : a.user ≡ b.user = row_one a.user b.user OfFTeid (λ x y d. cc) (first_one e2) in
-    let whole : b ≡ record { ebi = a.ebi; qos = a.qos; user = a.user } = rw (p0, p1, p2) refl in
+    let whole : b ≡ record {
+      ebi = a.ebi;
+      qos = a.qos;
+      user = a.user;
+    } = rw (p0, p1, p2) refl in
     sym whole
 
 pub create_session_request_same : (a b : CreateSessionRequest) → Decides ((create_session_request_eq.ghosts).eq a b) (create_session_request_fields a ≡ create_session_request_fields b)
@@ -135,7 +144,19 @@ create_session_request_one a b e =
     let p9 : a.contexts ≡ b.contexts = list_one a.contexts b.contexts session_request_context_values session_request_context_one (groups_one (first_one e9)) in
     let e10 = others_one e9 in
     let p10 : a.recovery ≡ b.recovery = option_one a.recovery b.recovery (λ x. OfRecovery x.0.0) recovery_one (plain_one (first_one e10)) in
-    let whole : b ≡ record { imsi = a.imsi; rat = a.rat; serving_network = a.serving_network; control = a.control; apn = a.apn; selection = a.selection; pdn_type = a.pdn_type; paa = a.paa; ambr = a.ambr; contexts = a.contexts; recovery = a.recovery } = rw (p0, p1, p2, p3, p4, p5, p6, p7, p8, p9, p10) refl in
+    let whole : b ≡ record {
+      imsi = a.imsi;
+      rat = a.rat;
+      serving_network = a.serving_network;
+      control = a.control;
+      apn = a.apn;
+      selection = a.selection;
+      pdn_type = a.pdn_type;
+      paa = a.paa;
+      ambr = a.ambr;
+      contexts = a.contexts;
+      recovery = a.recovery;
+    } = rw (p0, p1, p2, p3, p4, p5, p6, p7, p8, p9, p10) refl in
     sym whole
 
 pub session_response_context_same : (a b : SessionResponseContext) → Decides ((session_response_context_eq.ghosts).eq a b) (session_response_context_values a ≡ session_response_context_values b)
@@ -157,7 +178,13 @@ session_response_context_one a b e =
     let p3 : a.qos ≡ b.qos = option_one a.qos b.qos OfQos (λ x y d. cc) (first_one e3) in
     let e4 = others_one e3 in
     let p4 : a.charging_id ≡ b.charging_id = option_one a.charging_id b.charging_id (λ x. OfChargingId x.0) charging_id_one (first_one e4) in
-    let whole : b ≡ record { ebi = a.ebi; cause = a.cause; user = a.user; qos = a.qos; charging_id = a.charging_id } = rw (p0, p1, p2, p3, p4) refl in
+    let whole : b ≡ record {
+      ebi = a.ebi;
+      cause = a.cause;
+      user = a.user;
+      qos = a.qos;
+      charging_id = a.charging_id;
+    } = rw (p0, p1, p2, p3, p4) refl in
     sym whole
 
 pub create_session_response_same : (a b : CreateSessionResponse) → Decides ((create_session_response_eq.ghosts).eq a b) (create_session_response_fields a ≡ create_session_response_fields b)
@@ -182,7 +209,14 @@ create_session_response_one a b e =
     let p4 : a.contexts ≡ b.contexts = list_one a.contexts b.contexts session_response_context_values session_response_context_one (groups_one (first_one e4)) in
     let e5 = others_one e4 in
     let p5 : a.recovery ≡ b.recovery = option_one a.recovery b.recovery (λ x. OfRecovery x.0.0) recovery_one (plain_one (first_one e5)) in
-    let whole : b ≡ record { cause = a.cause; control = a.control; paa = a.paa; ambr = a.ambr; contexts = a.contexts; recovery = a.recovery } = rw (p0, p1, p2, p3, p4, p5) refl in
+    let whole : b ≡ record {
+      cause = a.cause;
+      control = a.control;
+      paa = a.paa;
+      ambr = a.ambr;
+      contexts = a.contexts;
+      recovery = a.recovery;
+    } = rw (p0, p1, p2, p3, p4, p5) refl in
     sym whole
 
 pub delete_session_request_same : (a b : DeleteSessionRequest) → Decides ((delete_session_request_eq.ghosts).eq a b) (delete_session_request_fields a ≡ delete_session_request_fields b)
@@ -192,7 +226,9 @@ delete_session_request_same a b =
 pub delete_session_request_one : (a b : DeleteSessionRequest) → delete_session_request_fields a ≡ delete_session_request_fields b → a ≡ b
 delete_session_request_one a b e =
     let p0 : a.linked_ebi ≡ b.linked_ebi = option_one a.linked_ebi b.linked_ebi (λ x. OfEbi x.0) ebi_one (plain_one (first_one e)) in
-    let whole : b ≡ record { linked_ebi = a.linked_ebi } = rw p0 refl in
+    let whole : b ≡ record {
+      linked_ebi = a.linked_ebi;
+    } = rw p0 refl in
     sym whole
 
 pub delete_session_response_same : (a b : DeleteSessionResponse) → Decides ((delete_session_response_eq.ghosts).eq a b) (delete_session_response_fields a ≡ delete_session_response_fields b)
@@ -205,7 +241,10 @@ delete_session_response_one a b e =
     let p0 : a.cause ≡ b.cause = row_one a.cause b.cause OfCause (λ x y d. cc) (plain_one (first_one e)) in
     let e1 = others_one e in
     let p1 : a.recovery ≡ b.recovery = option_one a.recovery b.recovery (λ x. OfRecovery x.0.0) recovery_one (plain_one (first_one e1)) in
-    let whole : b ≡ record { cause = a.cause; recovery = a.recovery } = rw (p0, p1) refl in
+    let whole : b ≡ record {
+      cause = a.cause;
+      recovery = a.recovery;
+    } = rw (p0, p1) refl in
     sym whole
 
 pub bearer_request_context_same : (a b : BearerRequestContext) → Decides ((bearer_request_context_eq.ghosts).eq a b) (bearer_request_context_values a ≡ bearer_request_context_values b)
@@ -227,7 +266,13 @@ bearer_request_context_one a b e =
     let p3 : a.qos ≡ b.qos = row_one a.qos b.qos OfQos (λ x y d. cc) (first_one e3) in
     let e4 = others_one e3 in
     let p4 : a.charging_id ≡ b.charging_id = option_one a.charging_id b.charging_id (λ x. OfChargingId x.0) charging_id_one (first_one e4) in
-    let whole : b ≡ record { ebi = a.ebi; tft = a.tft; user = a.user; qos = a.qos; charging_id = a.charging_id } = rw (p0, p1, p2, p3, p4) refl in
+    let whole : b ≡ record {
+      ebi = a.ebi;
+      tft = a.tft;
+      user = a.user;
+      qos = a.qos;
+      charging_id = a.charging_id;
+    } = rw (p0, p1, p2, p3, p4) refl in
     sym whole
 
 pub create_bearer_request_same : (a b : CreateBearerRequest) → Decides ((create_bearer_request_eq.ghosts).eq a b) (create_bearer_request_fields a ≡ create_bearer_request_fields b)
@@ -243,7 +288,11 @@ create_bearer_request_one a b e =
     let p1 : a.linked_ebi ≡ b.linked_ebi = row_one a.linked_ebi b.linked_ebi (λ x. OfEbi x.0) ebi_one (plain_one (first_one e1)) in
     let e2 = others_one e1 in
     let p2 : a.contexts ≡ b.contexts = list_one a.contexts b.contexts bearer_request_context_values bearer_request_context_one (groups_one (first_one e2)) in
-    let whole : b ≡ record { pti = a.pti; linked_ebi = a.linked_ebi; contexts = a.contexts } = rw (p0, p1, p2) refl in
+    let whole : b ≡ record {
+      pti = a.pti;
+      linked_ebi = a.linked_ebi;
+      contexts = a.contexts;
+    } = rw (p0, p1, p2) refl in
     sym whole
 
 pub bearer_response_context_same : (a b : BearerResponseContext) → Decides ((bearer_response_context_eq.ghosts).eq a b) (bearer_response_context_values a ≡ bearer_response_context_values b)
@@ -262,7 +311,12 @@ bearer_response_context_one a b e =
     let p2 : a.serving_user ≡ b.serving_user = option_one a.serving_user b.serving_user OfFTeid (λ x y d. cc) (first_one e2) in
     let e3 = others_one e2 in
     let p3 : a.packet_user ≡ b.packet_user = option_one a.packet_user b.packet_user OfFTeid (λ x y d. cc) (first_one e3) in
-    let whole : b ≡ record { ebi = a.ebi; cause = a.cause; serving_user = a.serving_user; packet_user = a.packet_user } = rw (p0, p1, p2, p3) refl in
+    let whole : b ≡ record {
+      ebi = a.ebi;
+      cause = a.cause;
+      serving_user = a.serving_user;
+      packet_user = a.packet_user;
+    } = rw (p0, p1, p2, p3) refl in
     sym whole
 
 pub create_bearer_response_same : (a b : CreateBearerResponse) → Decides ((create_bearer_response_eq.ghosts).eq a b) (create_bearer_response_fields a ≡ create_bearer_response_fields b)
@@ -278,7 +332,11 @@ create_bearer_response_one a b e =
     let p1 : a.contexts ≡ b.contexts = list_one a.contexts b.contexts bearer_response_context_values bearer_response_context_one (groups_one (first_one e1)) in
     let e2 = others_one e1 in
     let p2 : a.recovery ≡ b.recovery = option_one a.recovery b.recovery (λ x. OfRecovery x.0.0) recovery_one (plain_one (first_one e2)) in
-    let whole : b ≡ record { cause = a.cause; contexts = a.contexts; recovery = a.recovery } = rw (p0, p1, p2) refl in
+    let whole : b ≡ record {
+      cause = a.cause;
+      contexts = a.contexts;
+      recovery = a.recovery;
+    } = rw (p0, p1, p2) refl in
     sym whole
 
 pub delete_bearer_request_same : (a b : DeleteBearerRequest) → Decides ((delete_bearer_request_eq.ghosts).eq a b) (delete_bearer_request_fields a ≡ delete_bearer_request_fields b)
@@ -291,7 +349,10 @@ delete_bearer_request_one a b e =
     let p0 : a.linked_ebi ≡ b.linked_ebi = option_one a.linked_ebi b.linked_ebi (λ x. OfEbi x.0) ebi_one (plain_one (first_one e)) in
     let e1 = others_one e in
     let p1 : a.ebis ≡ b.ebis = list_one a.ebis b.ebis (λ x. OfEbi x.0) ebi_one (plain_one (first_one e1)) in
-    let whole : b ≡ record { linked_ebi = a.linked_ebi; ebis = a.ebis } = rw (p0, p1) refl in
+    let whole : b ≡ record {
+      linked_ebi = a.linked_ebi;
+      ebis = a.ebis;
+    } = rw (p0, p1) refl in
     sym whole
 
 pub removal_response_context_same : (a b : RemovalResponseContext) → Decides ((removal_response_context_eq.ghosts).eq a b) (removal_response_context_values a ≡ removal_response_context_values b)
@@ -304,7 +365,10 @@ removal_response_context_one a b e =
     let p0 : a.ebi ≡ b.ebi = row_one a.ebi b.ebi (λ x. OfEbi x.0) ebi_one (first_one e) in
     let e1 = others_one e in
     let p1 : a.cause ≡ b.cause = row_one a.cause b.cause OfCause (λ x y d. cc) (first_one e1) in
-    let whole : b ≡ record { ebi = a.ebi; cause = a.cause } = rw (p0, p1) refl in
+    let whole : b ≡ record {
+      ebi = a.ebi;
+      cause = a.cause;
+    } = rw (p0, p1) refl in
     sym whole
 
 pub delete_bearer_response_same : (a b : DeleteBearerResponse) → Decides ((delete_bearer_response_eq.ghosts).eq a b) (delete_bearer_response_fields a ≡ delete_bearer_response_fields b)
@@ -323,7 +387,12 @@ delete_bearer_response_one a b e =
     let p2 : a.contexts ≡ b.contexts = list_one a.contexts b.contexts removal_response_context_values removal_response_context_one (groups_one (first_one e2)) in
     let e3 = others_one e2 in
     let p3 : a.recovery ≡ b.recovery = option_one a.recovery b.recovery (λ x. OfRecovery x.0.0) recovery_one (plain_one (first_one e3)) in
-    let whole : b ≡ record { cause = a.cause; linked_ebi = a.linked_ebi; contexts = a.contexts; recovery = a.recovery } = rw (p0, p1, p2, p3) refl in
+    let whole : b ≡ record {
+      cause = a.cause;
+      linked_ebi = a.linked_ebi;
+      contexts = a.contexts;
+      recovery = a.recovery;
+    } = rw (p0, p1, p2, p3) refl in
     sym whole
 
 -- the type of a body that has a table

@@ -47,7 +47,8 @@ one_end es (Some x) (Some y) p q =
 pub sender_is : (kind : ℕ) (es : List Element) → SenderIs kind es (sender_of kind es)
 unfolding sender_of optional_at
 sender_is kind es = by_kind (kind == 32) where
-  by_kind : (b : Bool) → cond b (EndIs es (cond b (end_in (welcome (number_of forms.FTeid) (first_of (number_of forms.FTeid) 0 es))) None)) (cond b (end_in (welcome (number_of forms.FTeid) (first_of (number_of forms.FTeid) 0 es))) None ≡ None)
+  by_kind : (b : Bool) → cond b (EndIs es (cond b (end_in (welcome (number_of forms.FTeid) (first_of (number_of forms.FTeid) 0 es))) None))
+      (cond b (end_in (welcome (number_of forms.FTeid) (first_of (number_of forms.FTeid) 0 es))) None ≡ None)
   by_kind true = end_is es (first_of (number_of forms.FTeid) 0 es) refl
   by_kind false = refl
 

@@ -46,7 +46,8 @@ some_first [] some = absurd (some refl)
 some_first (first ∷ further) some = (first, further, refl)
 
 -- and where there always is a bearer context there is one
-pub has_context : (octets : List ℕ) (m : MessageValue) → IsMessage octets m → always_has_context m.kind ≡ true → (first : List (List Value)) × (further : List (List (List Value))) × (contexts_of m ≡ first ∷ further)
+pub has_context : (octets : List ℕ) (m : MessageValue) → IsMessage octets m → always_has_context m.kind ≡ true
+    → (first : List (List Value)) × (further : List (List (List Value))) × (contexts_of m ≡ first ∷ further)
 has_context octets m is always =
     let s = seen_of octets m is in
     some_first (contexts_of m) (λ none. some_context s.0 s.2 (ap (λ (n : MessageValue). always_has_context n.kind) s.1 ∙ always) (ap contexts_of s.1 ∙ none))

@@ -34,9 +34,12 @@ use Rattle.gtp_v2.specs.Datagram.{FieldsAre, ListFails, FieldsFail, CarriesBy, F
 use Rattle.gtp_v2.proofs.Decided.{whole_decided, lines_decided}
 use Rattle.gtp_v2.proofs.Senders.{sender_is, sender_only}
 
-told_decided : {X : Type 0} (head : Head) (r : Result X RowFault) (P : X → Type 0) (F : RowFault → Type 0) → Decides r P F → Decides (told head r) P (λ f. (g : RowFault) × F g × (f ≡ with_head head g))
+told_decided : {X : Type 0} (head : Head) (r : Result X RowFault) (P : X → Type 0) (F : RowFault → Type 0) → Decides r P F
+    → Decides (told head r) P (λ f. (g : RowFault) × F g × (f ≡ with_head head g))
 told_decided head (Ok x) P F d = known_ok x P (λ f. (g : RowFault) × F g × (f ≡ with_head head g)) (d.ok x refl) (λ y p. sym (ok_same RowFault x y (d.is y p))) (λ f q. apart x q.0 (d.fails q.0 q.1))
-told_decided {X = X} head (Err e) P F d = known_err (with_head head e) P (λ f. (g : RowFault) × F g × (f ≡ with_head head g)) (e, d.err e refl, refl) (λ y p. apart y e (sym (d.is y p))) (λ f q. q.2 ∙ ap (λ (g : RowFault). with_head head g) (sym (err_same X e q.0 (d.fails q.0 q.1))))
+told_decided {X = X} head (Err e) P F d =
+    known_err (with_head head e) P (λ f. (g : RowFault) × F g × (f ≡ with_head head g)) (e, d.err e refl, refl) (λ y p. apart y e (sym (d.is y p)))
+    (λ f q. q.2 ∙ ap (λ (g : RowFault). with_head head g) (sym (err_same X e q.0 (d.fails q.0 q.1))))
 
 -- the list of elements, told with no sender
 list_decided : (h : Headed) → Decides (told (head_of h None) (whole (elements_of h.at h.rest))) (AreElements h.at h.rest) (ListFails h)
@@ -76,14 +79,24 @@ unfolding typed_at list_at
 content_decided None h = known_ok (Raw h.rest) (CarriesBy None h) (FailsBy None h) refl (λ c p. p) (λ f q. q)
 content_decided (Some table) h = by_flag (beq (is_some h.teid) table.has_teid) refl where
   by_flag : (b : Bool) → beq (is_some h.teid) table.has_teid ≡ b
-      → Decides ((cond b (told (head_of h None) (whole (elements_of h.at h.rest))) (Err (faults.FlagT h.kind)) >>= λ es. fields_at table.lines h es) >>= λ fields. Ok (Fields fields)) (CarriesBy (Some table) h) (FailsBy (Some table) h)
+      → Decides
+      ((cond b (told (head_of h None) (whole (elements_of h.at h.rest))) (Err (faults.FlagT h.kind)) >>= λ es. fields_at table.lines h es) >>=
+      λ fields. Ok (Fields fields)) (CarriesBy (Some table) h) (FailsBy (Some table) h)
   by_flag true s =
-      decide_as (told (head_of h None) (whole (elements_of h.at h.rest)) >>= (λ es. told (head_of h (sender_of h.kind es)) (lines_at start table.lines es)) >>= λ fields. Ok (Fields fields)) (λ c. (fields : List Field) × FieldsAre table.lines h fields × (c ≡ Fields fields)) (CarriesBy (Some table) h)
+      decide_as
+      (told (head_of h None) (whole (elements_of h.at h.rest)) >>= (λ es. told (head_of h (sender_of h.kind es)) (lines_at start table.lines es)) >>=
+      λ fields. Ok (Fields fields)) (λ c. (fields : List Field) × FieldsAre table.lines h fields × (c ≡ Fields fields)) (CarriesBy (Some table) h)
       (First_or_later (AreElements h.at h.rest) (ListFails h) (FieldsFail table.lines h)) (FailsBy (Some table) h)
       (λ c p. (same _ _ s, p.0, p.1, p.2)) (λ c p. (p.1, p.2, p.3)) (λ f p. inr (same _ _ s, p)) (λ f q. elim q [ inl p ↦ absurd (p.0 (same _ _ s)) | inr p ↦ p.1 ])
-      (decide_map (told (head_of h None) (whole (elements_of h.at h.rest)) >>= λ es. told (head_of h (sender_of h.kind es)) (lines_at start table.lines es)) (λ fields. Fields fields) (FieldsAre table.lines h) (First_or_later (AreElements h.at h.rest) (ListFails h) (FieldsFail table.lines h))
-      (decide_bind (told (head_of h None) (whole (elements_of h.at h.rest))) (λ es. told (head_of h (sender_of h.kind es)) (lines_at start table.lines es)) (AreElements h.at h.rest) (ListFails h) (λ es. LinesAre start table.lines es) (λ es. FieldsFail table.lines h es) (list_decided h) (λ es. fields_decided table.lines h es)))
-  by_flag false s = known_err (faults.FlagT h.kind) (CarriesBy (Some table) h) (FailsBy (Some table) h) (inl (other _ _ s, refl)) (λ c p. absurd (other _ _ s p.0)) (λ f q. elim q [ inl p ↦ p.1 | inr p ↦ absurd (other _ _ s p.0) ])
+      (decide_map (told (head_of h None) (whole (elements_of h.at h.rest)) >>= λ es. told (head_of h (sender_of h.kind es))
+      (lines_at start table.lines es)) (λ fields. Fields fields) (FieldsAre table.lines h)
+      (First_or_later (AreElements h.at h.rest) (ListFails h) (FieldsFail table.lines h))
+      (decide_bind (told (head_of h None) (whole (elements_of h.at h.rest)))
+      (λ es. told (head_of h (sender_of h.kind es)) (lines_at start table.lines es)) (AreElements h.at h.rest) (ListFails h)
+      (λ es. LinesAre start table.lines es) (λ es. FieldsFail table.lines h es) (list_decided h) (λ es. fields_decided table.lines h es)))
+  by_flag false s =
+      known_err (faults.FlagT h.kind) (CarriesBy (Some table) h) (FailsBy (Some table) h) (inl (other _ _ s, refl)) (λ c p. absurd (other _ _ s p.0))
+      (λ f q. elim q [ inl p ↦ p.1 | inr p ↦ absurd (other _ _ s p.0) ])
 
 pub message_decided : (octets : List ℕ) → Decides (message_at octets) (IsMessage octets) (IsFault octets)
 unfolding message_at content_at
@@ -93,7 +106,9 @@ message_decided octets =
     (header_decided octets) (λ h. decide_map (content_at h) (with_content h) (CarriesBy (table_of h.kind) h) (FailsBy (table_of h.kind) h) (content_decided (table_of h.kind) h))
 
 -- a message that was built of what carries its header and content meets the marks of its table
-pub built_marked : (h : Header) (r : Result Datagram V2Fault) → MessageGives (ContentAllocates (table_of h.kind)) (λ d. content_of d.message.body) r (content_at (headed_of h)) → IfOk r (λ d. kind_of d.message.body ≡ h.kind) → IfOk r (λ d. HasHeader h d.message)
+pub built_marked : (h : Header) (r : Result Datagram V2Fault)
+    → MessageGives (ContentAllocates (table_of h.kind)) (λ d. content_of d.message.body) r (content_at (headed_of h))
+    → IfOk r (λ d. kind_of d.message.body ≡ h.kind) → IfOk r (λ d. HasHeader h d.message)
     → IfOk r (λ d. MeetsMarks (message_value d.message))
 unfolding content_at
 built_marked h (Ok d) gives kind header =

@@ -16,7 +16,8 @@ use Rattle.gtp_v2.specs.declared.fault.V2Fault.{V2Fault}
 use Rattle.gtp_v2.specs.declared.fault.V2Fault.TheVariants as faults
 use Rattle.gtp_v2.specs.Table.{Row, Mandatory, Conditional, Accepted, Optional, Line, Single, Grouped, Several, Field, Plain, State, start, after, Table, kind_of, instance_of}
 use Rattle.gtp_v2.specs.reading.Rows.{row_at, needed, needed_at, needed_if_at, one_at, named, line_at, lines_at, whole}
-use Rattle.gtp_v2.specs.Viewed.{optional_at, welcome, value_or_none, Viewed, found_among, found_by, plain_of, is_row, is_needed, needs_among, needs_by, always_has, in_row, line_among, line_by, has_row, row_of, front_value}
+use Rattle.gtp_v2.specs.Viewed.{optional_at, welcome, value_or_none, Viewed, found_among, found_by, plain_of, is_row, is_needed, needs_among}
+use Rattle.gtp_v2.specs.Viewed.{needs_by, always_has, in_row, line_among, line_by, has_row, row_of, front_value}
 use Rattle.gtp_v2.specs.reading.Checked.{forgotten}
 use Rattle.gtp_v2.specs.Headed.{Headed}
 use Rattle.gtp_v2.specs.Message.{Content, Fields, head_of}
@@ -42,7 +43,8 @@ needed_is conditional kind instance es v h = by_first (first_of kind instance es
   by_first None h = absurd cc
   by_first (Some e) h = one_is kind instance e v h
 
-needed_row : (conditional : Bool) (kind instance : ℕ) (es : List Element) (values : List Value) → (needed_at conditional kind instance es >>= λ v. Ok (v ∷ [])) ≡ Ok values → optional_at kind instance es ≡ front_value values
+needed_row : (conditional : Bool) (kind instance : ℕ) (es : List Element) (values : List Value)
+    → (needed_at conditional kind instance es >>= λ v. Ok (v ∷ [])) ≡ Ok values → optional_at kind instance es ≡ front_value values
 needed_row conditional kind instance es values h =
     let b = bind_ok (needed_at conditional kind instance es) (λ v. done RowFault (v ∷ [])) values h in
     needed_is conditional kind instance es b.0 b.1 ∙ ap front_value (ok_same RowFault (b.0 ∷ []) values b.2)
@@ -51,7 +53,8 @@ optional_row : (o : Option Value) (values : List Value) → done RowFault (optio
 optional_row None values h = ap front_value (ok_same RowFault [] values h)
 optional_row (Some v) values h = ap front_value (ok_same RowFault (v ∷ []) values h)
 
-accepted_row : (accepting : Bool) (kind instance : ℕ) (es : List Element) (values : List Value) → (needed_if_at accepting kind instance es >>= λ o. Ok (option_to_list o)) ≡ Ok values → optional_at kind instance es ≡ front_value values
+accepted_row : (accepting : Bool) (kind instance : ℕ) (es : List Element) (values : List Value)
+    → (needed_if_at accepting kind instance es >>= λ o. Ok (option_to_list o)) ≡ Ok values → optional_at kind instance es ≡ front_value values
 unfolding needed_if_at
 accepted_row true kind instance es values h = needed_row true kind instance es values (sym (twice (needed_at true kind instance es)) ∙ h) where
   twice : (r : Result Value RowFault) → ((r >>= λ v. Ok (Some v)) >>= λ o. done RowFault (option_to_list o)) ≡ (r >>= λ v. Ok (v ∷ []))
@@ -146,7 +149,8 @@ abbrev pub ReadBy : Option Table → Content → List Element → Type 0
 ReadBy None content es = Unit {0}
 ReadBy (Some table) content es = (fields : List Field) × (content ≡ Fields fields) × (lines_at start table.lines es ≡ Ok fields)
 
-read_by : (table : Option Table) (h : Headed) (elements : Option (List Element)) → forgotten (by_table table h) ≡ Ok tt → elements ≡ elements_by table h → ReadBy table (content_or_none (by_table table h)) (list_or_none elements)
+read_by : (table : Option Table) (h : Headed) (elements : Option (List Element)) → forgotten (by_table table h) ≡ Ok tt → elements ≡ elements_by table h
+    → ReadBy table (content_or_none (by_table table h)) (list_or_none elements)
 read_by None h elements reads walked = tt
 read_by (Some table) h elements reads walked =
     let r = was_read (by_table (Some table) h) reads in
@@ -163,14 +167,16 @@ unfolding content_at
 is_read h elements v view inv = subst IsRead view (read_by (table_of h.kind) h elements inv.reads inv.walked)
 
 -- a line of a message that is viewed is read of its elements
-found_read : (asked : Line → Bool) (table : Option Table) (content : Content) (es : List Element) → ReadBy table content es → (p : Line × Field) → found_by asked table content ≡ Some p → IsFound asked es p
+found_read : (asked : Line → Bool) (table : Option Table) (content : Content) (es : List Element) → ReadBy table content es → (p : Line × Field)
+    → found_by asked table content ≡ Some p → IsFound asked es p
 found_read asked None content es read p found = absurd cc
 found_read asked (Some table) content es read p found = found_line asked start table.lines es read.0 p read.2 (subst (λ (c : Content). found_by asked (Some table) c ≡ Some p) read.1 found)
 
 pub found_is : (asked : Line → Bool) (v : Viewed) → IsRead v → (p : Line × Field) → found_by asked (table_of v.message.kind) v.message.content ≡ Some p → IsFound asked v.elements p
 found_is asked v read p found = found_read asked (table_of v.message.kind) v.message.content v.elements read p found
 
-row_found : (kind instance : ℕ) (es : List Element) (line : Line) (field : Field) (state : State) → line_at state line es ≡ Ok field → is_row kind instance line ≡ true → optional_at kind instance es ≡ front_value (plain_of field)
+row_found : (kind instance : ℕ) (es : List Element) (line : Line) (field : Field) (state : State) → line_at state line es ≡ Ok field
+    → is_row kind instance line ≡ true → optional_at kind instance es ≡ front_value (plain_of field)
 row_found kind instance es (Single row) field state one same =
     let b = bind_ok (row_at state.accepting row es) (λ vs. done RowFault (Plain vs)) field one in
     let p = both_same (kind_of row) kind (instance_of row) instance same in
@@ -186,21 +192,28 @@ field_is kind instance v read values is =
     row_found kind instance v.elements q.0.0 q.0.1 f.0 f.1 f.2 ∙ ap front_value q.2
 
 -- where the table has the line, the message has its field
-there_among : (asked : Line → Bool) (state : State) (lines : List Line) (es : List Element) (fields : List Field) → lines_at state lines es ≡ Ok fields → is_some (line_among asked lines) ≡ true → (p : Line × Field) × (found_among asked lines fields ≡ Some p)
+there_among : (asked : Line → Bool) (state : State) (lines : List Line) (es : List Element) (fields : List Field) → lines_at state lines es ≡ Ok fields
+    → is_some (line_among asked lines) ≡ true → (p : Line × Field) × (found_among asked lines fields ≡ Some p)
 unfolding lines_at
 there_among asked state [] es fields h has = absurd cc
 there_among asked state (line ∷ lines) es fields h has =
     let b = bind_ok (line_at state line es) (λ field. lines_at (after state field) lines es >>= λ others. done RowFault (field ∷ others)) fields h in
     let d = bind_ok (lines_at (after state b.0) lines es) (λ others. done RowFault (b.0 ∷ others)) fields b.2 in
-    subst (λ (fs : List Field). (p : Line × Field) × (found_among asked (line ∷ lines) fs ≡ Some p)) (ok_same RowFault (b.0 ∷ d.0) fields d.2) (by_test (asked line) b.0 d.0 has (λ later. there_among asked (after state b.0) lines es d.0 d.1 later))
+    subst (λ (fs : List Field). (p : Line × Field) × (found_among asked (line ∷ lines) fs ≡ Some p)) (ok_same RowFault (b.0 ∷ d.0) fields d.2)
+    (by_test (asked line) b.0 d.0 has (λ later. there_among asked (after state b.0) lines es d.0 d.1 later))
   where
-    by_test : (b : Bool) (field : Field) (others : List Field) → is_some (cond b (Some line) (line_among asked lines)) ≡ true → (is_some (line_among asked lines) ≡ true → (p : Line × Field) × (found_among asked lines others ≡ Some p)) → (p : Line × Field) × (cond b (Some (line, field)) (found_among asked lines others) ≡ Some p)
+    by_test : (b : Bool) (field : Field) (others : List Field) → is_some (cond b (Some line) (line_among asked lines)) ≡ true
+        → (is_some (line_among asked lines) ≡ true → (p : Line × Field) × (found_among asked lines others ≡ Some p))
+        → (p : Line × Field) × (cond b (Some (line, field)) (found_among asked lines others) ≡ Some p)
     by_test true field others has later = ((line, field), refl)
     by_test false field others has later = later has
 
-pub there_by : (asked : Line → Bool) (table : Option Table) (content : Content) (es : List Element) → ReadBy table content es → is_some (line_by asked table) ≡ true → (p : Line × Field) × (found_by asked table content ≡ Some p)
+pub there_by : (asked : Line → Bool) (table : Option Table) (content : Content) (es : List Element) → ReadBy table content es
+    → is_some (line_by asked table) ≡ true → (p : Line × Field) × (found_by asked table content ≡ Some p)
 there_by asked None content es read has = absurd cc
-there_by asked (Some table) content es read has = subst (λ (c : Content). (p : Line × Field) × (found_by asked (Some table) c ≡ Some p)) (sym read.1) (there_among asked start table.lines es read.0 read.2 has)
+there_by asked (Some table) content es read has =
+    subst (λ (c : Content). (p : Line × Field) × (found_by asked (Some table) c ≡ Some p)) (sym read.1)
+    (there_among asked start table.lines es read.0 read.2 has)
 
 -- the value of a row is what its message has in it
 pub there_is : (kind instance : ℕ) (v : Viewed) → IsRead v → has_row v.message.kind kind instance ≡ true → optional_at kind instance v.elements ≡ front_value (row_of kind instance v.message)
@@ -214,7 +227,9 @@ there_is kind instance v read has =
 abbrev HasOne : Option (Line × Field) → Type 0
 HasOne found = (v : Value) × (option_map (λ (p : Line × Field). plain_of p.1) found ≡ Some (v ∷ []))
 
-one_value : (conditional : Bool) (kind instance : ℕ) (field : Field) (es : List Element) → (needed_at conditional kind instance es >>= λ v. done RowFault (v ∷ [])) >>= (λ vs. done RowFault (Plain vs)) ≡ Ok field → (v : Value) × (plain_of field ≡ v ∷ [])
+one_value : (conditional : Bool) (kind instance : ℕ) (field : Field) (es : List Element)
+    → (needed_at conditional kind instance es >>= λ v. done RowFault (v ∷ [])) >>= (λ vs. done RowFault (Plain vs)) ≡ Ok field
+    → (v : Value) × (plain_of field ≡ v ∷ [])
 one_value conditional kind instance field es one =
     let b = bind_ok (needed_at conditional kind instance es >>= λ v. done RowFault (v ∷ [])) (λ vs. done RowFault (Plain vs)) field one in
     let c = bind_ok (needed_at conditional kind instance es) (λ v. done RowFault (v ∷ [])) b.0 b.1 in
@@ -228,22 +243,29 @@ needed_line state (Single (Optional kind instance)) field es one needed = absurd
 needed_line state (Grouped row rows) field es one needed = absurd cc
 needed_line state (Several kind instance missed) field es one needed = absurd cc
 
-needed_here : (state : State) (line : Line) (field : Field) (es : List Element) (rest : Option (Line × Field)) (later is : Bool) → line_at state line es ≡ Ok field → cond is (is_needed line) later ≡ true → (later ≡ true → HasOne rest) → HasOne (cond is (Some (line, field)) rest)
+needed_here : (state : State) (line : Line) (field : Field) (es : List Element) (rest : Option (Line × Field)) (later is : Bool)
+    → line_at state line es ≡ Ok field → cond is (is_needed line) later ≡ true → (later ≡ true → HasOne rest)
+    → HasOne (cond is (Some (line, field)) rest)
 needed_here state line field es rest later true one needed others = let n = needed_line state line field es one needed in (n.0, ap (λ (vs : List Value). Some vs) n.1)
 needed_here state line field es rest later false one needed others = others needed
 
-needed_among : (kind instance : ℕ) (state : State) (lines : List Line) (es : List Element) (fields : List Field) → lines_at state lines es ≡ Ok fields → needs_among kind instance lines ≡ true → HasOne (found_among (is_row kind instance) lines fields)
+needed_among : (kind instance : ℕ) (state : State) (lines : List Line) (es : List Element) (fields : List Field) → lines_at state lines es ≡ Ok fields
+    → needs_among kind instance lines ≡ true → HasOne (found_among (is_row kind instance) lines fields)
 unfolding lines_at
 needed_among kind instance state [] es fields h needed = absurd cc
 needed_among kind instance state (line ∷ lines) es fields h needed =
     let b = bind_ok (line_at state line es) (λ field. lines_at (after state field) lines es >>= λ others. done RowFault (field ∷ others)) fields h in
     let d = bind_ok (lines_at (after state b.0) lines es) (λ others. done RowFault (b.0 ∷ others)) fields b.2 in
     subst (λ (fs : List Field). HasOne (found_among (is_row kind instance) (line ∷ lines) fs)) (ok_same RowFault (b.0 ∷ d.0) fields d.2)
-    (needed_here state line b.0 es (found_among (is_row kind instance) lines d.0) (needs_among kind instance lines) (is_row kind instance line) b.1 needed (λ later. needed_among kind instance (after state b.0) lines es d.0 d.1 later))
+    (needed_here state line b.0 es (found_among (is_row kind instance) lines d.0) (needs_among kind instance lines) (is_row kind instance line) b.1
+    needed (λ later. needed_among kind instance (after state b.0) lines es d.0 d.1 later))
 
-needed_by : (kind instance : ℕ) (table : Option Table) (content : Content) (es : List Element) → ReadBy table content es → needs_by kind instance table ≡ true → HasOne (found_by (is_row kind instance) table content)
+needed_by : (kind instance : ℕ) (table : Option Table) (content : Content) (es : List Element) → ReadBy table content es → needs_by kind instance table ≡ true
+    → HasOne (found_by (is_row kind instance) table content)
 needed_by kind instance None content es read needed = absurd cc
-needed_by kind instance (Some table) content es read needed = subst (λ (c : Content). HasOne (found_by (is_row kind instance) (Some table) c)) (sym read.1) (needed_among kind instance start table.lines es read.0 read.2 needed)
+needed_by kind instance (Some table) content es read needed =
+    subst (λ (c : Content). HasOne (found_by (is_row kind instance) (Some table) c)) (sym read.1)
+    (needed_among kind instance start table.lines es read.0 read.2 needed)
 
 -- a message that is viewed has the values that its table needs
 pub always_is : (kind instance : ℕ) (v : Viewed) → IsRead v → always_has v.message.kind kind instance ≡ true → (x : Value) × (in_row kind instance v.message ≡ Some (x ∷ []))
@@ -287,8 +309,12 @@ first_is kind instance es there = by_first (welcome kind (first_of kind instance
 -- where no elements are kept there are none
 pub none_is : (kind instance : ℕ) (h : Headed) (elements : Option (List Element)) (m : Viewed) → elements ≡ None → viewed h elements ≡ m → None ≡ optional_at kind instance m.elements
 unfolding optional_at
-none_is kind instance h elements m none view = subst (λ (v : Viewed). None ≡ optional_at kind instance v.elements) view (subst (λ (es : Option (List Element)). None ≡ optional_at kind instance (list_or_none es)) (sym none) refl)
+none_is kind instance h elements m none view =
+    subst (λ (v : Viewed). None ≡ optional_at kind instance v.elements) view
+    (subst (λ (es : Option (List Element)). None ≡ optional_at kind instance (list_or_none es)) (sym none) refl)
 
 pub none_in : (kind instance : ℕ) (elements : Option (List Element)) (es : List Element) → elements ≡ None → list_or_none elements ≡ es → None ≡ optional_at kind instance es
 unfolding optional_at
-none_in kind instance elements es none view = subst (λ (xs : List Element). None ≡ optional_at kind instance xs) view (subst (λ (o : Option (List Element)). None ≡ optional_at kind instance (list_or_none o)) (sym none) refl)
+none_in kind instance elements es none view =
+    subst (λ (xs : List Element). None ≡ optional_at kind instance xs) view
+    (subst (λ (o : Option (List Element)). None ≡ optional_at kind instance (list_or_none o)) (sym none) refl)

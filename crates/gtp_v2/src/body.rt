@@ -17,9 +17,9 @@ ghost use Rattle.gtp_v2.specs.reading.Headed.{headed_of, HasHeader};
 use crate::boxed::Boxed;
 use crate::fault::V2Fault;
 use crate::header::Header;
-use crate::listed::Listed;
+use crate::list::Listed;
 use crate::message::Datagram;
-use crate::typed::Typed;
+use crate::message_table::HasTable;
 use gtp_ie::Indexed;
 use std::alloc::{AllocError, Global};
 

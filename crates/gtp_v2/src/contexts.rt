@@ -6,7 +6,7 @@ ghost use Rattle.gtp_ie.specs.Element.{all_of};
 ghost use Rattle.gtp_v2.specs.Viewed.{inner_of, optional_at};
 ghost use Rattle.std.specs.Iterator.{YieldsFirstBy, item_count};
 
-use crate::rows::{mandatory, optional};
+use crate::single_rows::{mandatory, optional};
 use gtp_ie::kinds::BEARER_CONTEXT;
 use gtp_ie::{AllOf, Elements, IeValue, Indexed};
 use std::marker::Model;

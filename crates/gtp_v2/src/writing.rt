@@ -6,7 +6,7 @@ ghost use Rattle.gtp_v2.specs.Text.{value_encoding, rows_encoding, groups_encodi
 ghost use Rattle.gtp_v2.specs.Kinds.{HasKind, AtMostOneOf, RowsHaveKinds};
 ghost use Rattle.gtp_ie.specs.Text.{element_encoding};
 
-use crate::groups::Context;
+use crate::grouped_rows::Context;
 use gtp_ie::kinds::BEARER_CONTEXT;
 use gtp_ie::{IeValue, close, open, put_value};
 use std::alloc::AllocError;

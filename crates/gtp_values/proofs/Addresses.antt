@@ -70,7 +70,8 @@ digits_32 text even half = grind (arith, nat_tests)
 -- what was decoded into 16 octets is what the text writes
 pub decoded : (text octets : List ℕ) → decode_sized text 16 ≡ Ok octets → IsIpText text (TheIp.V6 octets)
 decoded text octets h = by_tests (length text % 2 == 1) (length text / 2 == 16) refl refl h where
-  by_tests : (odd half : Bool) → (length text % 2 == 1) ≡ odd → (length text / 2 == 16) ≡ half → cond odd (Err OddLength) (cond half (decode_pairs 0 text) (Err InvalidStringLength)) ≡ Ok octets → IsIpText text (TheIp.V6 octets)
+  by_tests : (odd half : Bool) → (length text % 2 == 1) ≡ odd → (length text / 2 == 16) ≡ half
+      → cond odd (Err OddLength) (cond half (decode_pairs 0 text) (Err InvalidStringLength)) ≡ Ok octets → IsIpText text (TheIp.V6 octets)
   by_tests true half p q h = absurd cc
   by_tests false false p q h = absurd cc
   by_tests false true p q h = (digits_32 text p q, rw p h)

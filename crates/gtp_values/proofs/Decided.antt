@@ -64,13 +64,26 @@ pub decide_ok : {X E : Type 0} (x : X) → Decides (done E x) (λ y. y ≡ x) (�
 decide_ok {E = E} x = record { ok = λ y h. sym (ok_same E x y h); is = λ y h. ap (λ z. Ok z) (sym h); err = λ f h. apart x f h; fails = λ f h. absurd h }
 
 -- the same outcomes by other words
-pub decide_as : {X E : Type 0} (r : Result X E) (P P' : X → Type 0) (F F' : E → Type 0) → ((x : X) → P x → P' x) → ((x : X) → P' x → P x) → ((f : E) → F f → F' f) → ((f : E) → F' f → F f) → Decides r P F → Decides r P' F'
+pub decide_as : {X E : Type 0} (r : Result X E) (P P' : X → Type 0) (F F' : E → Type 0) → ((x : X) → P x → P' x) → ((x : X) → P' x → P x) → ((f : E) → F f → F' f)
+    → ((f : E) → F' f → F f) → Decides r P F → Decides r P' F'
 decide_as r P P' F F' p p' q q' d = record { ok = λ x h. p x (d.ok x h); is = λ x h. d.is x (p' x h); err = λ f h. q f (d.err f h); fails = λ f h. d.fails f (q' f h) }
 
 -- an outcome that is known
 pub known_ok : {X E : Type 0} (x : X) (P : X → Type 0) (F : E → Type 0) → P x → ((y : X) → P y → y ≡ x) → ((f : E) → F f → ⊥) → Decides (done E x) P F
-known_ok {X = X} {E = E} x P F p one none = record { ok = λ y h. subst P (ok_same E x y h) p; is = λ y h. ap (λ z. Ok z) (sym (one y h)); err = λ f h. absurd (apart x f h); fails = λ f h. absurd (none f h) }
+known_ok {X = X} {E = E} x P F p one none =
+    record {
+      ok = λ y h. subst P (ok_same E x y h) p;
+      is = λ y h. ap (λ z. Ok z) (sym (one y h));
+      err = λ f h. absurd (apart x f h);
+      fails = λ f h. absurd (none f h);
+    }
 
 -- a fault that is known
 pub known_err : {X E : Type 0} (f : E) (P : X → Type 0) (F : E → Type 0) → F f → ((x : X) → P x → ⊥) → ((g : E) → F g → g ≡ f) → Decides (failed X f) P F
-known_err {X = X} {E = E} f P F q none one = record { ok = λ x h. absurd (apart x f (sym h)); is = λ x h. absurd (none x h); err = λ g h. subst F (err_same X f g h) q; fails = λ g h. ap (λ z. Err z) (sym (one g h)) }
+known_err {X = X} {E = E} f P F q none one =
+    record {
+      ok = λ x h. absurd (apart x f (sym h));
+      is = λ x h. absurd (none x h);
+      err = λ g h. subst F (err_same X f g h) q;
+      fails = λ g h. ap (λ z. Err z) (sym (one g h));
+    }

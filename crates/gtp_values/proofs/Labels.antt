@@ -26,7 +26,14 @@ continues (suc left) [] h = absurd cc
 continues zero (octet ∷ octets) h =
     let b = both (is_label_length octet) (are_labels_from octet octets) h in
     let c = continues octet octets b.right in
-    record { part = []; labels = c.part ∷ c.labels; count = refl; good = tt; each = (label_here c.part octet c.count b.left c.good, c.each); text = ap (λ (n : ℕ). n ∷ octets) (sym c.count) ∙ ap (λ (xs : List ℕ). length c.part ∷ xs) c.text }
+    record {
+      part = [];
+      labels = c.part ∷ c.labels;
+      count = refl;
+      good = tt;
+      each = (label_here c.part octet c.count b.left c.good, c.each);
+      text = ap (λ (n : ℕ). n ∷ octets) (sym c.count) ∙ ap (λ (xs : List ℕ). length c.part ∷ xs) c.text;
+    }
 continues (suc left) (octet ∷ octets) h =
     let b = both (is_label_octet octet) (are_labels_from left octets) h in
     let c = continues left octets b.right in
@@ -36,7 +43,8 @@ length_octet : (label : List ℕ) → IsLabel label → is_label_length (length 
 length_octet label is = let least = is.least in let most = is.most in grind (arith, nat_tests)
 
 -- the rest of a label, and then labels, is found
-pub found : (part : List ℕ) (labels : List (List ℕ)) → AllByRecursion (λ octet. IsTrue (is_label_octet octet)) part → AllByRecursion IsLabel labels → are_labels_from (length part) (part ++ labels_text labels) ≡ true
+pub found : (part : List ℕ) (labels : List (List ℕ)) → AllByRecursion (λ octet. IsTrue (is_label_octet octet)) part → AllByRecursion IsLabel labels
+    → are_labels_from (length part) (part ++ labels_text labels) ≡ true
 unfolding are_labels_from
 found [] [] good each = refl
 found [] (label ∷ labels) good each = rw (length_octet label each.0) (found label labels each.0.octets each.1)
@@ -51,11 +59,13 @@ are_labels octets h =
 
 -- ---- one step of the loop
 
-pub at_length : (octets : List ℕ) (i : ℕ) → i < length octets → is_label_length (get_or octets i 0) ≡ true → are_labels_from (get_or octets i 0) (drop (i + 1) octets) ≡ are_labels_from 0 (drop i octets)
+pub at_length : (octets : List ℕ) (i : ℕ) → i < length octets → is_label_length (get_or octets i 0) ≡ true
+    → are_labels_from (get_or octets i 0) (drop (i + 1) octets) ≡ are_labels_from 0 (drop i octets)
 unfolding are_labels_from
 at_length octets i lt h = sym (at_drop_more (λ xs. are_labels_from 0 xs) octets i 0 lt ∙ rw h refl)
 
-pub in_label : (left : ℕ) (octets : List ℕ) (i : ℕ) → i < length octets → 0 < left → is_label_octet (get_or octets i 0) ≡ true → are_labels_from (left - 1) (drop (i + 1) octets) ≡ are_labels_from left (drop i octets)
+pub in_label : (left : ℕ) (octets : List ℕ) (i : ℕ) → i < length octets → 0 < left → is_label_octet (get_or octets i 0) ≡ true
+    → are_labels_from (left - 1) (drop (i + 1) octets) ≡ are_labels_from left (drop i octets)
 unfolding are_labels_from
 in_label zero octets i lt some h = absurd (omega arith)
 in_label (suc left) octets i lt some h = let less : suc left - 1 ≡ left = omega arith in rw less (sym (at_drop_more (λ xs. are_labels_from (suc left) xs) octets i 0 lt ∙ rw h refl))

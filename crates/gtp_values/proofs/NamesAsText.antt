@@ -1,10 +1,12 @@
 -- Access point names and their texts: one is found from the other.
-use Rattle.std.proofs.Common.{◌≡◌, ℕ, zero, suc, ◌+◌, ◌-◌, ◌<◌, ◌≤◌, drop, get_or, append_assoc, subst, Bool, true, false, not, ◌==◌, cond, Some, None, List, [], ◌∷◌, ◌++◌, length, refl, sym, ap, ◌∙◌, arith}
+use Rattle.std.proofs.Common.{◌≡◌, ℕ, zero, suc, ◌+◌, ◌-◌, ◌<◌, ◌≤◌, drop, get_or, append_assoc, subst, Bool, true, false, not, ◌==◌, cond, Some}
+use Rattle.std.proofs.Common.{None, List, [], ◌∷◌, ◌++◌, length, refl, sym, ap, ◌∙◌, arith}
 use Rattle.std.proofs.lemmas.Bool.Decides.{nat_tests}
 use Rattle.std.proofs.lemmas.List.{at_drop_more, at_drop_all, append-nil}
 use Rattle.std.specs.Option.{unwrap_or}
 use lib.Dec.{ltb}
-use Rattle.gtp_values.specs.Apn.{is_label_octet, are_labels_from, IsApn, IsApnText, HasApnTextLength, HasApnLength, joined_from, joined, after_dots, labels_text, apn_text, label_length, lengths_for_dots, octets_of_text}
+use Rattle.gtp_values.specs.Apn.{is_label_octet, are_labels_from, IsApn, IsApnText, HasApnTextLength, HasApnLength, joined_from, joined, after_dots}
+use Rattle.gtp_values.specs.Apn.{labels_text, apn_text, label_length, lengths_for_dots, octets_of_text}
 use Rattle.gtp_values.proofs.Labels.{labels_are}
 use Rattle.gtp_values.proofs.Tests.{Both, both}
 
@@ -133,17 +135,20 @@ joined_end left octets now total i le h =
     at_none : (n : ℕ) → joined_from n [] ≡ []
     at_none n = refl
 
-pub joined_dot : (octets now after total : List ℕ) (i : ℕ) → i < length octets → after ≡ now ++ 46 ∷ [] → now ++ joined_from 0 (drop i octets) ≡ total → after ++ joined_from (get_or octets i 0) (drop (i + 1) octets) ≡ total
+pub joined_dot : (octets now after total : List ℕ) (i : ℕ) → i < length octets → after ≡ now ++ 46 ∷ [] → now ++ joined_from 0 (drop i octets) ≡ total
+    → after ++ joined_from (get_or octets i 0) (drop (i + 1) octets) ≡ total
 unfolding joined_from
 joined_dot octets now after total i lt e h =
     rw e (append_assoc now (46 ∷ []) (joined_from (get_or octets i 0) (drop (i + 1) octets)) ∙ (ap (λ (xs : List ℕ). now ++ xs) (sym (at_drop_more (λ xs. joined_from 0 xs) octets i 0 lt)) ∙ h))
 
-pub joined_octet : (left : ℕ) (octets now after total : List ℕ) (i : ℕ) → i < length octets → 0 < left → after ≡ now ++ get_or octets i 0 ∷ [] → now ++ joined_from left (drop i octets) ≡ total → after ++ joined_from (left - 1) (drop (i + 1) octets) ≡ total
+pub joined_octet : (left : ℕ) (octets now after total : List ℕ) (i : ℕ) → i < length octets → 0 < left → after ≡ now ++ get_or octets i 0 ∷ []
+    → now ++ joined_from left (drop i octets) ≡ total → after ++ joined_from (left - 1) (drop (i + 1) octets) ≡ total
 unfolding joined_from
 joined_octet zero octets now after total i lt some e h = absurd (omega arith)
 joined_octet (suc left) octets now after total i lt some e h =
     let less : suc left - 1 ≡ left = omega arith in
-    rw (e, less) (append_assoc now (get_or octets i 0 ∷ []) (joined_from left (drop (i + 1) octets)) ∙ (ap (λ (xs : List ℕ). now ++ xs) (sym (at_drop_more (λ xs. joined_from (suc left) xs) octets i 0 lt)) ∙ h))
+    rw (e, less) (append_assoc now (get_or octets i 0 ∷ []) (joined_from left (drop (i + 1) octets))
+    ∙ (ap (λ (xs : List ℕ). now ++ xs) (sym (at_drop_more (λ xs. joined_from (suc left) xs) octets i 0 lt)) ∙ h))
 
 -- labels that are still to come, after the length of one
 pub after_length : (octets : List ℕ) (i : ℕ) → i < length octets → are_labels_from 0 (drop i octets) ≡ true → are_labels_from (get_or octets i 0) (drop (i + 1) octets) ≡ true
@@ -151,7 +156,8 @@ unfolding are_labels_from
 after_length octets i lt h = (both _ _ (sym (at_drop_more (λ xs. are_labels_from 0 xs) octets i 0 lt) ∙ h)).right
 
 -- the same after an octet of one
-pub after_octet : (left : ℕ) (octets : List ℕ) (i : ℕ) → i < length octets → 0 < left → are_labels_from left (drop i octets) ≡ true → Both (is_label_octet (get_or octets i 0)) (are_labels_from (left - 1) (drop (i + 1) octets))
+pub after_octet : (left : ℕ) (octets : List ℕ) (i : ℕ) → i < length octets → 0 < left → are_labels_from left (drop i octets) ≡ true
+    → Both (is_label_octet (get_or octets i 0)) (are_labels_from (left - 1) (drop (i + 1) octets))
 unfolding are_labels_from
 after_octet zero octets i lt some h = absurd (omega arith)
 after_octet (suc left) octets i lt some h =

@@ -88,13 +88,16 @@ end_with interface teid v4 v6 = record { interface = interface; teid = teid; v4 
 pub fteid_same : (a b : TunnelEnd) → Decides ((fteids.ghosts).eq a b) (a ≡ b)
 fteid_same a b =
     whole_by (λ e. app (app (app (ap end_with e.0) e.1.0) e.1.1.0) e.1.1.1) (λ e. (ap (λ t. t.interface) e, (ap (λ t. t.teid) e, (ap (λ t. t.v4) e, ap (λ t. t.v6) e))))
-    (and_then (Decides-eqb a.interface b.interface) (and_then (Decides-eqb a.teid b.teid) (and_then (options_same (pointwise nat_eq) bytes_decides a.v4 b.v4) (options_same (pointwise nat_eq) bytes_decides a.v6 b.v6))))
+    (and_then (Decides-eqb a.interface b.interface) (and_then (Decides-eqb a.teid b.teid)
+    (and_then (options_same (pointwise nat_eq) bytes_decides a.v4 b.v4) (options_same (pointwise nat_eq) bytes_decides a.v6 b.v6))))
 
 abbrev pub address_with : Option (List ℕ) → Option (List ℕ) → PdnAddress
 address_with v4 v6 = record { v4 = v4; v6 = v6 }
 
 pub addr_same : (a b : PdnAddress) → Decides ((addrs.ghosts).eq a b) (a ≡ b)
-addr_same a b = whole_by (λ e. app (ap address_with e.0) e.1) (λ e. (ap (λ k. k.v4) e, ap (λ k. k.v6) e)) (and_then (options_same (pointwise nat_eq) bytes_decides a.v4 b.v4) (options_same (pointwise nat_eq) bytes_decides a.v6 b.v6))
+addr_same a b =
+    whole_by (λ e. app (ap address_with e.0) e.1) (λ e. (ap (λ k. k.v4) e, ap (λ k. k.v6) e))
+    (and_then (options_same (pointwise nat_eq) bytes_decides a.v4 b.v4) (options_same (pointwise nat_eq) bytes_decides a.v6 b.v6))
 
 abbrev pub offending_with : ℕ → ℕ → Offending
 offending_with kind instance = record { kind = kind; instance = instance }
@@ -110,7 +113,8 @@ pub cause_same : (a b : Cause) → Decides ((causes.ghosts).eq a b) (a ≡ b)
 cause_same a b =
     whole_by (λ e. app (app (app (app (ap cause_with e.0) e.1.0) e.1.1.0) e.1.1.1.0) e.1.1.1.1)
     (λ e. (ap (λ c. c.value) e, (ap (λ c. c.pce) e, (ap (λ c. c.bce) e, (ap (λ c. c.cs) e, ap (λ c. c.offending) e)))))
-    (and_then (Decides-eqb a.value b.value) (and_then (booleans_Decides a.pce b.pce) (and_then (booleans_Decides a.bce b.bce) (and_then (booleans_Decides a.cs b.cs) (options_same ((offendings.ghosts).eq) offending_same a.offending b.offending)))))
+    (and_then (Decides-eqb a.value b.value) (and_then (booleans_Decides a.pce b.pce) (and_then (booleans_Decides a.bce b.bce)
+    (and_then (booleans_Decides a.cs b.cs) (options_same ((offendings.ghosts).eq) offending_same a.offending b.offending)))))
 
 pub paa_same : (a b : Paa) → Decides ((allocations.ghosts).eq a b) (a ≡ b)
 paa_same (paas.V4 a) (paas.V4 b) = whole_by (λ e. ap (λ v. paas.V4 v) e) (λ e. cc) (bytes_decides a b)
@@ -139,4 +143,5 @@ pub qos_same : (a b : Qos) → Decides ((qualities.ghosts).eq a b) (a ≡ b)
 qos_same a b =
     whole_by (λ e. app (app (app (app (app (ap quality e.0) e.1.0) e.1.1.0) e.1.1.1.0) e.1.1.1.1.0) e.1.1.1.1.1)
     (λ e. (ap (λ q. q.pci) e, (ap (λ q. q.pl) e, (ap (λ q. q.pvi) e, (ap (λ q. q.qci) e, (ap (λ q. q.mbr) e, ap (λ q. q.gbr) e))))))
-    (and_then (booleans_Decides a.pci b.pci) (and_then (Decides-eqb a.pl b.pl) (and_then (booleans_Decides a.pvi b.pvi) (and_then (Decides-eqb a.qci b.qci) (and_then (rates_same a.mbr b.mbr) (rates_same a.gbr b.gbr))))))
+    (and_then (booleans_Decides a.pci b.pci) (and_then (Decides-eqb a.pl b.pl)
+    (and_then (booleans_Decides a.pvi b.pvi) (and_then (Decides-eqb a.qci b.qci) (and_then (rates_same a.mbr b.mbr) (rates_same a.gbr b.gbr))))))

@@ -13,8 +13,28 @@ run_begins setup v is serving packet =
       world = start setup.serving.config setup.packet.config setup.serving_counter setup.packet_counter;
       run = refl;
       stands = record {
-        serving = record { set_up = refl; role = refl; node = ap (λ n. fresh_node setup.serving.config n) (sym (mod-eq_of_lt serving)); first = refl; restarts = refl; seen = refl; forgotten = refl; made = refl };
-        packet = record { set_up = refl; role = refl; node = ap (λ n. fresh_node setup.packet.config n) (sym (mod-eq_of_lt packet)); first = refl; restarts = refl; seen = refl; forgotten = refl; made = refl };
+        serving =
+            record {
+              set_up = refl;
+              role = refl;
+              node = ap (λ n. fresh_node setup.serving.config n) (sym (mod-eq_of_lt serving));
+              first = refl;
+              restarts = refl;
+              seen = refl;
+              forgotten = refl;
+              made = refl;
+            };
+        packet =
+            record {
+              set_up = refl;
+              role = refl;
+              node = ap (λ n. fresh_node setup.packet.config n) (sym (mod-eq_of_lt packet));
+              first = refl;
+              restarts = refl;
+              seen = refl;
+              forgotten = refl;
+              made = refl;
+            };
         datagrams = tt;
         handed = refl;
         accepted = refl;

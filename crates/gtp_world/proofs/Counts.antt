@@ -16,7 +16,7 @@ use Rattle.gtp_gateway.specs.Tick.{asked_by, arrivals_of}
 use Rattle.gtp_world.specs.Record.{oldest_first, WorldRecord, gateway_in}
 use Rattle.gtp_world.specs.Views.{IsCount, IsMade, IsMadeOnce, as_it_came}
 use Rattle.gtp_world.proofs.Lists.{among_oldest}
-use Rattle.gtp_world.proofs.Standing.{half_stands}
+use Rattle.gtp_world.proofs.Standing.{gateway_stands}
 
 count_yes : {X : Type 0} (x y : X) (ys : List X) (n : ℕ) → IsCount x ys n → y ≡ x → IsCount x (ys ++ (y ∷ [])) (n + 1)
 count_yes x y [] n none is = inr (is, (n, none, refl))
@@ -29,18 +29,23 @@ count_no x y (z ∷ ys) n (inl (other, count)) apart = inl (other, count_no x y 
 count_no x y (z ∷ ys) n (inr (same, (m, count, more))) apart = inr (same, (m, count_no x y ys m count apart, more))
 
 -- the requests so far, with the next
-grown : (requests : List Request) (i : ℕ) (r : Request) → i < length requests → get_or requests i r ≡ r → arrivals_of (take i requests) ++ (asked_by (question_of r) ∷ []) ≡ arrivals_of (take (i + 1) requests)
+grown : (requests : List Request) (i : ℕ) (r : Request) → i < length requests → get_or requests i r ≡ r
+    → arrivals_of (take i requests) ++ (asked_by (question_of r) ∷ []) ≡ arrivals_of (take (i + 1) requests)
 grown requests i r within at =
     let next : suc i ≡ i + 1 = omega arith in
     let taken = take-suc requests i r within ∙ ap (λ k. take i requests ++ (k ∷ [])) at in
     sym (ap (map asked_by) (map-append question_of (take i requests) (r ∷ [])) ∙ map-append asked_by (map question_of (take i requests)) (question_of r ∷ []))
     ∙ ap arrivals_of (sym taken ∙ ap (λ n. take n requests) next)
 
-pub one_more : (a : Arrival) (requests : List Request) (i : ℕ) (r : Request) (n : ℕ) → i < length requests → get_or requests i r ≡ r → IsCount a (arrivals_of (take i requests)) n → a ≡ asked_by (question_of r) → IsCount a (arrivals_of (take (i + 1) requests)) (n + 1)
+pub one_more : (a : Arrival) (requests : List Request) (i : ℕ) (r : Request) (n : ℕ) → i < length requests → get_or requests i r ≡ r
+    → IsCount a (arrivals_of (take i requests)) n → a ≡ asked_by (question_of r) → IsCount a (arrivals_of (take (i + 1) requests)) (n + 1)
 one_more a requests i r n within at count is = subst (λ l. IsCount a l (n + 1)) (grown requests i r within at) (count_yes a (asked_by (question_of r)) (arrivals_of (take i requests)) n count (sym is))
 
-pub none_more : (a : Arrival) (requests : List Request) (i : ℕ) (r : Request) (n : ℕ) → i < length requests → get_or requests i r ≡ r → IsCount a (arrivals_of (take i requests)) n → (a ≡ asked_by (question_of r) → ⊥) → IsCount a (arrivals_of (take (i + 1) requests)) n
-none_more a requests i r n within at count apart = subst (λ l. IsCount a l n) (grown requests i r within at) (count_no a (asked_by (question_of r)) (arrivals_of (take i requests)) n count (λ is. apart (sym is)))
+pub none_more : (a : Arrival) (requests : List Request) (i : ℕ) (r : Request) (n : ℕ) → i < length requests → get_or requests i r ≡ r
+    → IsCount a (arrivals_of (take i requests)) n → (a ≡ asked_by (question_of r) → ⊥) → IsCount a (arrivals_of (take (i + 1) requests)) n
+none_more a requests i r n within at count apart =
+    subst (λ l. IsCount a l n) (grown requests i r within at)
+    (count_no a (asked_by (question_of r)) (arrivals_of (take i requests)) n count (λ is. apart (sym is)))
 
 -- what is in no place is there no times
 none_counted : {X : Type 0} (x : X) (xs : List X) (n : ℕ) → (Among x xs → ⊥) → IsCount x xs n → n ≡ 0
@@ -68,7 +73,7 @@ made_once v number count made setup events r found timely =
     let at = other found.sent.role in
     let a = as_it_came found.sent in
     let same = same_Some made.found.sent found.sent (sym made.found.is ∙ found.is) in
-    let half = half_stands setup v r.world r.stands at in
+    let gateway = gateway_stands setup v r.world r.stands at in
     let once = always_made_once setup.serving.config setup.packet.config setup.serving_counter setup.packet_counter events r.world r.run at a timely in
     let counts = subst (λ (d : By Datagram). IsCount (as_it_came d) (gateway_in v (other d.role)).made count) same made.counts in
-    at_most_one a (gateway_in v at).made count (subst (λ l. AtMostOnce a l) (sym half.made) (once_oldest a (side_of r.world at).made once)) counts
+    at_most_one a (gateway_in v at).made count (subst (λ l. AtMostOnce a l) (sym gateway.made) (once_oldest a (side_of r.world at).made once)) counts

@@ -8,7 +8,8 @@ use Rattle.gtp_user.specs.declared.fault.UserFault.TheVariants as user_faults
 use Rattle.gtp_machine.specs.Config.{Config, user_end, own_end}
 use Rattle.gtp_machine.specs.Input.{Control_message, Control_fault, UserReading, User_message, Extension_needed, User_fault, Control_came, User_came}
 use Rattle.gtp_machine.specs.Message.{Message, Plane, Control, User}
-use Rattle.gtp_machine.specs.Reading.{user_fault, control_reading, ControlReads, Alone, announces, messages_read, datagram_fault, datagram_reading, DatagramReads, IsDatagramReadOf, taken_as, user_reading, cut_fault, pair_cut_fault, user_cut_fault}
+use Rattle.gtp_machine.specs.Reading.{user_fault, control_reading, ControlReads, Alone, announces, messages_read, datagram_fault, datagram_reading}
+use Rattle.gtp_machine.specs.Reading.{DatagramReads, IsDatagramReadOf, taken_as, user_reading, cut_fault, pair_cut_fault, user_cut_fault}
 use Rattle.gtp_machine.specs.Spelling.{spelled, spelled_all}
 use Rattle.gtp_machine.specs.World.{come_from, delivered_on, fault_of_cut, cut_on}
 use Rattle.gtp_machine.proofs.Octets.ByGrammar.{control_by_grammar, user_by_grammar, user_cuts_read}
@@ -41,7 +42,8 @@ at_fault user_faults.TooLong = tt
 
 -- octets that read as a message are at fault when they are cut
 
-control_cut : (octets : List ℕ) (m : Message) (count : ℕ) → Control_message m ≡ control_reading octets → count < length octets → datagram_reading (take count octets) ≡ Alone (Control_fault (cut_fault count))
+control_cut : (octets : List ℕ) (m : Message) (count : ℕ) → Control_message m ≡ control_reading octets → count < length octets
+    → datagram_reading (take count octets) ≡ Alone (Control_fault (cut_fault count))
 control_cut octets m count reads short = ⊎_elim
     (λ is. sym (datagram_cuts_read octets is.0 count is.1 short))
     (λ fails. absurd (subst IsFault (sym fails.2) (fault_is fails.0)))
@@ -78,20 +80,23 @@ came User config [] reads = absurd reads
 came User config (m ∷ n ∷ rest) reads = absurd reads
 
 -- one of two messages is at fault when it is cut
-pair_cut : (a b : Message) (rest : List Message) (count : ℕ) → ReadsBackOn Control (a ∷ b ∷ rest) → count < length (spelled_all (a ∷ b ∷ rest)) → datagram_reading (take count (spelled_all (a ∷ b ∷ rest))) ≡ Alone (Control_fault (pair_cut_fault count (length (spelled a))))
+pair_cut : (a b : Message) (rest : List Message) (count : ℕ) → ReadsBackOn Control (a ∷ b ∷ rest) → count < length (spelled_all (a ∷ b ∷ rest))
+    → datagram_reading (take count (spelled_all (a ∷ b ∷ rest))) ≡ Alone (Control_fault (pair_cut_fault count (length (spelled a))))
 pair_cut a b rest count reads short =
     let p = two a b rest reads in
     sym (pair_cuts_read (spelled_all (a ∷ b ∷ rest)) p.front p.back p.first p.second count p.announced p.spells_first p.spells_second short)
     ∙ ap (λ n. Alone (Control_fault (pair_cut_fault count n))) (front_long a b rest reads)
 
 -- the first octets of a control datagram read as no message
-pub cut_alone : (datagram : List Message) (count : ℕ) → ReadsBackOn Control datagram → count < length (spelled_all datagram) → datagram_reading (take count (spelled_all datagram)) ≡ Alone (Control_fault (fault_of_cut datagram count))
+pub cut_alone : (datagram : List Message) (count : ℕ) → ReadsBackOn Control datagram → count < length (spelled_all datagram)
+    → datagram_reading (take count (spelled_all datagram)) ≡ Alone (Control_fault (fault_of_cut datagram count))
 cut_alone [] count reads short = absurd (not-suc-le-zero short)
 cut_alone (m ∷ []) count reads short = control_cut (spelled m) m count (by_itself (spelled m) m reads.0) short
 cut_alone (a ∷ b ∷ rest) count reads short = pair_cut a b rest count reads short
 
 -- a datagram comes cut
-pub cut : (p : Plane) (config : Config) (datagram : List Message) (count : ℕ) → ReadsBackOn p datagram → count < length (spelled_all datagram) → coming p (own_end config p) (take count (spelled_all datagram)) ≡ cut_on p config.own datagram count
+pub cut : (p : Plane) (config : Config) (datagram : List Message) (count : ℕ) → ReadsBackOn p datagram → count < length (spelled_all datagram)
+    → coming p (own_end config p) (take count (spelled_all datagram)) ≡ cut_on p config.own datagram count
 cut Control config datagram count reads short = λ i. Control_came (come_from config.own (take count (spelled_all datagram))) (taken_as (cut_alone datagram count reads short i))
 cut User config (m ∷ []) count reads short = λ i. User_came (user_end config.own.user) (user_cut (spelled m) m count reads short i)
 cut User config [] count reads short = absurd reads

@@ -2,7 +2,6 @@
 pub mod Placed
 pub mod Commands
 pub mod Opening
-pub mod Left
 pub mod Lasting
 pub mod Steps
 pub mod Runs

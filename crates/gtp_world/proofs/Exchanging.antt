@@ -50,7 +50,8 @@ of_datagram role from m = by_few (λ datagram. ReadsBack datagram → HasSent (s
     itself n is reads = subst (λ (k : Sent). ReadsAs (plane_of k.what) (spelled k.what) k.what) (sym is) reads
 
 -- each message that was sent reads as itself
-each_reads : (setup : Setup) (log : List (By Datagram)) (all : List SentDatagram) → AreFor setup log all → EachFew all → (role : Role) (m : Message) → HasSent (flat all) role m → ReadsAs (plane_of m) (spelled m) m
+each_reads : (setup : Setup) (log : List (By Datagram)) (all : List SentDatagram) → AreFor setup log all → EachFew all → (role : Role) (m : Message)
+    → HasSent (flat all) role m → ReadsAs (plane_of m) (spelled m) m
 each_reads setup [] [] are few role m none = absurd none
 each_reads setup [] (s ∷ all) are few role m has = absurd are
 each_reads setup (d ∷ log) [] are few role m none = absurd none
@@ -77,7 +78,8 @@ same_last (z ∷ xs) [] x y is = absurd (not_empty xs x (cc is))
 same_last (z ∷ xs) (u ∷ ys) x y is = same_last xs ys x y (cc is)
 
 -- what the latest event came to is the last that is told
-last_told : (setup : Setup) (v : WorldRecord) (w : World) (before : List EventOutcome) (outcome came : EventOutcome) → StandsFor setup v w → outcomes_in v.log ≡ before ++ (outcome ∷ []) → CameTo w came → outcome ≡ came
+last_told : (setup : Setup) (v : WorldRecord) (w : World) (before : List EventOutcome) (outcome came : EventOutcome) → StandsFor setup v w
+    → outcomes_in v.log ≡ before ++ (outcome ∷ []) → CameTo w came → outcome ≡ came
 last_told setup v w before outcome came stands told at =
     let outcome_in : EventRecord → EventOutcome = λ t. t.outcome in
     let notes = stands.notes ∙ ap (λ (l : List Note). oldest_first (map told_in l)) at.notes in
@@ -85,7 +87,9 @@ last_told setup v w before outcome came stands told at =
     same_last before (map outcome_in (oldest_first (map told_in at.before))) outcome at.note.outcome (sym told ∙ whole) ∙ at.is
 
 -- gateways that face each other are one path
-one_path : (setup : Setup) (events : List Event) (w : World) → Run (start setup.serving.config setup.packet.config setup.serving_counter setup.packet_counter) events w → AreFacing setup.serving setup.packet → IsOnePath w.serving.node.config w.packet.node.config
+one_path : (setup : Setup) (events : List Event) (w : World)
+    → Run (start setup.serving.config setup.packet.config setup.serving_counter setup.packet_counter) events w → AreFacing setup.serving setup.packet
+    → IsOnePath w.serving.node.config w.packet.node.config
 one_path setup events w run facing =
     let serving = set_up setup events w run Serving in
     let packet = set_up setup events w run Packet in
@@ -114,7 +118,9 @@ exchanged old reached spec next v1 v2 new o1 o2 o3 next_is comes1 comes2 comes3 
     let g2 = goes setup (events ++ (e1 ∷ [])) v1 r1 (Deliver (length r.world.datagrams)) v2 comes_there in
     let r2 : LeftByRun setup ((events ++ (e1 ∷ [])) ++ (Deliver (length r.world.datagrams) ∷ [])) v2 = record { world = g2.world; run = g2.run; stands = g2.stands } in
     let g3 = goes setup ((events ++ (e1 ∷ [])) ++ (Deliver (length r.world.datagrams) ∷ [])) v2 r2 (Deliver (1 + length r.world.datagrams)) new comes_back in
-    let x = fair_exchange setup.serving.config setup.packet.config setup.serving_counter setup.packet_counter events r.world g1.world g2.world g3.world spec r.run (one_path setup events r.world r.run reached.facing) can g1.happens g2.happens g3.happens (all_read setup _ v2 r2) in
+    let x =
+    fair_exchange setup.serving.config setup.packet.config setup.serving_counter setup.packet_counter events r.world g1.world g2.world g3.world spec
+    r.run (one_path setup events r.world r.run reached.facing) can g1.happens g2.happens g3.happens (all_read setup _ v2 r2) in
     let is1 = last_told setup v1 g1.world (outcomes_in old.log) o1 _ g1.stands told1 x.first in
     let is2 = last_told setup v2 g2.world (outcomes_in v1.log) o2 _ g2.stands told2 x.second in
     let is3 = last_told setup new g3.world (outcomes_in v2.log) o3 _ g3.stands told3 x.third in

@@ -1,5 +1,6 @@
 -- Datagrams by their numbers.
-use Rattle.std.proofs.Common.{◌≡◌, Option, Result, Ok, Err, ◌↔◌, inl, inr, ℕ, ◌<◌, ◌≤◌, Bool, true, false, take, List, [], ◌∷◌, map, length, Some, None, option_map, refl, sym, ◌∙◌, ap, subst, slice_get, get_or}
+use Rattle.std.proofs.Common.{◌≡◌, Option, Result, Ok, Err, ◌↔◌, inl, inr, ℕ, ◌<◌, ◌≤◌, Bool, true, false, take, List, [], ◌∷◌, map, length, Some}
+use Rattle.std.proofs.Common.{None, option_map, refl, sym, ◌∙◌, ap, subst, slice_get, get_or}
 use Rattle.std.proofs.Math.Nat.{not-suc-le-zero}
 use Rattle.std.proofs.Math.Seq.{take-length}
 use Rattle.std.proofs.lemmas.List.{length-map}
@@ -32,8 +33,11 @@ pub found_at : (datagrams : List Datagram) (number : ℕ) (d : Datagram) (found 
 found_at datagrams number d found is = same_Some found.sent (sent_by d) (sym found.is ∙ slice_get-map sent_by datagrams number ∙ ap (option_map sent_by) is)
 
 -- what comes of a datagram that was brought, by the datagram that stands there
-pub brought : (old : WorldRecord) (late whole : Bool) (new : WorldRecord) (count : ℕ) (node : Role) (octets : List ℕ) (datagrams : List Datagram) (index : ℕ) (d : Datagram) (found : IsThere (map sent_by datagrams) index) → slice_get datagrams index ≡ Some d → node ≡ other d.node → octets ≡ take count d.sent.octets.items
-    → (IsTrue late ↔ IsTrue whole × IsGivenUp (gateway_in old node) d.sent.plane (arrival_of d.sent.from (last_octets octets))) → TakesOn old node d.sent.plane d.sent.from octets late new → BringsFirst old found.sent count whole new
+pub brought : (old : WorldRecord) (late whole : Bool) (new : WorldRecord) (count : ℕ) (node : Role) (octets : List ℕ) (datagrams : List Datagram) (index : ℕ)
+    (d : Datagram) (found : IsThere (map sent_by datagrams) index) → slice_get datagrams index ≡ Some d → node ≡ other d.node
+    → octets ≡ take count d.sent.octets.items
+    → (IsTrue late ↔ IsTrue whole × IsGivenUp (gateway_in old node) d.sent.plane (arrival_of d.sent.from (last_octets octets)))
+    → TakesOn old node d.sent.plane d.sent.from octets late new → BringsFirst old found.sent count whole new
 brought old late whole new count node octets datagrams index d found at goes reads is t =
     let first = take count d.sent.octets.items in
     subst (λ (x : By Sent). BringsFirst old x count whole new) (sym (found_at datagrams index d found at))
@@ -45,11 +49,13 @@ brought old late whole new count node octets datagrams index d found at goes rea
     })
 
 -- how long it is
-pub octets_at : (datagrams : List Datagram) (index : ℕ) (d : Datagram) (found : IsThere (map sent_by datagrams) index) → slice_get datagrams index ≡ Some d → length found.sent.what.octets ≡ length d.sent.octets.items
+pub octets_at : (datagrams : List Datagram) (index : ℕ) (d : Datagram) (found : IsThere (map sent_by datagrams) index) → slice_get datagrams index ≡ Some d
+    → length found.sent.what.octets ≡ length d.sent.octets.items
 octets_at datagrams index d found at = ap (λ (x : By Sent). length x.what.octets) (found_at datagrams index d found at)
 
 -- a delivery: as many octets come as there are
-pub delivered : (old : WorldRecord) (number count : ℕ) (new : WorldRecord) (found : IsThere old.log.datagrams number) → count ≡ length found.sent.what.octets → BringsFirst old found.sent count true new → EventLeaves old (Deliver number) new
+pub delivered : (old : WorldRecord) (number count : ℕ) (new : WorldRecord) (found : IsThere old.log.datagrams number) → count ≡ length found.sent.what.octets
+    → BringsFirst old found.sent count true new → EventLeaves old (Deliver number) new
 delivered old number count new found long b = inr (found, by b.late b.is b.brings)
   where
     octets : List ℕ
@@ -58,15 +64,36 @@ delivered old number count new found long b = inr (found, by b.late b.is b.bring
     whole : take count octets ≡ octets
     whole = ap (λ n. take n octets) long ∙ take-length octets
 
-    by : (late : Bool) → (IsTrue late ↔ IsTrue true × IsGivenUp (gateway_in old (other found.sent.role)) found.sent.what.plane (arrival_of found.sent.what.from (last_octets (take count octets)))) → Brings old found.sent (take count octets) late new → Unless (IsLate (gateway_in old (other found.sent.role)) found.sent.what) (Brings old found.sent octets false new) (λ late. Brings old found.sent octets true new)
-    by true is t = inr (subst (λ o. IsGivenUp (gateway_in old (other found.sent.role)) found.sent.what.plane (arrival_of found.sent.what.from (last_octets o))) whole (is.0 refl).1, subst (λ (o : List ℕ). Brings old found.sent o true new) whole t)
-    by false is t = inl ((λ late. let e : false ≡ true = is.1 (refl, subst (λ o. IsGivenUp (gateway_in old (other found.sent.role)) found.sent.what.plane (arrival_of found.sent.what.from (last_octets o))) (sym whole) late) in absurd (cc e)), subst (λ (o : List ℕ). Brings old found.sent o false new) whole t)
+    by : (late : Bool) → (IsTrue late ↔ IsTrue true × IsGivenUp (gateway_in old (other found.sent.role)) found.sent.what.plane
+        (arrival_of found.sent.what.from (last_octets (take count octets)))) → Brings old found.sent (take count octets) late new
+        → Unless (IsLate (gateway_in old (other found.sent.role)) found.sent.what) (Brings old found.sent octets false new)
+        (λ late. Brings old found.sent octets true new)
+    by true is t =
+        inr (
+          subst (λ o. IsGivenUp (gateway_in old (other found.sent.role)) found.sent.what.plane (arrival_of found.sent.what.from (last_octets o))) whole
+              (is.0 refl).1,
+          subst (λ (o : List ℕ). Brings old found.sent o true new) whole t,
+        )
+    by false is t =
+        inl (
+          (λ late.
+              let e : false ≡ true =
+              is.1 (
+                refl,
+                subst (λ o. IsGivenUp (gateway_in old (other found.sent.role)) found.sent.what.plane (arrival_of found.sent.what.from (last_octets o)))
+                    (sym whole) late,
+              ) in
+              absurd (cc e)),
+          subst (λ (o : List ℕ). Brings old found.sent o false new) whole t,
+        )
 
 -- and where fewer come it is not late
 pub cut_short : (old : WorldRecord) (sent : By Sent) (count : ℕ) (new : WorldRecord) → BringsFirst old sent count false new → Brings old sent (take count sent.what.octets) false new
 cut_short old sent count new b = by b.late b.is b.brings
   where
-    by : (late : Bool) → (IsTrue late ↔ IsTrue false × IsGivenUp (gateway_in old (other sent.role)) sent.what.plane (arrival_of sent.what.from (last_octets (take count sent.what.octets)))) → Brings old sent (take count sent.what.octets) late new → Brings old sent (take count sent.what.octets) false new
+    by : (late : Bool) → (IsTrue late ↔ IsTrue false
+        × IsGivenUp (gateway_in old (other sent.role)) sent.what.plane (arrival_of sent.what.from (last_octets (take count sent.what.octets))))
+        → Brings old sent (take count sent.what.octets) late new → Brings old sent (take count sent.what.octets) false new
     by true is t = let e : false ≡ true = (is.0 refl).0 in absurd (cc e)
     by false is t = t
 

@@ -16,7 +16,9 @@ told : (old : Node) (moves : List Move) (out : Out) (new : Node) → TickStep ol
 told old [] out new t = ap (λ (o : Out). o.forgot) t.0
 told old (Resend number ∷ moves) out new (e, rest, step, others, is) = ap (λ (o : Out). o.forgot) is ∙ ap (λ (k : Effect). k.out.forgot ++ rest.forgot) step.gives ∙ told e.node moves rest new others
 told old (Give_up number ∷ moves) out new (e, rest, step, others, is) = ap (λ (o : Out). o.forgot) is ∙ ap (λ (k : Effect). k.out.forgot ++ rest.forgot) step.gives ∙ told e.node moves rest new others
-told old (Forget request ∷ moves) out new (e, rest, step, others, is) = ap (λ (o : Out). o.forgot) is ∙ ap (λ (k : Effect). k.out.forgot ++ rest.forgot) step.gives ∙ ap (λ l. request ∷ l) (told e.node moves rest new others)
+told old (Forget request ∷ moves) out new (e, rest, step, others, is) =
+    ap (λ (o : Out). o.forgot) is ∙ ap (λ (k : Effect). k.out.forgot ++ rest.forgot) step.gives
+    ∙ ap (λ l. request ∷ l) (told e.node moves rest new others)
 
 none_resent : (numbers : List ℕ) (moves : List Move) → forgotten_by (map Resend numbers ++ moves) ≡ forgotten_by moves
 none_resent [] moves = refl

@@ -35,7 +35,8 @@ module _ {K X : Type 0} (f : K → X) (eq : K → K → Bool) (same : (a b : K) 
       by true is = (λ has. inl has, λ either. ⊎_elim (λ has. has) (λ e. subst (λ y. Among y (map f keys)) (sym e) ((found k keys).0 is)) either)
       by false is = (
         λ has. Among-one_more x (f k) (map f keys) (subst (λ l. Among x l) (map-append f keys (k ∷ [])) has),
-        λ either. subst (λ l. Among x l) (sym (map-append f keys (k ∷ []))) (⊎_elim (λ has. Among-left x (map f keys) (f k ∷ []) has) (λ e. subst (λ y. Among y (map f keys ++ (f k ∷ []))) (sym e) (Among-last (f k) (map f keys))) either),
+        λ either. subst (λ l. Among x l) (sym (map-append f keys (k ∷ []))) (⊎_elim (λ has. Among-left x (map f keys) (f k ∷ []) has)
+            (λ e. subst (λ y. Among y (map f keys ++ (f k ∷ []))) (sym e) (Among-last (f k) (map f keys))) either),
       )
 
   one_longer : (k : K) (keys : List K) → length (insert_key eq keys k) ≤ length keys + 1

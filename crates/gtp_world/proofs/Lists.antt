@@ -30,16 +30,22 @@ pub as_many : {Y : Type 0} (f : Sending → Y) (sent : List Sending) → length 
 as_many f [] = refl
 as_many f (s ∷ sent) = ap (λ n. suc n) (as_many f sent)
 
-pub for_append : (setup : Setup) (a : List (By Datagram)) (b : List SentDatagram) (c : List (By Datagram)) (d : List SentDatagram) → AreFor setup a b → AreFor setup c d → AreFor setup (a ++ c) (b ++ d)
+pub for_append : (setup : Setup) (a : List (By Datagram)) (b : List SentDatagram) (c : List (By Datagram)) (d : List SentDatagram) → AreFor setup a b
+    → AreFor setup c d → AreFor setup (a ++ c) (b ++ d)
 for_append setup [] [] c d are more = more
 for_append setup [] (s ∷ b) c d are more = absurd are
 for_append setup (x ∷ a) [] c d are more = absurd are
 for_append setup (x ∷ a) (s ∷ b) c d are more = (are.0, for_append setup a b c d are.1 more)
 
 -- what a gateway sends at a step
-pub sent_for : (setup : Setup) (role : Role) (config : Config) (sent : List Sending) → config ≡ config_in setup role → All SendingReads sent → AreFor setup (signed role (map (datagram_of config) sent)) (signed role (datagrams sent))
+pub sent_for : (setup : Setup) (role : Role) (config : Config) (sent : List Sending) → config ≡ config_in setup role → All SendingReads sent
+    → AreFor setup (signed role (map (datagram_of config) sent)) (signed role (datagrams sent))
 sent_for setup role config [] same read = tt
-sent_for setup role config (s ∷ sent) same read = (record { role = refl; plane = refl; from = ap (λ c. own_end c (datagram_plane s.messages)) same; octets = refl; reads = All-head SendingReads s sent read }, sent_for setup role config sent same (All-tail SendingReads s sent read))
+sent_for setup role config (s ∷ sent) same read = (
+  record
+      { role = refl; plane = refl; from = ap (λ c. own_end c (datagram_plane s.messages)) same; octets = refl; reads = All-head SendingReads s sent read },
+  sent_for setup role config sent same (All-tail SendingReads s sent read),
+)
 
 -- the messages of a datagram, by its number
 pub record Found (setup : Setup) (all : List SentDatagram) (number : ℕ) (d : By Datagram) : Type 0 where
@@ -55,7 +61,8 @@ find setup (x ∷ log) (s ∷ all) zero d are e = record { sent = s; is = refl; 
 find setup (x ∷ log) (s ∷ all) (suc number) d are e = let f = find setup log all number d are.1 e in record { sent = f.sent; is = f.is; for = f.for }
 
 -- and where there are messages, there is a datagram
-pub back : (setup : Setup) (log : List (By Datagram)) (all : List SentDatagram) (number : ℕ) (s : SentDatagram) → AreFor setup log all → slice_get all number ≡ Some s → (d : By Datagram) × (slice_get log number ≡ Some d)
+pub back : (setup : Setup) (log : List (By Datagram)) (all : List SentDatagram) (number : ℕ) (s : SentDatagram) → AreFor setup log all
+    → slice_get all number ≡ Some s → (d : By Datagram) × (slice_get log number ≡ Some d)
 back setup [] [] number s are e = absurd (cc e)
 back setup [] (x ∷ all) number s are e = absurd are
 back setup (d ∷ log) [] number s are e = absurd are

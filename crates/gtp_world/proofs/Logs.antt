@@ -6,7 +6,7 @@ use Rattle.gtp_world.specs.Record.{EventRecord, told_by, entry_by, counted, late
 use Rattle.gtp_reliable.specs.Forgotten.{question_of}
 use Rattle.gtp_reliable.specs.declared.held.Request.{Request}
 use Rattle.gtp_gateway.specs.Tick.{asked_by, arrivals_of}
-use Rattle.gtp_world.specs.Sides.{entries}
+use Rattle.gtp_world.specs.Inputs.{entries}
 use Rattle.gtp_world.specs.declared.log.Entry.{Entry}
 use Rattle.gtp_world.specs.declared.log.Note.{Note}
 

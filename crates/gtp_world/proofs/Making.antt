@@ -84,7 +84,8 @@ never_faulty (Ok d) f is = by d.second is
     by (Some k) e = cc
 never_faulty (Err fault) f is = cc
 
-announced_none : (role : Role) (request : Arrival) (octets : List ℕ) (old : Node) (e : Effect) → announces octets ≡ true → MachineStep role old (Control_came request (taken_as (datagram_reading octets))) e → e.out.made ≡ []
+announced_none : (role : Role) (request : Arrival) (octets : List ℕ) (old : Node) (e : Effect) → announces octets ≡ true
+    → MachineStep role old (Control_came request (taken_as (datagram_reading octets))) e → e.out.made ≡ []
 announced_none role request octets old e h takes = by (datagram_reading octets) refl takes
   where
     by : (r : DatagramReading) → r ≡ datagram_reading octets → MachineStep role old (Control_came request (taken_as r)) e → e.out.made ≡ []
@@ -93,8 +94,11 @@ announced_none role request octets old e h takes = by (datagram_reading octets) 
     by (Alone (Control_message m)) is step = (let both : false ≡ true = sym (one_announces_none octets m is) ∙ h in absurd cc)
     by (Alone (Faulty f)) is step = absurd (never_faulty (datagram_at octets) f (is ∙ ap (λ (b : Bool). cond b (pair_reading_of (datagram_at octets)) (Alone (control_reading octets))) h))
 
-pub made_last : (plane : Plane) (source : Endpoint) (octets : List ℕ) (old : GatewayState) (step : Step) (new : GatewayState) (r : IsReceivedOnce plane source octets old step new) → made_for (arrival_of source (last_octets octets)) step.report.made ≡ r.effect.out.made
-made_last User source octets old step new r = any_request (arrival_of source octets) _ step.report.made r.effect.out.made r.tells.made (user_step old.node old.role source (user_reading octets) r.effect r.takes)
+pub made_last : (plane : Plane) (source : Endpoint) (octets : List ℕ) (old : GatewayState) (step : Step) (new : GatewayState)
+    (r : IsReceivedOnce plane source octets old step new) → made_for (arrival_of source (last_octets octets)) step.report.made ≡ r.effect.out.made
+made_last User source octets old step new r =
+    any_request (arrival_of source octets) _ step.report.made r.effect.out.made r.tells.made
+    (user_step old.node old.role source (user_reading octets) r.effect r.takes)
 made_last Control source octets old step new r = by (announces octets) refl
   where
     by : (b : Bool) → announces octets ≡ b → made_for (arrival_of source (last_octets octets)) step.report.made ≡ r.effect.out.made

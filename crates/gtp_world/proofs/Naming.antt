@@ -74,7 +74,8 @@ record LeadBack {X : Type 0} (leads : X → Option ℕ) (others : FiniteMap X) (
 partner_from : {X : Type 0} (leads : X → Option ℕ) (others : FiniteMap X) (own : ℕ) (x : X) (there : ℕ) → partner leads others own x ≡ Some there → LeadBack leads others own x there
 partner_from {X} leads others own x there is = to (leads x) refl is
   where
-    at : (t : ℕ) (p : X) (back : ℕ) (b : Bool) → leads x ≡ Some t → get others t ≡ Some p → leads p ≡ Some back → nat_eq back own ≡ b → (if b then Some t else None) ≡ Some there → LeadBack leads others own x there
+    at : (t : ℕ) (p : X) (back : ℕ) (b : Bool) → leads x ≡ Some t → get others t ≡ Some p → leads p ≡ Some back → nat_eq back own ≡ b
+        → (if b then Some t else None) ≡ Some there → LeadBack leads others own x there
     at t p back true leads_there stands leads_back same h =
         let is_there : t ≡ there = cc in
         let is_own : back ≡ own = grind (arith, nat_tests) in
@@ -124,16 +125,25 @@ record Named {X : Type 0} (leads : X → Option ℕ) (sgw pgw : FiniteMap X) (c 
   to : leads own ≡ Some d
   back : leads other ≡ Some c
 
-named : {X : Type 0} (leads : X → Option ℕ) (pair : ℕ → ℕ → Pair) → ((a b c d : ℕ) → pair a b ≡ pair c d → (a ≡ c) × (b ≡ d)) → (sgw pgw : FiniteMap X) (c d : ℕ) → Among (pair c d) (pairs_of leads pair pgw (entries sgw)) → Named leads sgw pgw c d
+named : {X : Type 0} (leads : X → Option ℕ) (pair : ℕ → ℕ → Pair) → ((a b c d : ℕ) → pair a b ≡ pair c d → (a ≡ c) × (b ≡ d))
+    → (sgw pgw : FiniteMap X) (c d : ℕ) → Among (pair c d) (pairs_of leads pair pgw (entries sgw)) → Named leads sgw pgw c d
 named leads pair apart sgw pgw c d among =
     let g = given_from _ (entries sgw) (pair c d) among in
     let p = paired pair g.of.0 (partner leads pgw g.of.0 g.of.1) (pair c d) g.gives in
     let keys = apart g.of.0 p.0 c d p.2 in
     let l = partner_from leads pgw g.of.0 g.of.1 p.0 p.1 in
-    record { own = g.of.1; other = l.other; serving = ap (get sgw) (sym keys.0) ∙ entry_stands sgw g.of g.among; packet = ap (get pgw) (sym keys.1) ∙ l.stands; to = l.to ∙ ap Some keys.1; back = l.back ∙ ap Some keys.0 }
+    record {
+      own = g.of.1;
+      other = l.other;
+      serving = ap (get sgw) (sym keys.0) ∙ entry_stands sgw g.of g.among;
+      packet = ap (get pgw) (sym keys.1) ∙ l.stands;
+      to = l.to ∙ ap Some keys.1;
+      back = l.back ∙ ap Some keys.0;
+    }
 
 -- a pair of the other kind is not among them
-unlisted : {X : Type 0} (leads : X → Option ℕ) (pair : ℕ → ℕ → Pair) (p : Pair) → ((own there : ℕ) → pair own there ≡ p → ⊥) → (others : FiniteMap X) (es : List (ℕ × X)) → Among p (pairs_of leads pair others es) → ⊥
+unlisted : {X : Type 0} (leads : X → Option ℕ) (pair : ℕ → ℕ → Pair) (p : Pair) → ((own there : ℕ) → pair own there ≡ p → ⊥)
+    → (others : FiniteMap X) (es : List (ℕ × X)) → Among p (pairs_of leads pair others es) → ⊥
 unlisted leads pair p apart others es among =
     let g = given_from _ es p among in
     let of = paired pair g.of.0 (partner leads others g.of.0 g.of.1) p g.gives in
@@ -162,17 +172,27 @@ module _ (v : WorldRecord) where
 
   -- what is listed names each other
   pub listed : (pair : Pair) → Among pair (mutual_pairs v) → NameEachOther v pair
-  listed (Sessions c d) among = ⊎_elim (session_named c d) (λ has. absurd (unlisted bearer_leads Bearers (Sessions c d) (λ own there same. cc same) v.packet.state.node.bearers bearers has)) (Among-cases (Sessions c d) (session_pairs v.packet.state.node.sessions sessions) (bearer_pairs v.packet.state.node.bearers bearers) among)
-  listed (Bearers c d) among = ⊎_elim (λ has. absurd (unlisted session_leads Sessions (Bearers c d) (λ own there same. cc same) v.packet.state.node.sessions sessions has)) (bearer_named c d) (Among-cases (Bearers c d) (session_pairs v.packet.state.node.sessions sessions) (bearer_pairs v.packet.state.node.bearers bearers) among)
+  listed (Sessions c d) among =
+      ⊎_elim (session_named c d)
+      (λ has. absurd (unlisted bearer_leads Bearers (Sessions c d) (λ own there same. cc same) v.packet.state.node.bearers bearers has))
+      (Among-cases (Sessions c d) (session_pairs v.packet.state.node.sessions sessions) (bearer_pairs v.packet.state.node.bearers bearers) among)
+  listed (Bearers c d) among =
+      ⊎_elim (λ has. absurd (unlisted session_leads Sessions (Bearers c d) (λ own there same. cc same) v.packet.state.node.sessions sessions has))
+      (bearer_named c d)
+      (Among-cases (Bearers c d) (session_pairs v.packet.state.node.sessions sessions) (bearer_pairs v.packet.state.node.bearers bearers) among)
 
   -- and what names each other is listed
   pub is_listed : (pair : Pair) → NameEachOther v pair → Among pair (mutual_pairs v)
   is_listed (Sessions c d) (s, p, m) =
-      let l = partner_to session_leads v.packet.state.node.sessions c s d (record { to = leads s.state s.remote d m.serving_active m.there; other = p; stands = m.packet; back = leads p.state p.remote c m.packet_active m.back }) in
+      let l =
+      partner_to session_leads v.packet.state.node.sessions c s d (record
+      { to = leads s.state s.remote d m.serving_active m.there; other = p; stands = m.packet; back = leads p.state p.remote c m.packet_active m.back }) in
       Among-left (Sessions c d) (session_pairs v.packet.state.node.sessions sessions) (bearer_pairs v.packet.state.node.bearers bearers)
       (among_given _ sessions (c, s) (Sessions c d) (among_entries v.serving.state.node.sessions c s m.serving) (ap (option_map (Sessions c)) l))
   is_listed (Bearers c d) (s, p, m) =
-      let l = partner_to bearer_leads v.packet.state.node.bearers c s d (record { to = leads s.state s.remote d m.serving_active m.there; other = p; stands = m.packet; back = leads p.state p.remote c m.packet_active m.back }) in
+      let l =
+      partner_to bearer_leads v.packet.state.node.bearers c s d (record
+      { to = leads s.state s.remote d m.serving_active m.there; other = p; stands = m.packet; back = leads p.state p.remote c m.packet_active m.back }) in
       Among-right (Bearers c d) (session_pairs v.packet.state.node.sessions sessions) (bearer_pairs v.packet.state.node.bearers bearers)
       (among_given _ bearers (c, s) (Bearers c d) (among_entries v.serving.state.node.bearers c s m.serving) (ap (option_map (Bearers c)) l))
 
@@ -181,4 +201,11 @@ pub agreeing : (v : WorldRecord) → LeftBySomeRun v → (pair : Pair) → NameE
 agreeing v r (Sessions c d) (s, p, m) = record { at_serving = s; at_packet = p; here = m.serving; there = m.packet; agree = (run_safe r.setup r.events v r.run).sessions c d s p m }
 agreeing v r (Bearers c d) (s, p, m) =
     let a = (run_safe r.setup r.events v r.run).bearers c d s p m in
-    record { at_serving = s; at_packet = p; here = m.serving; there = m.packet; identity = a.identity; sessions = record { at_serving = a.at_serving; at_packet = a.at_packet; here = a.here; there = a.there; agree = a.sessions } }
+    record {
+      at_serving = s;
+      at_packet = p;
+      here = m.serving;
+      there = m.packet;
+      identity = a.identity;
+      sessions = record { at_serving = a.at_serving; at_packet = a.at_packet; here = a.here; there = a.there; agree = a.sessions };
+    }

@@ -82,7 +82,9 @@ one_announces_none octets m reads = of_one ((datagram_by_grammar octets (Alone (
 
     of_one : IsDatagramReadOf octets (Alone (Control_message m)) → announces octets ≡ false
     of_one (inl (d, inl (k, is, same), as_d)) = none_announced octets k is
-    of_one (inl (d, inr (front, back, announced, (k, is_k, (n, is_n, same))), as_d)) = let so : Alone (Control_message m) ≡ Both (message_of k) (message_of n) = as_d ∙ ap (λ (v : DatagramValue). messages_read v.first v.second) same in absurd (cc so)
+    of_one (inl (d, inr (front, back, announced, (k, is_k, (n, is_n, same))), as_d)) =
+        let so : Alone (Control_message m) ≡ Both (message_of k) (message_of n) = as_d ∙ ap (λ (v : DatagramValue). messages_read v.first v.second) same in
+        absurd (cc so)
     of_one (inr (f, fails, as_f)) = by_fault (announces octets) f refl as_f
 
 pub last_of : (octets : List ℕ) (announced : Bool) → announces octets ≡ announced → last_octets octets ≡ cond announced (second_part octets) octets
@@ -137,7 +139,9 @@ module _ (c : CreateSessionResponse) (b : Message) (reads : ReadsBackOn Control 
   abbrev a : Message
   a = Create_session_response c
 
-  unannounced : (octets following back front own : List ℕ) (flags kind high low : ℕ) → octets ≡ (80 + flags) ∷ kind ∷ high ∷ low ∷ (following ++ back) → front ≡ (64 + flags) ∷ kind ∷ high ∷ low ∷ following → octets ≡ paired (72 ∷ own) (spelled b) → length front ≡ length (72 ∷ own) → front ≡ 72 ∷ own
+  unannounced : (octets following back front own : List ℕ) (flags kind high low : ℕ) → octets ≡ (80 + flags) ∷ kind ∷ high ∷ low ∷ (following ++ back)
+      → front ≡ (64 + flags) ∷ kind ∷ high ∷ low ∷ following → octets ≡ paired (72 ∷ own) (spelled b) → length front ≡ length (72 ∷ own)
+      → front ≡ 72 ∷ own
   unannounced octets following back front own flags kind high low begins is spells long =
       let same : ◌≡◌ {A = List ℕ} ((80 + flags) ∷ kind ∷ high ∷ low ∷ (following ++ back)) (88 ∷ (own ++ spelled b)) = sym begins ∙ spells in
       let head : 80 + flags ≡ 88 = cc same in
@@ -156,4 +160,10 @@ module _ (c : CreateSessionResponse) (b : Message) (reads : ReadsBackOn Control 
       unannounced (spelled_all (a ∷ b ∷ [])) an.4 t.back t.front own an.0 an.1 an.2 an.3 an.5.1 an.7 (ap (λ l. paired l (spelled b)) is) (front_long a b [] reads ∙ ap length is) ∙ sym is
 
   pub first_alone : ControlReads (spelled a) (Control_message a)
-  first_alone = (control_by_grammar (spelled a) (Control_message a)).1 (inl ((two a b [] reads).first, subst (λ l. IsMessage l (two a b [] reads).first) (front_is _ refl) (two a b [] reads).spells_first, ap (λ m. Control_message m) (two a b [] reads).first_is))
+  first_alone =
+      (control_by_grammar (spelled a) (Control_message a)).1
+      (inl (
+        (two a b [] reads).first,
+        subst (λ l. IsMessage l (two a b [] reads).first) (front_is _ refl) (two a b [] reads).spells_first,
+        ap (λ m. Control_message m) (two a b [] reads).first_is,
+      ))

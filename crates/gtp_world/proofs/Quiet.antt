@@ -5,7 +5,8 @@ use Rattle.gtp_machine.specs.declared.role.Role.{Role}
 use Rattle.gtp_machine.specs.declared.role.Role.TheVariants.{Serving, Packet}
 use Rattle.gtp_machine.specs.Command.{CommandStep, SessionBegun, SessionDeleted, BearerBegun, BearerDeleted, SessionReleased, EndMarked, EchoBegun, SendsPacket}
 use Rattle.gtp_machine.specs.Choice.{HasBearer}
-use Rattle.gtp_machine.specs.Input.{Specification, Command, Create_session, Delete_session, Create_bearer, Delete_bearer, Release_session, Mark_end, Send_echo, Send_user, Effect, Out, nothing, refused}
+use Rattle.gtp_machine.specs.Input.{Specification, Command, Create_session, Delete_session, Create_bearer, Delete_bearer, Release_session, Mark_end}
+use Rattle.gtp_machine.specs.Input.{Send_echo, Send_user, Effect, Out, nothing, refused}
 use Rattle.gtp_machine.specs.Node.{Node}
 use Rattle.gtp_machine.specs.Ordered.{Unless}
 use Rattle.gtp_machine.specs.declared.outcome.Refusal.{Refusal}
@@ -94,4 +95,6 @@ plainly role (Delete_bearer session identity) old e r = quietly e (bearer_delete
 plainly role (Release_session session) old e r = quietly e (session_released role session old e r)
 plainly role (Mark_end bearer) old e r = quietly e (end_marked role bearer old e r)
 plainly role Send_echo old e r = quietly e (echo_begun old e r)
-plainly role (Send_user bearer payload) old e r = ⊎_elim (λ refusal. subst IsPlain (sym refusal.is) refl) (λ hands. subst IsPlain (sym hands.sends.gives) refl) (handing role (Send_user bearer payload) old e r)
+plainly role (Send_user bearer payload) old e r =
+    ⊎_elim (λ refusal. subst IsPlain (sym refusal.is) refl) (λ hands. subst IsPlain (sym hands.sends.gives) refl)
+    (handing role (Send_user bearer payload) old e r)

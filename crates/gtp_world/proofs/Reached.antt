@@ -28,7 +28,10 @@ pub made_timely : (v : WorldRecord) (number count : ℕ) → ∥ LeftBySomeRun v
 made_timely v number count whole made none = small count (λ many. ∥∥₁_elim whole (λ x y. absurd x) (λ w. let few = once w in omega (arith, many, few)))
   where
     once : LeftBySomeRun v → count ≤ 1
-    once w = made_once v number count made w.setup w.events w.run made.found (always_timely w.setup.serving.config w.setup.packet.config w.setup.serving_counter w.setup.packet_counter w.events w.run.world w.run.run (sym w.run.stands.late ∙ none) _ _)
+    once w =
+        made_once v number count made w.setup w.events w.run made.found
+        (always_timely w.setup.serving.config w.setup.packet.config w.setup.serving_counter w.setup.packet_counter w.events w.run.world w.run.run
+        (sym w.run.stands.late ∙ none) _ _)
 
     small : (n : ℕ) → (1 < n → ⊥) → n ≤ 1
     small zero not_many = omega arith

@@ -12,7 +12,9 @@ use Rattle.gtp_machine.specs.Reading.{control_reading, ControlReads, Both, datag
 use Rattle.gtp_machine.specs.Spelling.{Datagram, datagram_plane, spelled, spelled_all, announcing, last_part}
 use Rattle.gtp_machine.specs.Step.{Step, TakesPair, Done, tick_steps}
 use Rattle.gtp_machine.specs.Tick.{TickStep, ticked}
-use Rattle.gtp_machine.specs.World.{By, SentDatagram, World, Note, Event, Does, Tick, Deliver, Cut, Restart, Happens, ComesTo, Delivers, Moves, MovesTwice, TicksOn, Run, come_from, first_came, second_came, delivered_on, marked_late, logged, moved, noted, other, side_of, signed, steps_of}
+use Rattle.gtp_machine.specs.World.{By, SentDatagram, World, Note, Event, Does, Tick, Deliver, Cut, Restart, Happens, ComesTo, Delivers, Moves}
+use Rattle.gtp_machine.specs.World.{MovesTwice, TicksOn, Run, come_from, first_came, second_came, delivered_on, marked_late, logged, moved, noted}
+use Rattle.gtp_machine.specs.World.{other, side_of, signed, steps_of}
 use Rattle.gtp_machine.specs.declared.role.Role.{Role}
 use Rattle.gtp_machine.specs.declared.role.Role.TheVariants.{Serving, Packet}
 use Rattle.gtp_machine.proofs.Basics.Datagrams.{IsFew}
@@ -35,7 +37,7 @@ use Rattle.gtp_world.proofs.Going.{Goes, goes}
 use Rattle.gtp_world.proofs.Lists.{Found, find}
 use Rattle.gtp_world.proofs.Pairs.{second_alone, last_sent}
 use Rattle.gtp_world.proofs.Running.{runs_on}
-use Rattle.gtp_world.proofs.Standing.{half_stands}
+use Rattle.gtp_world.proofs.Standing.{gateway_stands}
 
 -- ---- what a run adds
 
@@ -49,7 +51,8 @@ record HasGrown (role : Role) (old new : World) : Type 0 where
   pub forgets : (done : Done) (a : Arrival) → Among done steps → Among a done.effect.out.forgot → Among a (side_of new role).forgotten
   pub keeps : (a : Arrival) → Among a (side_of old role).forgotten → Among a (side_of new role).forgotten
 
-nothing_grown : (role : Role) (old new : World) → steps_of new role ≡ steps_of old role → new.datagrams ≡ old.datagrams → (side_of new role).forgotten ≡ (side_of old role).forgotten → HasGrown role old new
+nothing_grown : (role : Role) (old new : World) → steps_of new role ≡ steps_of old role → new.datagrams ≡ old.datagrams
+    → (side_of new role).forgotten ≡ (side_of old role).forgotten → HasGrown role old new
 nothing_grown role old new steps adds forgotten = record {
   steps = [];
   sent = [];
@@ -60,7 +63,9 @@ nothing_grown role old new steps adds forgotten = record {
 }
 
 -- a gateway has made some steps, which forget no more than is told
-step_grown : (role mover : Role) (old : World) (e : Effect) (note : Note) (steps : List Done) (new : World) → new ≡ logged (noted (moved old mover e) note) mover steps → ((done : Done) (a : Arrival) → Among done steps → Among a done.effect.out.forgot → Among a e.out.forgot) → HasGrown role old new
+step_grown : (role mover : Role) (old : World) (e : Effect) (note : Note) (steps : List Done) (new : World)
+    → new ≡ logged (noted (moved old mover e) note) mover steps
+    → ((done : Done) (a : Arrival) → Among done steps → Among a done.effect.out.forgot → Among a e.out.forgot) → HasGrown role old new
 step_grown Serving Serving old e note steps new is each = record {
   steps = steps;
   sent = _;
@@ -97,27 +102,41 @@ step_grown Packet Serving old e note steps new is each = record {
 moves_grown : (role mover : Role) (old : World) (input : Input) (new : World) → Moves old mover input new → HasGrown role old new
 moves_grown role mover old input new m = step_grown role mover old m.effect _ _ new m.becomes (λ done a among gone. one_step done a among gone)
   where
-    one_step : (done : Done) (a : Arrival) → Among done (record { before = (side_of old mover).node; input = input; effect = m.effect } ∷ []) → Among a done.effect.out.forgot → Among a m.effect.out.forgot
+    one_step : (done : Done) (a : Arrival) → Among done (record { before = (side_of old mover).node; input = input; effect = m.effect } ∷ [])
+        → Among a done.effect.out.forgot → Among a m.effect.out.forgot
     one_step done a (inl is) gone = subst (λ (d : Done). Among a d.effect.out.forgot) is gone
     one_step done a (inr none) gone = absurd none
 
 -- a gateway has made two steps of one delivery
-both_grown : (role mover : Role) (old : World) (e next : Effect) (note : Note) (steps : List Done) (new : World) → new ≡ logged (noted (moved (moved old mover e) mover next) note) mover steps → ((done : Done) (a : Arrival) → Among done steps → Among a done.effect.out.forgot → Among a e.out.forgot ⊎ Among a next.out.forgot) → HasGrown role old new
+both_grown : (role mover : Role) (old : World) (e next : Effect) (note : Note) (steps : List Done) (new : World)
+    → new ≡ logged (noted (moved (moved old mover e) mover next) note) mover steps
+    → ((done : Done) (a : Arrival) → Among done steps → Among a done.effect.out.forgot → Among a e.out.forgot ⊎ Among a next.out.forgot)
+    → HasGrown role old new
 both_grown Serving Serving old e next note steps new is each = record {
   steps = steps;
   sent = _;
   steps_are = ap (λ (w : World). w.serving_steps) is;
   adds = ap (λ (w : World). w.datagrams) is ∙ append_assoc old.datagrams _ _;
-  forgets = λ done a among gone. subst (λ (w : World). Among a w.serving.forgotten) (sym is) (⊎_elim (λ was. Among-left a (old.serving.forgotten ++ e.out.forgot) next.out.forgot (Among-right a old.serving.forgotten e.out.forgot was)) (λ now. Among-right a (old.serving.forgotten ++ e.out.forgot) next.out.forgot now) (each done a among gone));
-  keeps = λ a was. subst (λ (w : World). Among a w.serving.forgotten) (sym is) (Among-left a (old.serving.forgotten ++ e.out.forgot) next.out.forgot (Among-left a old.serving.forgotten e.out.forgot was));
+  forgets =
+      λ done a among gone. subst (λ (w : World). Among a w.serving.forgotten) (sym is)
+      (⊎_elim (λ was. Among-left a (old.serving.forgotten ++ e.out.forgot) next.out.forgot (Among-right a old.serving.forgotten e.out.forgot was))
+      (λ now. Among-right a (old.serving.forgotten ++ e.out.forgot) next.out.forgot now) (each done a among gone));
+  keeps =
+      λ a was. subst (λ (w : World). Among a w.serving.forgotten) (sym is)
+      (Among-left a (old.serving.forgotten ++ e.out.forgot) next.out.forgot (Among-left a old.serving.forgotten e.out.forgot was));
 }
 both_grown Packet Packet old e next note steps new is each = record {
   steps = steps;
   sent = _;
   steps_are = ap (λ (w : World). w.packet_steps) is;
   adds = ap (λ (w : World). w.datagrams) is ∙ append_assoc old.datagrams _ _;
-  forgets = λ done a among gone. subst (λ (w : World). Among a w.packet.forgotten) (sym is) (⊎_elim (λ was. Among-left a (old.packet.forgotten ++ e.out.forgot) next.out.forgot (Among-right a old.packet.forgotten e.out.forgot was)) (λ now. Among-right a (old.packet.forgotten ++ e.out.forgot) next.out.forgot now) (each done a among gone));
-  keeps = λ a was. subst (λ (w : World). Among a w.packet.forgotten) (sym is) (Among-left a (old.packet.forgotten ++ e.out.forgot) next.out.forgot (Among-left a old.packet.forgotten e.out.forgot was));
+  forgets =
+      λ done a among gone. subst (λ (w : World). Among a w.packet.forgotten) (sym is)
+      (⊎_elim (λ was. Among-left a (old.packet.forgotten ++ e.out.forgot) next.out.forgot (Among-right a old.packet.forgotten e.out.forgot was))
+      (λ now. Among-right a (old.packet.forgotten ++ e.out.forgot) next.out.forgot now) (each done a among gone));
+  keeps =
+      λ a was. subst (λ (w : World). Among a w.packet.forgotten) (sym is)
+      (Among-left a (old.packet.forgotten ++ e.out.forgot) next.out.forgot (Among-left a old.packet.forgotten e.out.forgot was));
 }
 both_grown Serving Packet old e next note steps new is each = record {
   steps = [];
@@ -139,7 +158,9 @@ both_grown Packet Serving old e next note steps new is each = record {
 twice_grown : (role mover : Role) (old : World) (first second : Input) (new : World) → MovesTwice old mover first second new → HasGrown role old new
 twice_grown role mover old first second new m = both_grown role mover old m.effect m.next _ _ new m.becomes (λ done a among gone. two_steps done a among gone)
   where
-    two_steps : (done : Done) (a : Arrival) → Among done (record { before = (side_of old mover).node; input = first; effect = m.effect } ∷ record { before = m.effect.node; input = second; effect = m.next } ∷ []) → Among a done.effect.out.forgot → Among a m.effect.out.forgot ⊎ Among a m.next.out.forgot
+    two_steps : (done : Done) (a : Arrival) → Among done (record { before = (side_of old mover).node; input = first; effect = m.effect } ∷ record
+        { before = m.effect.node; input = second; effect = m.next } ∷ []) → Among a done.effect.out.forgot
+        → Among a m.effect.out.forgot ⊎ Among a m.next.out.forgot
     two_steps done a (inl is) gone = inl (subst (λ (d : Done). Among a d.effect.out.forgot) is gone)
     two_steps done a (inr (inl is)) gone = inr (subst (λ (d : Done). Among a d.effect.out.forgot) is gone)
     two_steps done a (inr (inr none)) gone = absurd none
@@ -149,7 +170,8 @@ comes_grown role receiver from datagram old new (inl whole) = moves_grown role r
 comes_grown role receiver from datagram old new (inr pair) = twice_grown role receiver old _ _ new pair.1
 
 -- what a step of a tick forgets, the tick forgets
-tick_forgets : (moves : List Move) (old : Node) (out : Out) (new : Node) (tick : TickStep old moves out new) (done : Done) (a : Arrival) → Among done (tick_steps old moves out new tick) → Among a done.effect.out.forgot → Among a out.forgot
+tick_forgets : (moves : List Move) (old : Node) (out : Out) (new : Node) (tick : TickStep old moves out new) (done : Done) (a : Arrival)
+    → Among done (tick_steps old moves out new tick) → Among a done.effect.out.forgot → Among a out.forgot
 tick_forgets [] old out new tick done a none gone = absurd none
 tick_forgets (move ∷ moves) old out new (e, rest, step, others, is) done a (inl same) gone =
     subst (λ (o : Out). Among a o.forgot) (sym is) (Among-left a e.out.forgot rest.forgot (subst (λ (d : Done). Among a d.effect.out.forgot) same gone))
@@ -205,8 +227,12 @@ happens_grown role old (Cut number count) new never (inr (found, inr (short, c))
 happens_grown role old (Restart mover) new never (inl used) = noted_grown role old new _ used.1
 happens_grown Serving old (Restart Serving) new never (inr (few, is)) = absurd (never refl)
 happens_grown Packet old (Restart Packet) new never (inr (few, is)) = absurd (never refl)
-happens_grown Serving old (Restart Packet) new never (inr (few, is)) = nothing_grown Serving old new (ap (λ (w : World). w.serving_steps) is) (ap (λ (w : World). w.datagrams) is) (ap (λ (w : World). w.serving.forgotten) is)
-happens_grown Packet old (Restart Serving) new never (inr (few, is)) = nothing_grown Packet old new (ap (λ (w : World). w.packet_steps) is) (ap (λ (w : World). w.datagrams) is) (ap (λ (w : World). w.packet.forgotten) is)
+happens_grown Serving old (Restart Packet) new never (inr (few, is)) =
+    nothing_grown Serving old new (ap (λ (w : World). w.serving_steps) is) (ap (λ (w : World). w.datagrams) is)
+    (ap (λ (w : World). w.serving.forgotten) is)
+happens_grown Packet old (Restart Serving) new never (inr (few, is)) =
+    nothing_grown Packet old new (ap (λ (w : World). w.packet_steps) is) (ap (λ (w : World). w.datagrams) is)
+    (ap (λ (w : World). w.packet.forgotten) is)
 
 runs_grown : (role : Role) (old : World) (events : List Event) (new : World) → NeverRestarts role events → Run old events new → HasGrown role old new
 runs_grown role old [] new never is = nothing_grown role old new (ap (λ (w : World). steps_of w role) is) (ap (λ (w : World). w.datagrams) is) (ap (λ (w : World). (side_of w role).forgotten) is)
@@ -246,11 +272,24 @@ record IsStep (old : World) (role : Role) (input : Input) (new : World) : Type 0
   pub adds : new.datagrams ≡ old.datagrams ++ signed role (datagrams done.effect.out.sent)
 
 step_of : (old : World) (role : Role) (input : Input) (new : World) → Moves old role input new → IsStep old role input new
-step_of old Serving input new m = record { done = record { before = old.serving.node; input = input; effect = m.effect }; took = refl; steps = ap (λ (w : World). w.serving_steps) m.becomes; adds = ap (λ (w : World). w.datagrams) m.becomes }
-step_of old Packet input new m = record { done = record { before = old.packet.node; input = input; effect = m.effect }; took = refl; steps = ap (λ (w : World). w.packet_steps) m.becomes; adds = ap (λ (w : World). w.datagrams) m.becomes }
+step_of old Serving input new m =
+    record {
+      done = record { before = old.serving.node; input = input; effect = m.effect };
+      took = refl;
+      steps = ap (λ (w : World). w.serving_steps) m.becomes;
+      adds = ap (λ (w : World). w.datagrams) m.becomes;
+    }
+step_of old Packet input new m =
+    record {
+      done = record { before = old.packet.node; input = input; effect = m.effect };
+      took = refl;
+      steps = ap (λ (w : World). w.packet_steps) m.becomes;
+      adds = ap (λ (w : World). w.datagrams) m.becomes;
+    }
 
 -- a datagram of one message comes
-alone_taken : (old : World) (role : Role) (from : Addresses) (m : Message) (new : World) → plane_of m ≡ Control → ComesTo old role from (m ∷ []) new → IsTaken old role (come_from from (spelled m)) m new
+alone_taken : (old : World) (role : Role) (from : Addresses) (m : Message) (new : World) → plane_of m ≡ Control → ComesTo old role from (m ∷ []) new
+    → IsTaken old role (come_from from (spelled m)) m new
 alone_taken old role from m new control c =
     let step = step_of old role _ new (alone_comes old role from new m c) in
     record {
@@ -264,16 +303,21 @@ alone_taken old role from m new control c =
 
 -- a pair comes that is not taken: it is not from the peer
 whole_dropped : (old : World) (from : Addresses) (a : CreateSessionResponse) (r : CreateBearerRequest) (new : World)
-    → (TakesPair Serving old.serving.node.config (come_from from (spelled_all (Create_session_response a ∷ Create_bearer_request r ∷ []))) (Both (Create_session_response a) (Create_bearer_request r)) → ⊥)
+    → (TakesPair Serving old.serving.node.config (come_from from (spelled_all (Create_session_response a ∷ Create_bearer_request r ∷ [])))
+    (Both (Create_session_response a) (Create_bearer_request r)) → ⊥)
     → ComesWhole old Serving from a r new → new.datagrams ≡ old.datagrams
 whole_dropped old from a r new none m = ap (λ (w : World). w.datagrams) m.becomes ∙ (ap (λ l. old.datagrams ++ signed Serving (datagrams l)) (silent m.step) ∙ append-nil old.datagrams)
   where
-    silent : Step Serving old.serving.node (Control_came (come_from from (spelled_all (Create_session_response a ∷ Create_bearer_request r ∷ []))) (Control_message (Other_control 0))) m.effect → m.effect.out.sent ≡ []
+    silent : Step Serving old.serving.node
+        (Control_came (come_from from (spelled_all (Create_session_response a ∷ Create_bearer_request r ∷ []))) (Control_message (Other_control 0)))
+        m.effect → m.effect.out.sent ≡ []
     silent (inl f) = ap (λ (e : Effect). e.out.sent) f.1
     silent (inr (peer, rest)) = absurd (none (record { by = refl; peer = peer; answer = a; asked = r; is = refl }))
 
 -- a pair comes that is taken: its first message sends nothing, and gives up no answer
-apart_taken : (old : World) (from : Addresses) (a : CreateSessionResponse) (r : CreateBearerRequest) (new : World) → HeldOfSent old → MovesTwice old Serving (first_came from (Create_session_response a)) (second_came from (Create_bearer_request r)) new → IsTaken old Serving (come_from from (spelled (Create_bearer_request r))) (Create_bearer_request r) new
+apart_taken : (old : World) (from : Addresses) (a : CreateSessionResponse) (r : CreateBearerRequest) (new : World) → HeldOfSent old
+    → MovesTwice old Serving (first_came from (Create_session_response a)) (second_came from (Create_bearer_request r)) new
+    → IsTaken old Serving (come_from from (spelled (Create_bearer_request r))) (Create_bearer_request r) new
 apart_taken old from a r new held m =
     record {
       front = first ∷ [];
@@ -281,7 +325,10 @@ apart_taken old from a r new held m =
       done = record { before = m.effect.node; input = second_came from (Create_bearer_request r); effect = m.next };
       takes = refl;
       steps = ap (λ (w : World). w.serving_steps) m.becomes;
-      adds = ap (λ (w : World). w.datagrams) m.becomes ∙ (ap (λ l. (old.datagrams ++ signed Serving (datagrams l)) ++ signed Serving (datagrams m.next.out.sent)) silent ∙ ap (λ l. l ++ signed Serving (datagrams m.next.out.sent)) (append-nil old.datagrams));
+      adds =
+          ap (λ (w : World). w.datagrams) m.becomes
+          ∙ (ap (λ l. (old.datagrams ++ signed Serving (datagrams l)) ++ signed Serving (datagrams m.next.out.sent)) silent
+          ∙ ap (λ l. l ++ signed Serving (datagrams m.next.out.sent)) (append-nil old.datagrams));
     }
   where
     lies : Arrival
@@ -303,16 +350,24 @@ apart_taken old from a r new held m =
     quietly done (inl is) = ap (λ (d : Done). d.effect.out.forgot) is ∙ none_forgotten old.serving.node lies m.effect opens
     quietly done (inr none) = absurd none
 
-pair_taken : (old : World) (role : Role) (from : Addresses) (a : CreateSessionResponse) (r : CreateBearerRequest) (new : World) → role ≡ Serving → HeldOfSent old → ComesTo old role from (Create_session_response a ∷ Create_bearer_request r ∷ []) new → TakenOr old role (come_from from (spelled (Create_bearer_request r))) (Create_bearer_request r) new
+pair_taken : (old : World) (role : Role) (from : Addresses) (a : CreateSessionResponse) (r : CreateBearerRequest) (new : World) → role ≡ Serving
+    → HeldOfSent old → ComesTo old role from (Create_session_response a ∷ Create_bearer_request r ∷ []) new
+    → TakenOr old role (come_from from (spelled (Create_bearer_request r))) (Create_bearer_request r) new
 pair_taken old Serving from a r new by held (inl (none, m)) = inr (whole_dropped old from a r new none m)
 pair_taken old Serving from a r new by held (inr d) = inl (apart_taken old from a r new held (peer_comes old Serving from new a r refl d.0.peer (inr d)).moves)
 pair_taken old Packet from a r new by held c = absurd (cc by)
 
 -- the last message of a datagram of one or of a pair comes
-few_taken : (old : World) (role : Role) (from : Addresses) (new : World) → HeldOfSent old → (datagram : List Message) → IsFew datagram → (m : Message) → datagram_plane datagram ≡ Control → HoldLast (reading_of datagram) m → Makes role m → ComesTo old role from datagram new → TakenOr old role (come_from from (last_part datagram)) m new
-few_taken old role from new held = by_few (λ datagram. (m : Message) → datagram_plane datagram ≡ Control → HoldLast (reading_of datagram) m → Makes role m → ComesTo old role from datagram new → TakenOr old role (come_from from (last_part datagram)) m new)
+few_taken : (old : World) (role : Role) (from : Addresses) (new : World) → HeldOfSent old → (datagram : List Message) → IsFew datagram → (m : Message)
+    → datagram_plane datagram ≡ Control → HoldLast (reading_of datagram) m → Makes role m → ComesTo old role from datagram new
+    → TakenOr old role (come_from from (last_part datagram)) m new
+few_taken old role from new held =
+    by_few (λ datagram.
+    (m : Message) → datagram_plane datagram ≡ Control → HoldLast (reading_of datagram) m → Makes role m → ComesTo old role from datagram new
+    → TakenOr old role (come_from from (last_part datagram)) m new)
     (λ n m control holds makes c. let same : n ≡ m = cc holds in inl (subst (λ k. IsTaken old role (come_from from (spelled n)) k new) same (alone_taken old role from n new control c)))
-    (λ a r m control holds makes c. subst (λ k. TakenOr old role (come_from from (spelled (Create_bearer_request r))) k new) holds (pair_taken old role from a r new (serving_makes role r (subst (Makes role) (sym holds) makes)) held c))
+    (λ a r m control holds makes c. subst (λ k. TakenOr old role (come_from from (spelled (Create_bearer_request r))) k new) holds
+    (pair_taken old role from a r new (serving_makes role r (subst (Makes role) (sym holds) makes)) held c))
   where
     serving_makes : (role : Role) (r : CreateBearerRequest) → Makes role (Create_bearer_request r) → role ≡ Serving
     serving_makes Serving r makes = refl
@@ -335,13 +390,17 @@ late_taken old role a request m new (inl t) = inl (record {
 })
 late_taken old role a request m new (inr none) = inr (none ∙ same_datagrams old role a)
 
-taken_by : (old : World) (s : SentDatagram) (new : World) (m : Message) → HeldOfSent old → IsFew s.what → datagram_plane s.what ≡ Control → HoldLast (reading_of s.what) m → Makes (other s.role) m → Delivers old s.role s.what new → TakenOr old (other s.role) (come_from (side_of old s.role).node.config.own (last_part s.what)) m new
+taken_by : (old : World) (s : SentDatagram) (new : World) (m : Message) → HeldOfSent old → IsFew s.what → datagram_plane s.what ≡ Control
+    → HoldLast (reading_of s.what) m → Makes (other s.role) m → Delivers old s.role s.what new
+    → TakenOr old (other s.role) (come_from (side_of old s.role).node.config.own (last_part s.what)) m new
 taken_by old s new m held few control holds makes (inl d) = few_taken old (other s.role) _ new held s.what few m control holds makes d.1
 taken_by old s new m held few control holds makes (inr d) =
     let a = come_from (side_of old s.role).node.config.own (last_part s.what) in
     late_taken old (other s.role) a _ m new (few_taken (marked_late old (other s.role) a) (other s.role) _ new (still_held old (other s.role) a held) s.what few m control holds makes d.1)
 
-taken : (old : World) (number : ℕ) (s : SentDatagram) (new : World) (m : Message) → HeldOfSent old → IsFew s.what → datagram_plane s.what ≡ Control → HoldLast (reading_of s.what) m → Makes (other s.role) m → Happens old (Deliver number) new → slice_get old.datagrams number ≡ Some s → TakenOr old (other s.role) (come_from (side_of old s.role).node.config.own (last_part s.what)) m new
+taken : (old : World) (number : ℕ) (s : SentDatagram) (new : World) (m : Message) → HeldOfSent old → IsFew s.what → datagram_plane s.what ≡ Control
+    → HoldLast (reading_of s.what) m → Makes (other s.role) m → Happens old (Deliver number) new → slice_get old.datagrams number ≡ Some s
+    → TakenOr old (other s.role) (come_from (side_of old s.role).node.config.own (last_part s.what)) m new
 taken old number s new m held few control holds makes (inl none) is = absurd (none.0 (record { sent = s; is = is }))
 taken old number s new m held few control holds makes (inr (found, d)) is =
     let same : found.sent ≡ s = cc (sym found.is ∙ is) in
@@ -367,7 +426,9 @@ said_by setup role (x ∷ sent) [] d are among = absurd are
 said_by setup role (x ∷ sent) (m ∷ said) d are (inl is) = record { messages = m; among = inl refl; octets = ap (λ (k : By Datagram). k.what.octets) is ∙ are.0.octets }
 said_by setup role (x ∷ sent) (m ∷ said) d are (inr there) = let rest = said_by setup role sent said d are.1 there in record { messages = rest.messages; among = inr rest.among; octets = rest.octets }
 
-sent_says : (setup : Setup) (old new : WorldRecord) (role : Role) (before after : List SentDatagram) (said : List (List Message)) (d : By Datagram) → AreFor setup old.log.datagrams before → AreFor setup new.log.datagrams after → after ≡ before ++ signed role said → IsSentBetween old new d → IsSaid d said
+sent_says : (setup : Setup) (old new : WorldRecord) (role : Role) (before after : List SentDatagram) (said : List (List Message)) (d : By Datagram)
+    → AreFor setup old.log.datagrams before → AreFor setup new.log.datagrams after → after ≡ before ++ signed role said → IsSentBetween old new d
+    → IsSaid d said
 sent_says setup old new role before after said d are all is sent =
     said_by setup role sent.sent said d
     (for_rest setup old.log.datagrams before sent.sent (signed role said) are
@@ -389,7 +450,8 @@ last_of (m ∷ []) few = (m, refl)
 last_of (a ∷ b ∷ rest) few = (b, refl)
 
 -- datagrams of whose last messages the octets are one hold one last message
-same_last : (one two : List Message) (m : Message) → IsFew one → IsFew two → ReadsBackOn Control one → ReadsBackOn Control two → last_part one ≡ last_part two → HoldLast (reading_of one) m → HoldLast (reading_of two) m
+same_last : (one two : List Message) (m : Message) → IsFew one → IsFew two → ReadsBackOn Control one → ReadsBackOn Control two → last_part one ≡ last_part two
+    → HoldLast (reading_of one) m → HoldLast (reading_of two) m
 same_last one two m few also reads too same holds =
     let l = last_of two also in
     let both : Control_message l.0 ≡ Control_message m = last_alone two l.0 also too l.1 ∙ (ap control_reading (sym same) ∙ sym (last_alone one m few reads holds)) in
@@ -414,7 +476,8 @@ module _ (setup : Setup) (d : By Datagram) (s : SentDatagram) (for : IsFor setup
       ∙ ap (λ c. come_from c.own (last_part s.what)) (sym same)
 
 -- steps, one after the other
-in_order : (before front : List Done) (one : Done) (between back : List Done) (two : Done) → ((before ++ (front ++ (one ∷ []))) ++ between) ++ (back ++ (two ∷ [])) ≡ (before ++ front) ++ (one ∷ ((between ++ back) ++ (two ∷ [])))
+in_order : (before front : List Done) (one : Done) (between back : List Done) (two : Done)
+    → ((before ++ (front ++ (one ∷ []))) ++ between) ++ (back ++ (two ∷ [])) ≡ (before ++ front) ++ (one ∷ ((between ++ back) ++ (two ∷ [])))
 in_order before front one between back two =
     append_assoc (before ++ (front ++ (one ∷ []))) between (back ++ (two ∷ []))
     ∙ (ap (λ k. k ++ (between ++ (back ++ (two ∷ [])))) (sym (append_assoc before front (one ∷ [])))
@@ -422,13 +485,16 @@ in_order before front one between back two =
     ∙ ap (λ k. (before ++ front) ++ (one ∷ k)) (sym (append_assoc between back (two ∷ [])))))
 
 -- where nothing was sent, no answer was
-none_said : (setup : Setup) (old new : WorldRecord) (role : Role) (before after : List SentDatagram) (d : By Datagram) → AreFor setup old.log.datagrams before → AreFor setup new.log.datagrams after → after ≡ before → IsSentBetween old new d → ⊥
+none_said : (setup : Setup) (old new : WorldRecord) (role : Role) (before after : List SentDatagram) (d : By Datagram) → AreFor setup old.log.datagrams before
+    → AreFor setup new.log.datagrams after → after ≡ before → IsSentBetween old new d → ⊥
 none_said setup old new role before after d are all is sent = (sent_says setup old new role before after [] d are all (is ∙ sym (append-nil before)) sent).among
 
 pub answered_again : (first : WorldRecord) → IsAnsweredAgainAlike first
 answered_again first setup events r number second_number between answered second again are found found_again repeats create timely never answer second_answer answer_sent second_sent =
     ⊎_elim
-    (λ one. ⊎_elim (λ two. both_taken one two) (λ none. absurd (none_said setup second again (other g.sent.role) on.whole.world.datagrams end.world.datagrams second_answer on.whole.stands.datagrams end.stands.datagrams none second_sent)) second_taken)
+    (λ one. ⊎_elim (λ two. both_taken one two) (λ none.
+    absurd (none_said setup second again (other g.sent.role) on.whole.world.datagrams end.world.datagrams second_answer on.whole.stands.datagrams
+    end.stands.datagrams none second_sent)) second_taken)
     (λ none. absurd (none_said setup first answered (other f.sent.role) r.world.datagrams begin.world.datagrams answer r.stands.datagrams begin.stands.datagrams none answer_sent))
     first_taken
   where
@@ -480,15 +546,24 @@ answered_again first setup events r number second_number between answered second
         (reads_on setup found.sent f.sent f.for create.plane) (reads_on setup found_again.sent g.sent g.for control_again) same_octets holds
 
     first_taken : TakenOr r.world (other f.sent.role) (come_from (side_of r.world f.sent.role).node.config.own (last_part f.sent.what)) create.request begin.world
-    first_taken = taken r.world number f.sent begin.world create.request (held events first r) (few events first r f.sent number f.is) (on_control setup found.sent f.sent f.for create.plane) holds (subst (λ k. Makes k create.request) (sym to_receiver) create.makes) begin.happens f.is
+    first_taken =
+        taken r.world number f.sent begin.world create.request (held events first r) (few events first r f.sent number f.is)
+        (on_control setup found.sent f.sent f.for create.plane) holds (subst (λ k. Makes k create.request) (sym to_receiver) create.makes)
+        begin.happens f.is
 
     second_taken : TakenOr on.whole.world (other g.sent.role) (come_from (side_of on.whole.world g.sent.role).node.config.own (last_part g.sent.what)) create.request end.world
-    second_taken = taken on.whole.world second_number g.sent end.world create.request (held _ second on.whole) (few _ second on.whole g.sent second_number g.is) (on_control setup found_again.sent g.sent g.for control_again) holds_again (subst (λ k. Makes k create.request) (sym to_receiver_again) create.makes) end.happens g.is
+    second_taken =
+        taken on.whole.world second_number g.sent end.world create.request (held _ second on.whole) (few _ second on.whole g.sent second_number g.is)
+        (on_control setup found_again.sent g.sent g.for control_again) holds_again
+        (subst (λ k. Makes k create.request) (sym to_receiver_again) create.makes) end.happens g.is
 
     kept_same : as_it_came found_again.sent ≡ request
     kept_same = λ i. arrival_of (repeats.from i) (repeats.octets i)
 
-    both_taken : IsTaken r.world (other f.sent.role) (come_from (side_of r.world f.sent.role).node.config.own (last_part f.sent.what)) create.request begin.world → IsTaken on.whole.world (other g.sent.role) (come_from (side_of on.whole.world g.sent.role).node.config.own (last_part g.sent.what)) create.request end.world → answer.what.octets ≡ second_answer.what.octets
+    both_taken : IsTaken r.world (other f.sent.role) (come_from (side_of r.world f.sent.role).node.config.own (last_part f.sent.what)) create.request
+        begin.world
+        → IsTaken on.whole.world (other g.sent.role) (come_from (side_of on.whole.world g.sent.role).node.config.own (last_part g.sent.what))
+        create.request end.world → answer.what.octets ≡ second_answer.what.octets
     both_taken one two =
         let grown = runs_grown receiver begin.world between on.whole.world never on.on in
         let steps = steps_of r.world receiver in
@@ -506,12 +581,18 @@ answered_again first setup events r number second_number between answered second
         let takes : TookRequest one.done request create.request =
         subst (λ k. TookRequest one.done k create.request) (sym (kept_as setup found.sent f.sent f.for create.plane r.world (set_up setup events r.world r.run f.sent.role))) one.takes in
         let takes_again : TookRequest two.done request create.request =
-        subst (λ k. TookRequest two.done k create.request) (sym (kept_as setup found_again.sent g.sent g.for control_again on.whole.world (set_up setup _ on.whole.world on.whole.run g.sent.role)) ∙ kept_same) two.takes in
+        subst (λ k. TookRequest two.done k create.request)
+        (sym (kept_as setup found_again.sent g.sent g.for control_again on.whole.world (set_up setup _ on.whole.world on.whole.run g.sent.role))
+        ∙ kept_same) two.takes in
         let kept : NeverForgets (grown.steps ++ two.front) request = λ done among gone. ⊎_elim
-        (λ here. timely (create.plane, subst (λ k. Among request k) (sym (half_stands setup second on.whole.world on.whole.stands receiver).forgotten) (grown.forgets done request here gone)))
+        (λ here. timely (create.plane, subst (λ k. Among request k) (sym (gateway_stands setup second on.whole.world on.whole.stands receiver).forgotten) (grown.forgets done request here gone)))
         (λ there. subst (Among request) (two.quiet done there) gone)
         (Among-cases done grown.steps two.front among) in
-        let once = always_acts_once setup.serving.config setup.packet.config setup.serving_counter setup.packet_counter _ end.world end.run receiver request create.request one.done two.done follow create.makes takes takes_again (inr kept) in
+        let once =
+        always_acts_once setup.serving.config setup.packet.config setup.serving_counter setup.packet_counter _ end.world end.run receiver request
+        create.request one.done two.done follow create.makes takes takes_again (inr kept) in
         let one_says = sent_says setup first answered (other f.sent.role) r.world.datagrams begin.world.datagrams _ answer r.stands.datagrams begin.stands.datagrams one.adds answer_sent in
-        let two_says = sent_says setup second again (other g.sent.role) on.whole.world.datagrams end.world.datagrams _ second_answer on.whole.stands.datagrams end.stands.datagrams two.adds second_sent in
+        let two_says =
+        sent_says setup second again (other g.sent.role) on.whole.world.datagrams end.world.datagrams _ second_answer on.whole.stands.datagrams
+        end.stands.datagrams two.adds second_sent in
         one_says.octets ∙ (ap spelled_all (once.one_answer one_says.messages two_says.messages one_says.among two_says.among) ∙ sym two_says.octets)

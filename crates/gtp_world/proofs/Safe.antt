@@ -24,9 +24,23 @@ module _ (setup : Setup) (v : WorldRecord) (w : World) (stands : StandsFor setup
 
   none_over : ((role : Role) → NoneOutlivesRestart (side_of w role).node (side_of w role).seen) → (role : Role) → NoneOutlivesRestart (gateway_in v role).state.node (gateway_in v role).seen
   none_over law Serving = subst (λ (n : Node). NoneOutlivesRestart n v.serving.seen) (sym stands.serving.node) (λ t s there over.
-      law Serving t s there (record { remote = over.remote; has = over.has; counter = over.counter; was_heard = among_oldest over.counter w.serving.seen (subst (λ l. Among over.counter l) stands.serving.seen over.was_heard); heard_is_later = over.heard_is_later }))
+      law Serving t s there (record {
+        remote = over.remote;
+        has = over.has;
+        counter = over.counter;
+        was_heard = among_oldest over.counter
+            w.serving.seen (subst (λ l. Among over.counter l) stands.serving.seen over.was_heard);
+        heard_is_later = over.heard_is_later;
+      }))
   none_over law Packet = subst (λ (n : Node). NoneOutlivesRestart n v.packet.seen) (sym stands.packet.node) (λ t s there over.
-      law Packet t s there (record { remote = over.remote; has = over.has; counter = over.counter; was_heard = among_oldest over.counter w.packet.seen (subst (λ l. Among over.counter l) stands.packet.seen over.was_heard); heard_is_later = over.heard_is_later }))
+      law Packet t s there (record {
+        remote = over.remote;
+        has = over.has;
+        counter = over.counter;
+        was_heard = among_oldest over.counter
+            w.packet.seen (subst (λ l. Among over.counter l) stands.packet.seen over.was_heard);
+        heard_is_later = over.heard_is_later;
+      }))
 
 -- at the end of each run
 pub run_safe : (setup : Setup) (events : List Event) (v : WorldRecord) → LeftByRun setup events v → IsSafe v

@@ -6,7 +6,8 @@ use Rattle.gtp_values.specs.declared.counter.Counter.{Counter}
 use Rattle.gtp_values.specs.declared.address.Endpoint.{Endpoint}
 use Rattle.gtp_machine.specs.declared.role.Role.{Role}
 use Rattle.gtp_machine.specs.Command.{CommandStep}
-use Rattle.gtp_machine.specs.Input.{Command, Create_session, Delete_session, Create_bearer, Delete_bearer, Release_session, Mark_end, Send_echo, Send_user, Commanded, Effect, Entry, Out, nothing, refused}
+use Rattle.gtp_machine.specs.Input.{Command, Create_session, Delete_session, Create_bearer, Delete_bearer, Release_session, Mark_end, Send_echo}
+use Rattle.gtp_machine.specs.Input.{Send_user, Commanded, Effect, Entry, Out, nothing, refused}
 use Rattle.gtp_machine.specs.Message.{CreateSessionResponse, CreateBearerRequest, Plane, Control, User}
 use Rattle.gtp_machine.specs.Node.{Arrival, Node}
 use Rattle.gtp_machine.specs.Spelling.{Datagram, datagram_of}
@@ -30,10 +31,10 @@ use Rattle.gtp_gateway.specs.user.Accepted.{Accepted}
 use Rattle.gtp_gateway.proofs.SentBack.{none_sent}
 use Rattle.gtp_world.specs.Record.{oldest_first, GatewayRecord}
 use Rattle.gtp_world.specs.Last.{last_octets}
-use Rattle.gtp_world.specs.Sides.{entries, IsHanded, IsAccepted, IsInput, AreInputs, IsBrought}
+use Rattle.gtp_world.specs.Inputs.{entries, IsHanded, IsAccepted, IsInput, AreInputs, IsBrought}
 use Rattle.gtp_world.specs.Stepped.{AsksFor, KeepsOn, TakesLowest, sent_at}
 use Rattle.gtp_world.specs.declared.log.Entry.{Entry as LoggedEntry}
-use Rattle.gtp_world.specs.declared.side.Came.{Came}
+use Rattle.gtp_world.specs.declared.simulated_gateway.StepRecord.{StepRecord}
 use Rattle.gtp_world.proofs.Making.{made_last}
 use Rattle.gtp_world.proofs.Pairs.{last_two}
 use Rattle.gtp_world.proofs.Quiet.{IsQuiet, Handing, handing, plainly}
@@ -42,7 +43,8 @@ none_handed : (role : Role) (entry : Option (By Entry)) (e : Effect) → entry �
 none_handed role entry e none quiet = ap option_to_list none ∙ ap (λ (o : Out). signed role o.handed) (sym quiet)
 
 -- the entry that is kept is that of the packet which the command hands in
-told : (node role : Role) (command : Command) (old : Node) (teid : Option ℕ) (entry : Option (By Entry)) (e : Effect) → Handing role old command e → e.outcome ≡ Came_to (outcome_by command teid) → IsHanded node old command entry → option_to_list entry ≡ signed node e.out.handed
+told : (node role : Role) (command : Command) (old : Node) (teid : Option ℕ) (entry : Option (By Entry)) (e : Effect) → Handing role old command e
+    → e.outcome ≡ Came_to (outcome_by command teid) → IsHanded node old command entry → option_to_list entry ≡ signed node e.out.handed
 told node role (Create_session spec) old teid entry e quiet outcome none = none_handed node entry e none quiet
 told node role (Delete_session session) old teid entry e quiet outcome none = none_handed node entry e none quiet
 told node role (Create_bearer session tft qos) old teid entry e quiet outcome none = none_handed node entry e none quiet
@@ -50,11 +52,14 @@ told node role (Delete_bearer session identity) old teid entry e quiet outcome n
 told node role (Release_session session) old teid entry e quiet outcome none = none_handed node entry e none quiet
 told node role (Mark_end bearer) old teid entry e quiet outcome none = none_handed node entry e none quiet
 told node role Send_echo old teid entry e quiet outcome none = none_handed node entry e none quiet
-told node role (Send_user bearer payload) old teid entry e (inl refusal) outcome is = let apart : Came_to (Refused refusal.why) ≡ Came_to GoneOut = ap (λ (k : Effect). k.outcome) (sym refusal.is) ∙ outcome in absurd (cc apart)
+told node role (Send_user bearer payload) old teid entry e (inl refusal) outcome is =
+    let apart : Came_to (Refused refusal.why) ≡ Came_to GoneOut = ap (λ (k : Effect). k.outcome) (sym refusal.is) ∙ outcome in absurd (cc apart)
 told node role (Send_user bearer payload) old teid entry e (inr hands) outcome is = is hands.at hands.sends.of ∙ ap (λ (k : Effect). signed node k.out.handed) (sym hands.sends.gives)
 
 -- nothing was heard, forgotten or made
-as_before : (old : GatewayRecord) (state : GatewayState) (out : Out) → out.heard ≡ None → out.forgot ≡ [] → out.made ≡ [] → record old { state = state } ≡ record old { state = state; seen = old.seen ++ option_to_list out.heard; forgotten = old.forgotten ++ out.forgot; made = old.made ++ oldest_first out.made }
+as_before : (old : GatewayRecord) (state : GatewayState) (out : Out) → out.heard ≡ None → out.forgot ≡ [] → out.made ≡ []
+    → record old { state = state } ≡ record old
+    { state = state; seen = old.seen ++ option_to_list out.heard; forgotten = old.forgotten ++ out.forgot; made = old.made ++ oldest_first out.made }
 as_before old state out heard forgot made =
     let seen = sym (append-nil old.seen) ∙ ap (λ h. old.seen ++ option_to_list h) (sym heard) in
     let forgotten = sym (append-nil old.forgotten) ∙ ap (λ l. old.forgotten ++ l) (sym forgot) in
@@ -62,7 +67,8 @@ as_before old state out heard forgot made =
     λ i. record old { state = state; seen = seen i; forgotten = forgotten i; made = makes i }
 
 -- a request was begun, and waits
-asked : (old new : GatewayState) (begun : Begun) (teid : Option ℕ) (sent : List Datagram) (outcome : EventOutcome) → outcome ≡ Came_to (Asked teid) → (datagram_by begun.out ∷ []) ≡ sent → SendsRequestNext old begun new → AsksFor sent outcome old new
+asked : (old new : GatewayState) (begun : Begun) (teid : Option ℕ) (sent : List Datagram) (outcome : EventOutcome) → outcome ≡ Came_to (Asked teid)
+    → (datagram_by begun.out ∷ []) ≡ sent → SendsRequestNext old begun new → AsksFor sent outcome old new
 asked old new begun teid sent outcome is out next =
     record {
       asks = λ other same. (datagram_by begun.out, sym out, record { number = next.number; free = next.free; purpose = next.purpose; queues = next.queues; tied = next.tied });
@@ -77,7 +83,8 @@ gone_out : (outcome : EventOutcome) → outcome ≡ Came_to GoneOut → (teid : 
 gone_out outcome is teid asks = let apart : Came_to GoneOut ≡ Came_to (Asked teid) = sym is ∙ asks in cc apart
 
 -- what ticks go by, after a command
-asks_for : (command : Command) (old new : GatewayState) (begun : Begun) (teid : Option ℕ) (sent : List Datagram) (outcome : EventOutcome) → outcome ≡ Came_to (outcome_by command teid) → (datagram_by begun.out ∷ []) ≡ sent → IsTimed command old begun new → AsksFor sent outcome old new
+asks_for : (command : Command) (old new : GatewayState) (begun : Begun) (teid : Option ℕ) (sent : List Datagram) (outcome : EventOutcome)
+    → outcome ≡ Came_to (outcome_by command teid) → (datagram_by begun.out ∷ []) ≡ sent → IsTimed command old begun new → AsksFor sent outcome old new
 asks_for (Create_session spec) old new begun teid sent outcome is out next = asked old new begun teid sent outcome is out next
 asks_for (Delete_session session) old new begun teid sent outcome is out next = asked old new begun teid sent outcome is out next
 asks_for (Create_bearer session tft qos) old new begun teid sent outcome is out next = asked old new begun teid sent outcome is out next
@@ -88,10 +95,12 @@ asks_for (Mark_end bearer) old new begun teid sent outcome is out same = unasked
 asks_for (Send_user bearer payload) old new begun teid sent outcome is out same = unasked old new sent outcome (gone_out outcome is) same
 
 -- what a command that was carried out came to
-abbrev pub came_of_begun : Command → Begun → Option (By Entry) → Came
+abbrev pub came_of_begun : Command → Begun → Option (By Entry) → StepRecord
 came_of_begun command begun handed = record { outcome = outcome_by command begun.teid; second = None; restart = None; out = Some begun.out; handed = handed; accepted = None }
 
-pub done : (node : Role) (command : Command) (old : GatewayRecord) (begun : Begun) (state : GatewayState) (handed : Option (By Entry)) → IsCarriedOut command old.state begun state → IsTimed command old.state begun state → IsHanded node old.state.node command handed → IsInput node (Commanded command) AsksFor old (came_of_begun command begun handed) (record old { state = state })
+pub done : (node : Role) (command : Command) (old : GatewayRecord) (begun : Begun) (state : GatewayState) (handed : Option (By Entry))
+    → IsCarriedOut command old.state begun state → IsTimed command old.state begun state → IsHanded node old.state.node command handed
+    → IsInput node (Commanded command) AsksFor old (came_of_begun command begun handed) (record old { state = state })
 done node command old begun state handed d times is =
     let plain = plainly old.state.role command old.state.node d.effect d.step in
     record {
@@ -116,10 +125,12 @@ done node command old begun state handed d times is =
     }
 
 -- what a command that was refused came to
-abbrev pub came_of_refused : Refusal → Came
+abbrev pub came_of_refused : Refusal → StepRecord
 came_of_refused why = record { outcome = Refused why; second = None; restart = None; out = None; handed = None; accepted = None }
 
-pub turned_down : (node : Role) (command : Command) (old : GatewayRecord) (why : Refusal) → CommandStep old.state.role command old.state.node (refused old.state.node why) → IsInput node (Commanded command) AsksFor old (came_of_refused why) old
+pub turned_down : (node : Role) (command : Command) (old : GatewayRecord) (why : Refusal)
+    → CommandStep old.state.role command old.state.node (refused old.state.node why)
+    → IsInput node (Commanded command) AsksFor old (came_of_refused why) old
 turned_down node command old why step =
     record {
       effect = refused old.state.node why;
@@ -142,7 +153,8 @@ one_made : (request : Arrival) (made : Bool) → oldest_first (made_for request 
 one_made request true = refl
 one_made request false = refl
 
-pub heard_kept : (seen : List Counter) (heard : Option Counter) → map (λ (c : Counter). c.0) (seen ++ option_to_list heard) ≡ map (λ (c : Counter). c.0) seen ++ option_to_list (option_map (λ (c : Counter). c.0) heard)
+pub heard_kept : (seen : List Counter) (heard : Option Counter) → map (λ (c : Counter). c.0) (seen ++ option_to_list heard)
+    ≡ map (λ (c : Counter). c.0) seen ++ option_to_list (option_map (λ (c : Counter). c.0) heard)
 heard_kept seen None = map-append (λ (c : Counter). c.0) seen []
 heard_kept seen (Some c) = map-append (λ (k : Counter). k.0) seen (c ∷ [])
 
@@ -152,15 +164,25 @@ lowest_made request true role out old new is lowest = λ makes. lowest refl
 lowest_made request false role out old new is lowest = λ makes. absurd (makes (sym is))
 
 -- what a datagram came to
-abbrev pub came_of_step : Step → Option LoggedEntry → Came
+abbrev pub came_of_step : Step → Option LoggedEntry → StepRecord
 came_of_step step accepted = record { outcome = step.report.outcome; second = step.report.second; restart = step.report.restart; out = step.out; handed = None; accepted = accepted }
 
 -- a gateway, after a datagram of which this was told
-abbrev pub half_told : GatewayRecord → GatewayState → Step → Arrival → GatewayRecord
-half_told old state step request = record old { state = state; seen = old.seen ++ option_to_list (option_map (λ (c : Counter). c.0) step.report.heard); made = old.made ++ made_for request step.report.made }
+abbrev pub gateway_told : GatewayRecord → GatewayState → Step → Arrival → GatewayRecord
+gateway_told old state step request =
+    record old {
+      state = state;
+      seen = old.seen ++ option_to_list (option_map (λ (c : Counter). c.0) step.report.heard);
+      made = old.made ++ made_for request step.report.made;
+    }
 
 -- a datagram was taken as a whole
-taken_whole : (node : Role) (plane : Plane) (source : Endpoint) (octets : List ℕ) (old : GatewayRecord) (step : Step) (state : GatewayState) (entry : Option LoggedEntry) (request : Arrival) (r : IsReceivedOnce plane source octets old.state step state) → made_for request step.report.made ≡ r.effect.out.made → KeepsOn plane source octets (sent_at old r.effect.out) r.effect.outcome old.state state → ChoosesLowest step.report.made old.state.role old.state.node state.node → (IsSome step.accepted → state ≡ old.state) → IsAccepted node state.node step.accepted entry → IsInput node (coming plane source octets) (KeepsOn plane source octets) old (came_of_step step entry) (half_told old state step request)
+taken_whole : (node : Role) (plane : Plane) (source : Endpoint) (octets : List ℕ) (old : GatewayRecord) (step : Step) (state : GatewayState)
+    (entry : Option LoggedEntry) (request : Arrival) (r : IsReceivedOnce plane source octets old.state step state)
+    → made_for request step.report.made ≡ r.effect.out.made → KeepsOn plane source octets (sent_at old r.effect.out) r.effect.outcome old.state state
+    → ChoosesLowest step.report.made old.state.role old.state.node state.node → (IsSome step.accepted → state ≡ old.state)
+    → IsAccepted node state.node step.accepted entry
+    → IsInput node (coming plane source octets) (KeepsOn plane source octets) old (came_of_step step entry) (gateway_told old state step request)
 taken_whole node plane source octets old step state entry request r told keeps lowest stays is =
     let out = r.effect.out in
     let forgot = ap (λ (o : Out). o.forgot) r.tells.all in
@@ -198,7 +220,11 @@ none_accepted : (node : Role) (at : Node) (accepted : Option Accepted) (entry : 
 none_accepted node at accepted entry none is = is [] (subst (λ a. AreEntries at a []) (sym none) refl)
 
 -- its two messages were taken, one after the other
-taken_both : (node : Role) (arrival : Arrival) (answer : CreateSessionResponse) (asked : CreateBearerRequest) (old : GatewayRecord) (step : Step) (state : GatewayState) (entry : Option LoggedEntry) (request : Arrival) → AreReceived arrival answer asked old.state step state → request ≡ second_arrival arrival → QueuesAfterMessage (second_arrival arrival) old.state state → ChoosesLowest step.report.made old.state.role old.state.node state.node → IsAccepted node state.node step.accepted entry → AreInputs node arrival answer asked old (came_of_step step entry) (half_told old state step request)
+taken_both : (node : Role) (arrival : Arrival) (answer : CreateSessionResponse) (asked : CreateBearerRequest) (old : GatewayRecord) (step : Step)
+    (state : GatewayState) (entry : Option LoggedEntry) (request : Arrival) → AreReceived arrival answer asked old.state step state
+    → request ≡ second_arrival arrival → QueuesAfterMessage (second_arrival arrival) old.state state
+    → ChoosesLowest step.report.made old.state.role old.state.node state.node → IsAccepted node state.node step.accepted entry
+    → AreInputs node arrival answer asked old (came_of_step step entry) (gateway_told old state step request)
 taken_both node arrival answer asked old step state entry request r same keeps lowest is =
     let first = r.first.out in
     let second = r.second.out in
@@ -206,9 +232,13 @@ taken_both node arrival answer asked old step state entry request r same keeps l
     let told = ap (λ k. made_for k step.report.made) same ∙ t.made in
     let none_heard = ap (λ (o : Out). o.heard) t.all_second in
     let none_made = ap (λ (o : Out). o.made) t.all_first in
-    let seen = ap (λ h. old.seen ++ option_to_list h) t.heard ∙ sym (append-nil (old.seen ++ option_to_list first.heard)) ∙ ap (λ h. (old.seen ++ option_to_list first.heard) ++ option_to_list h) (sym none_heard) in
+    let seen =
+    ap (λ h. old.seen ++ option_to_list h) t.heard ∙ sym (append-nil (old.seen ++ option_to_list first.heard))
+    ∙ ap (λ h. (old.seen ++ option_to_list first.heard) ++ option_to_list h) (sym none_heard) in
     let forgotten = sym (append-nil old.forgotten) ∙ sym (append-nil (old.forgotten ++ [])) ∙ (λ i. (old.forgotten ++ (sym t.all_first i).forgot) ++ (sym t.all_second i).forgot) in
-    let made = ap (λ l. old.made ++ l) (sym (one_made request step.report.made) ∙ ap oldest_first told) ∙ ap (λ l. l ++ oldest_first second.made) (sym (append-nil old.made) ∙ ap (λ l. old.made ++ oldest_first l) (sym none_made)) in
+    let made =
+    ap (λ l. old.made ++ l) (sym (one_made request step.report.made) ∙ ap oldest_first told)
+    ∙ ap (λ l. l ++ oldest_first second.made) (sym (append-nil old.made) ∙ ap (λ l. old.made ++ oldest_first l) (sym none_made)) in
     let silent = ap (λ (o : Out). o.sent) t.all_first in
     record {
       first = r.first;
@@ -219,7 +249,9 @@ taken_both node arrival answer asked old step state entry request r same keeps l
       readable = t.sent.read;
       node = r.becomes;
       role_stays = r.role;
-      lowest = lowest_made request step.report.made state.role second old.state.node state.node told (subst (λ role. ChoosesLowest step.report.made role old.state.node state.node) (sym r.role) lowest);
+      lowest =
+          lowest_made request step.report.made state.role second old.state.node state.node told
+          (subst (λ role. ChoosesLowest step.report.made role old.state.node state.node) (sym r.role) lowest);
       timed = keeps;
       becomes = λ i. record old { state = state; seen = seen i; forgotten = forgotten i; made = made i };
       tells = record {
@@ -235,11 +267,25 @@ taken_both node arrival answer asked old step state entry request r same keeps l
     }
 
 -- a datagram was taken
-pub taken : (node : Role) (plane : Plane) (source : Endpoint) (octets : List ℕ) (old : GatewayRecord) (step : Step) (state : GatewayState) (entry : Option LoggedEntry) → IsReceived plane source octets old.state step state → QueuesAfterReceive plane source octets step old.state state → ChoosesLowest step.report.made old.state.role old.state.node state.node → (IsSome step.accepted → state ≡ old.state) → IsAccepted node state.node step.accepted entry → IsBrought node plane source octets old (came_of_step step entry) (half_told old state step (arrival_of source (last_octets octets)))
-taken node Control source octets old step state entry (inl (none, r)) (inl (alone, keeps)) lowest stays is = inl (none, taken_whole node Control source octets old step state entry (arrival_of source (last_octets octets)) r (made_last Control source octets old.state step state r) keeps lowest stays is)
+pub taken : (node : Role) (plane : Plane) (source : Endpoint) (octets : List ℕ) (old : GatewayRecord) (step : Step) (state : GatewayState)
+    (entry : Option LoggedEntry) → IsReceived plane source octets old.state step state → QueuesAfterReceive plane source octets step old.state state
+    → ChoosesLowest step.report.made old.state.role old.state.node state.node → (IsSome step.accepted → state ≡ old.state)
+    → IsAccepted node state.node step.accepted entry
+    → IsBrought node plane source octets old (came_of_step step entry) (gateway_told old state step (arrival_of source (last_octets octets)))
+taken node Control source octets old step state entry (inl (none, r)) (inl (alone, keeps)) lowest stays is =
+    inl (
+      none,
+      taken_whole node Control source octets old step state entry (arrival_of source (last_octets octets)) r
+          (made_last Control source octets old.state step state r) keeps lowest stays is,
+    )
 taken node Control source octets old step state entry (inl (none, r)) (inr (pair, keeps)) lowest stays is = absurd (none pair)
 taken node Control source octets old step state entry (inr (pair, r)) (inl (none, keeps)) lowest stays is = absurd (none pair)
-taken node Control source octets old step state entry (inr (pair, r)) (inr (too, keeps)) lowest stays is = inr (pair, taken_both node (arrival_of source octets) pair.answer pair.asked old step state entry (arrival_of source (last_octets octets)) r (ap (λ o. arrival_of source o) (last_two octets _ _ pair.is)) keeps lowest is)
+taken node Control source octets old step state entry (inr (pair, r)) (inr (too, keeps)) lowest stays is =
+    inr (
+      pair,
+      taken_both node (arrival_of source octets) pair.answer pair.asked old step state entry (arrival_of source (last_octets octets)) r
+          (ap (λ o. arrival_of source o) (last_two octets _ _ pair.is)) keeps lowest is,
+    )
 taken node User source octets old step state entry r keeps lowest stays is =
     taken_whole node User source octets old step state entry (arrival_of source (last_octets octets)) r (made_last User source octets old.state step state r)
     ((λ apart. keeps.0 (λ broken. apart (sym r.tells.outcome ∙ ap (λ o. Came_to o) broken))), keeps.1, keeps.2) lowest stays is

@@ -9,7 +9,9 @@ use Rattle.gtp_machine.specs.Step.{Done, tick_steps}
 use Rattle.gtp_machine.specs.Tick.{ticked}
 use Rattle.gtp_machine.specs.declared.role.Role.{Role}
 use Rattle.gtp_machine.specs.declared.role.Role.TheVariants.{Serving, Packet}
-use Rattle.gtp_machine.specs.World.{World, Event, Does, Tick, Deliver, Cut, Restart, Ticked, Restarted, No_such_datagram, Cut_too_long, Restarts_used, Note, note_of, note_of_both, quiet_note, next_counter, Happens, ComesTo, Delivers, Moves, MovesTwice, TicksOn, Run, start, side_of, moved, noted, logged, marked_late, restarted, with_side, with_steps}
+use Rattle.gtp_machine.specs.World.{World, Event, Does, Tick, Deliver, Cut, Restart, Ticked, Restarted, No_such_datagram, Cut_too_long, Restarts_used}
+use Rattle.gtp_machine.specs.World.{Note, note_of, note_of_both, quiet_note, next_counter, Happens, ComesTo, Delivers, Moves, MovesTwice, TicksOn}
+use Rattle.gtp_machine.specs.World.{Run, start, side_of, moved, noted, logged, marked_late, restarted, with_side, with_steps}
 use Rattle.gtp_machine.proofs.Basics.Facts.{one_more}
 
 -- where no delivery was late, none is kept as late
@@ -53,7 +55,9 @@ moved_timely w Serving e timely = stays w (moved w Serving e) refl (came_moved w
 moved_timely w Packet e timely = stays w (moved w Packet e) refl (came_moved w Packet e) timely
 
 moves_twice_timely : (old : World) (role : Role) (first second : Input) (new : World) → NoneLate old → MovesTwice old role first second new → NoneLate new
-moves_twice_timely old role first second new timely m = subst NoneLate (sym m.becomes) (after_timely (moved old role m.effect) role m.next (note_of_both m.effect m.next) _ (moved_timely old role m.effect timely))
+moves_twice_timely old role first second new timely m =
+    subst NoneLate (sym m.becomes)
+    (after_timely (moved old role m.effect) role m.next (note_of_both m.effect m.next) _ (moved_timely old role m.effect timely))
 
 ticks_timely : (old : World) (role : Role) (new : World) → NoneLate old → TicksOn old role new → NoneLate new
 ticks_timely old role new timely t =

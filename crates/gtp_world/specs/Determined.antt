@@ -8,7 +8,7 @@ use Rattle.gtp_world.specs.Stepped.{EventsLeave}
 
 -- the same is kept of a gateway: its role, its node and what its ticks go by, how it is set up and how often it was restarted, and what it has heard, given up
 -- and made
-pub record HalvesAlike (one other : GatewayRecord) : Type 0 where
+pub record GatewaysAlike (one other : GatewayRecord) : Type 0 where
   pub settings : one.settings ≡ other.settings
   pub state : AreLeftAlike one.state other.state
   pub first : one.first ≡ other.first
@@ -20,8 +20,8 @@ pub record HalvesAlike (one other : GatewayRecord) : Type 0 where
 -- the same is kept of both gateways, and the logs are one: each datagram, octet for octet, each packet that was handed in and that was accepted, how many deliveries
 -- were late, and what came of each event
 pub record WorldsAlike (one other : WorldRecord) : Type 0 where
-  pub serving : HalvesAlike one.serving other.serving
-  pub packet : HalvesAlike one.packet other.packet
+  pub serving : GatewaysAlike one.serving other.serving
+  pub packet : GatewaysAlike one.packet other.packet
   pub log : one.log ≡ other.log
 
 -- Whatever happens from whatever setup, it leaves one world: one log, and the same of both gateways.

@@ -5,7 +5,7 @@ use Rattle.gtp_machine.specs.Input.{Entry as Packet}
 use Rattle.gtp_machine.specs.Node.{Arrival}
 use Rattle.gtp_machine.specs.World.{By, other}
 use Rattle.gtp_gateway.specs.Parts.{arrival_of}
-use Rattle.gtp_world.specs.declared.asked.Asked.{Asked}
+use Rattle.gtp_world.specs.declared.request_key.RequestKey.{RequestKey}
 use Rattle.gtp_world.specs.declared.log.Entry.{Entry}
 
 -- requests in order, and for how many more there is room without an allocation
@@ -24,7 +24,7 @@ pub record IsIndexed {X : Type 0} (list index : List X) : Type 0 where
   pub few : length index ≤ length list
 
 -- the request that a key stands for
-abbrev pub asked : Asked → Arrival
+abbrev pub asked : RequestKey → Arrival
 asked a = arrival_of a.source a.octets.items
 
 abbrev pub packet_in : Entry → Packet

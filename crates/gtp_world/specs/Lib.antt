@@ -4,7 +4,7 @@ pub mod Record
 pub mod Last
 pub mod Stepped
 pub mod Commands
-pub mod Sides
+pub mod Inputs
 pub mod Recorded
 pub mod Events
 pub mod Runs

@@ -17,8 +17,8 @@ use Rattle.gtp_world.specs.declared.event.EventOutcome.TheVariants as outcomes
 use Rattle.gtp_world.specs.declared.log.Datagram.{Datagram as LoggedDatagram}
 use Rattle.gtp_world.specs.declared.log.Note.{Note}
 use Rattle.gtp_world.specs.declared.records.Records.{Records}
-use Rattle.gtp_world.specs.declared.side.Side.{Side}
-use Rattle.gtp_world.specs.declared.sides.Sides.{Sides}
+use Rattle.gtp_world.specs.declared.simulated_gateway.SimulatedGateway.{SimulatedGateway}
+use Rattle.gtp_world.specs.declared.simulation.Simulation.{Simulation}
 
 -- a list the other way round
 abbrev pub oldest_first : {X : Type 0} → List X → List X
@@ -70,12 +70,12 @@ gateway_in v Serving = v.serving
 gateway_in v Packet = v.packet
 
 abbrev pub with_gateway : WorldRecord → Role → GatewayRecord → WorldRecord
-with_gateway v Serving half = record v { serving = half }
-with_gateway v Packet half = record v { packet = half }
+with_gateway v Serving gateway = record v { serving = gateway }
+with_gateway v Packet gateway = record v { packet = gateway }
 
 -- the same of what the program keeps
 
-abbrev pub gateway_record_of : Side → GatewayRecord
+abbrev pub gateway_record_of : SimulatedGateway → GatewayRecord
 gateway_record_of s = record {
   settings = s.config;
   state = s.gateway;
@@ -112,5 +112,5 @@ late_among (n ∷ notes) = counted n.late (late_among notes)
 abbrev pub log_of : Records → Log
 log_of r = record { datagrams = map sent_by r.datagrams.items; handed = r.handed.list; accepted = map entry_by r.accepted.items; late = late_among r.notes.items; notes = map told_by r.notes.items }
 
-abbrev pub world_record_of : Sides → WorldRecord
+abbrev pub world_record_of : Simulation → WorldRecord
 world_record_of w = record { serving = gateway_record_of w.gateways.serving; packet = gateway_record_of w.gateways.packet; log = log_of w.records }

@@ -7,9 +7,9 @@ use Rattle.gtp_gateway.specs.receive.Taken.{datagrams}
 use Rattle.gtp_gateway.specs.Tick.{arrivals_of}
 use Rattle.gtp_gateway.specs.declared.tick.Ticked.{Ticked as Tick}
 use Rattle.gtp_world.specs.Record.{Log, counted}
-use Rattle.gtp_world.specs.Sides.{entries}
+use Rattle.gtp_world.specs.Inputs.{entries}
 use Rattle.gtp_world.specs.declared.records.Records.{Records}
-use Rattle.gtp_world.specs.declared.side.Came.{Came}
+use Rattle.gtp_world.specs.declared.simulated_gateway.StepRecord.{StepRecord}
 
 -- nothing was done yet
 abbrev pub empty_log : Log
@@ -23,7 +23,7 @@ pub record HasRoom (count : ℕ) (r : Records) : Type 0 where
   pub notes : vec_len r.notes + 1 ≤ vec_capacity r.notes
 
 -- the log, after what came of an input of that gateway
-abbrev pub log_of_came : Log → Role → Came → Bool → Log
+abbrev pub log_of_came : Log → Role → StepRecord → Bool → Log
 log_of_came log role came late =
     record {
       datagrams = log.datagrams ++ signed role (datagrams came.out);

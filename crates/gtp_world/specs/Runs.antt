@@ -54,20 +54,20 @@ abbrev pub told_in : machine.Note → EventRecord
 told_in n = record { outcome = n.outcome; second = n.second; learned = n.learned; sent = length n.sent; gave_up = n.gave_up; forgot = n.forgot }
 
 -- what is kept of a gateway is what the machine's world has of it
-pub record HalfStands (config : Config) (which : Role) (half : GatewayRecord) (side : Side) : Type 0 where
-  pub set_up : half.settings.config ≡ config
-  pub role : half.state.role ≡ which
-  pub node : half.state.node ≡ side.node
-  pub first : half.first ≡ side.first
-  pub restarts : half.restarts ≡ side.restarts
-  pub seen : half.seen ≡ oldest_first side.seen
-  pub forgotten : half.forgotten ≡ side.forgotten
-  pub made : half.made ≡ oldest_first side.made
+pub record GatewayStandsFor (config : Config) (which : Role) (gateway : GatewayRecord) (side : Side) : Type 0 where
+  pub set_up : gateway.settings.config ≡ config
+  pub role : gateway.state.role ≡ which
+  pub node : gateway.state.node ≡ side.node
+  pub first : gateway.first ≡ side.first
+  pub restarts : gateway.restarts ≡ side.restarts
+  pub seen : gateway.seen ≡ oldest_first side.seen
+  pub forgotten : gateway.forgotten ≡ side.forgotten
+  pub made : gateway.made ≡ oldest_first side.made
 
 -- What is kept stands for a world of the machine: its gateways, and all that they have sent, as octets; its logs and its notes.
 pub record StandsFor (setup : Setup) (v : WorldRecord) (w : World) : Type 0 where
-  pub serving : HalfStands setup.serving.config Serving v.serving w.serving
-  pub packet : HalfStands setup.packet.config Packet v.packet w.packet
+  pub serving : GatewayStandsFor setup.serving.config Serving v.serving w.serving
+  pub packet : GatewayStandsFor setup.packet.config Packet v.packet w.packet
   pub datagrams : AreFor setup v.log.datagrams w.datagrams
   pub handed : v.log.handed ≡ w.handed
   pub accepted : v.log.accepted ≡ w.accepted

@@ -72,7 +72,7 @@ kept_after_both v role state first second sent more late =
 
 -- what a gateway sends at this step, as it is sent
 abbrev pub sent_at : GatewayRecord → Out → List Datagram
-sent_at half out = map (datagram_of half.state.node.config) out.sent
+sent_at gateway out = map (datagram_of gateway.state.node.config) out.sent
 
 -- each datagram that is sent reads as its messages
 abbrev pub AreReadable : Out → Type 0
@@ -166,11 +166,11 @@ pub record IsThere (datagrams : List (By Datagram)) (number : ℕ) : Type 0 wher
 
 -- the request is one whose answer the gateway has given up
 abbrev pub IsGivenUp : GatewayRecord → Plane → Arrival → Type 0
-IsGivenUp half plane request = (plane ≡ Control) × Among request half.forgotten
+IsGivenUp gateway plane request = (plane ≡ Control) × Among request gateway.forgotten
 
 -- the delivery is late: its last message is such a request
 abbrev pub IsLate : GatewayRecord → Datagram → Type 0
-IsLate half d = IsGivenUp half d.plane (arrival_of d.from (last_octets d.octets))
+IsLate gateway d = IsGivenUp gateway d.plane (arrival_of d.from (last_octets d.octets))
 
 -- So many of its first octets come to the gateway that did not send it; late, if all of them do and the delivery is.
 pub record BringsFirst (old : WorldRecord) (sent : By Datagram) (count : ℕ) (whole : Bool) (new : WorldRecord) : Type 0 where

@@ -9,7 +9,11 @@ use gtp_gateway::{Begun, CommandFault, Gateway, Outcome, Teid};
 use std::alloc::Global;
 
 /// Tells a gateway to do it.
-pub fn tell(gateway: &mut Gateway, alloc: Global, event: &Event) -> Result<Begun, CommandFault>
+pub fn run_command(
+    gateway: &mut Gateway,
+    alloc: Global,
+    event: &Event,
+) -> Result<Begun, CommandFault>
     requires { is_command event.now ≡ true }
     ensures done { IfOk result (λ begun.
         IsCarriedOut (command_of event.now) gateway.old begun gateway.new) }

@@ -1,13 +1,13 @@
 //! The two gateways of a world, by their roles.
 
-use crate::side::Side;
+use crate::simulated_gateway::SimulatedGateway;
 use gtp_gateway::Role;
 
 /// The serving and the packet gateway.
 #[derive(Drop)]
 pub struct Gateways {
-    pub serving: Side,
-    pub packet: Side,
+    pub serving: SimulatedGateway,
+    pub packet: SimulatedGateway,
 }
 
 impl Gateways {
@@ -16,7 +16,7 @@ impl Gateways {
     ghost use Rattle.gtp_world.specs.Gateways.{side_of, LendsSide};
 
     /// The gateway of a role.
-    pub fn get(&self, role: Role) -> &Side
+    pub fn get(&self, role: Role) -> &SimulatedGateway
         ensures { result.now ≡ side_of role self.now }
     {
         match role {
@@ -26,7 +26,7 @@ impl Gateways {
     }
 
     /// The gateway of a role, to be changed: the other one stays as it is.
-    pub fn get_mut(&mut self, role: Role) -> &mut Side
+    pub fn get_mut(&mut self, role: Role) -> &mut SimulatedGateway
         ensures* writes_back { sem 𝓛 (LendsSide role self.entry result) }
         ensures value { result.now ≡ side_of role self.old }
     {

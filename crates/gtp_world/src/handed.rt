@@ -6,7 +6,7 @@ ghost use Rattle.gtp_machine.specs.World.{other};
 ghost use Rattle.gtp_world.specs.Indexes.{entry_by, owed_by};
 
 use crate::log::Entry;
-use crate::room::{keep, put_in};
+use crate::room::{insert_reserved, push_reserved};
 use gtp_gateway::{Memory, Role};
 use indexmap::IndexSet;
 use std::alloc::Global;
@@ -112,7 +112,7 @@ impl Handed {
     }
 
     /// It, if there is one, in the room that was made. Allocates nothing.
-    pub fn keep_any(&mut self, packet: Option<HandedIn>)
+    pub fn push_reserved_option(&mut self, packet: Option<HandedIn>)
         requires { 0 < self.old.room }
         ensures { self.new.list ≡ self.old.list ++ option_to_list packet }
     {
@@ -127,8 +127,8 @@ impl Handed {
         ensures { self.new.list ≡ self.old.list ++ packet ∷ [] }
     {
         let HandedIn { entry, expected } = packet;
-        keep(&mut self.entries, entry);
-        put_in(&mut self.expected, expected);
+        push_reserved(&mut self.entries, entry);
+        insert_reserved(&mut self.expected, expected);
         self.room -= 1;
     }
 

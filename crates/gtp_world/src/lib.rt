@@ -1,7 +1,6 @@
 //! A simulated network of both gateways of the S5/S8 interface: commands, ticks, deliveries, losses and restarts.
 #![tactic(auto)]
 
-mod asked;
 mod command;
 mod config;
 mod event;
@@ -13,13 +12,14 @@ mod log;
 mod mutual;
 mod records;
 mod remembered;
+mod request_key;
 mod room;
 mod run;
-mod side;
-mod sides;
+mod simulated_gateway;
+mod simulation;
 mod world;
 
-pub use command::{outcome_of, tell};
+pub use command::{outcome_of, run_command};
 pub use config::WorldConfig;
 pub use event::{Event, EventOutcome};
 pub use gtp_gateway::{

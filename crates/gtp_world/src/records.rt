@@ -13,8 +13,8 @@ ghost use Rattle.gtp_world.specs.Stepped.{log_with, told_of};
 use crate::event::EventOutcome;
 use crate::handed::Handed;
 use crate::log::{Datagram, Entry, Note};
-use crate::room::{keep, keep_any};
-use crate::side::Came;
+use crate::room::{push_reserved, push_reserved_option};
+use crate::simulated_gateway::StepRecord;
 use gtp_gateway::{Memory, Role, Sent, Ticked};
 use std::alloc::Global;
 
@@ -89,7 +89,7 @@ impl Records {
         ensures rest { self.new ≡ record self.old { datagrams = self.new.datagrams } }
     {
         if let Some(sent) = out {
-            keep(&mut self.datagrams, Datagram { node, sent });
+            push_reserved(&mut self.datagrams, Datagram { node, sent });
         }
     }
 
@@ -101,12 +101,18 @@ impl Records {
         ensures rest { self.new ≡ record self.old { datagrams = self.new.datagrams } }
     {
         for sent in resent {
-            keep(&mut self.datagrams, Datagram { node, sent });
+            push_reserved(&mut self.datagrams, Datagram { node, sent });
         }
     }
 
     /// What a command or a datagram came to at a gateway is kept.
-    pub fn settle(&mut self, alloc: Global, node: Role, came: Came, late: bool) -> EventOutcome
+    pub fn record_step(
+        &mut self,
+        alloc: Global,
+        node: Role,
+        came: StepRecord,
+        late: bool,
+    ) -> EventOutcome
         requires { HasRoom 1 self.old }
         ensures log { log_of self.new ≡ log_of_came (log_of self.old) node came late }
         ensures told { outcomes_in (log_of self.new)
@@ -123,14 +129,14 @@ impl Records {
             late,
         };
         self.keep_sent(node, came.out);
-        self.handed.keep_any(came.handed);
-        keep_any(&mut self.accepted, came.accepted);
-        keep(&mut self.notes, note);
+        self.handed.push_reserved_option(came.handed);
+        push_reserved_option(&mut self.accepted, came.accepted);
+        push_reserved(&mut self.notes, note);
         outcome
     }
 
     /// What a tick did at a gateway is kept.
-    pub fn settle_tick(&mut self, node: Role, ticked: Ticked) -> EventOutcome
+    pub fn record_tick(&mut self, node: Role, ticked: Ticked) -> EventOutcome
         requires room { HasRoom (vec_len ticked.resent) self.old }
         ensures log { log_of self.new ≡ log_of_tick (log_of self.old) node ticked }
         ensures told { outcomes_in (log_of self.new)
@@ -146,7 +152,7 @@ impl Records {
             late: false,
         };
         self.keep_all_sent(node, ticked.resent);
-        keep(&mut self.notes, note);
+        push_reserved(&mut self.notes, note);
         EventOutcome::Ticked
     }
 
@@ -160,13 +166,13 @@ impl Records {
     }
 
     /// An event that sends nothing is kept.
-    pub fn pass_over(&mut self, alloc: Global, outcome: EventOutcome) -> EventOutcome
+    pub fn record_outcome(&mut self, alloc: Global, outcome: EventOutcome) -> EventOutcome
         requires { HasRoom 1 self.old }
         ensures log { log_of self.new ≡ log_with (log_of self.old) (outcome_of outcome) }
         ensures told { outcomes_in (log_of self.new)
             ≡ outcomes_in (log_of self.old) ++ outcome_of result ∷ [] }
     {
-        keep(&mut self.notes, Note::of(alloc, outcome));
+        push_reserved(&mut self.notes, Note::of(alloc, outcome));
         outcome
     }
 

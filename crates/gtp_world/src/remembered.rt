@@ -6,8 +6,8 @@ ghost use Rattle.gtp_gateway.specs.Tick.{arrivals_of};
 ghost use Rattle.gtp_gateway.specs.Parts.{arrival_of};
 ghost use Rattle.gtp_world.specs.Indexes.{asked};
 
-use crate::asked::Asked;
-use crate::room::{keep, keep_all, put_all, put_in};
+use crate::request_key::RequestKey;
+use crate::room::{insert_all_reserved, insert_reserved, push_all_reserved, push_reserved};
 use gtp_gateway::{Memory, Request};
 use indexmap::IndexSet;
 use std::alloc::Global;
@@ -19,7 +19,7 @@ use std::marker::Model;
 pub struct Remembered {
     requests: Vec<Request>,
     /// Each of them once.
-    index: IndexSet<Asked>,
+    index: IndexSet<RequestKey>,
     room: usize,
 }
 
@@ -59,7 +59,7 @@ impl Remembered {
         let mut all = Remembered::new(alloc);
         for request in requests {
             all.make_room(1)?;
-            let key = Asked::copy(alloc, request.source, request.octets.as_slice())?;
+            let key = RequestKey::copy(alloc, request.source, request.octets.as_slice())?;
             all.push(request, key);
         }
         Ok(all)
@@ -79,14 +79,14 @@ impl Remembered {
     }
 
     /// One more, in the room that was made.
-    fn push(&mut self, request: Request, key: Asked)
+    fn push(&mut self, request: Request, key: RequestKey)
         requires room { 0 < self.old.room }
         requires key { asked key ≡ arrival_of request.source request.octets.items }
         ensures { self.new.list
             ≡ self.old.list ++ arrival_of request.source request.octets.items ∷ [] }
     {
-        keep(&mut self.requests, request);
-        put_in(&mut self.index, key);
+        push_reserved(&mut self.requests, request);
+        insert_reserved(&mut self.index, key);
         self.room -= 1;
     }
 
@@ -109,12 +109,12 @@ impl Remembered {
             ..
         } = more;
         self.room -= requests.len();
-        keep_all(&mut self.requests, requests);
-        put_all(&mut self.index, index);
+        push_all_reserved(&mut self.requests, requests);
+        insert_all_reserved(&mut self.index, index);
     }
 
     /// Whether the request is one of them.
-    pub fn has(&self, request: &Asked) -> bool
+    pub fn has(&self, request: &RequestKey) -> bool
         ensures { IsTrue result ↔ Among (asked request.now) self.now.list }
     {
         self.index.contains(request)

@@ -7,7 +7,7 @@ use indexmap::IndexSet;
 use std::hash::Hash;
 
 /// One more at the end of a list that has the room.
-pub fn keep<T: Drop>(list: &mut Vec<T>, item: T)
+pub fn push_reserved<T: Drop>(list: &mut Vec<T>, item: T)
     requires { vec_len list.old < vec_capacity list.old }
     ensures items { list.new.items ≡ list.old.items ++ item ∷ [] }
     ensures len { vec_len list.new ≡ vec_len list.old + 1 }
@@ -19,17 +19,17 @@ pub fn keep<T: Drop>(list: &mut Vec<T>, item: T)
 }
 
 /// It, if there is one, at the end of a list that has the room.
-pub fn keep_any<T: Drop>(list: &mut Vec<T>, item: Option<T>)
+pub fn push_reserved_option<T: Drop>(list: &mut Vec<T>, item: Option<T>)
     requires { vec_len list.old < vec_capacity list.old }
     ensures { list.new.items ≡ list.old.items ++ option_to_list item }
 {
     if let Some(item) = item {
-        keep(list, item);
+        push_reserved(list, item);
     }
 }
 
 /// All of these at the end of a list that has the room.
-pub fn keep_all<T: Drop>(list: &mut Vec<T>, items: Vec<T>)
+pub fn push_all_reserved<T: Drop>(list: &mut Vec<T>, items: Vec<T>)
     requires { vec_len list.old + vec_len items ≤ vec_capacity list.old }
     ensures items { list.new.items ≡ list.old.items ++ items.items }
     ensures len { vec_len list.new ≡ vec_len list.old + vec_len items }
@@ -42,7 +42,7 @@ pub fn keep_all<T: Drop>(list: &mut Vec<T>, items: Vec<T>)
 }
 
 /// A key in an index that has the room.
-pub fn put_in<K: Eq + Hash + Drop>(index: &mut IndexSet<K>, key: K)
+pub fn insert_reserved<K: Eq + Hash + Drop>(index: &mut IndexSet<K>, key: K)
     requires { 0 < spare index.old }
     ensures keys { index.new.keys ≡ insert_key K.eq index.old.keys key }
     ensures spare { spare index.old ≤ spare index.new + 1 }
@@ -53,7 +53,7 @@ pub fn put_in<K: Eq + Hash + Drop>(index: &mut IndexSet<K>, key: K)
 }
 
 /// All of these in an index that has the room.
-pub fn put_all<K: Eq + Hash + Drop>(index: &mut IndexSet<K>, keys: IndexSet<K>)
+pub fn insert_all_reserved<K: Eq + Hash + Drop>(index: &mut IndexSet<K>, keys: IndexSet<K>)
     requires { index_set_len keys ≤ spare index.old }
     ensures keys { index.new.keys ≡ insert_all K.eq index.old.keys keys.keys }
     ensures spare { spare index.old ≤ spare index.new + index_set_len keys }

@@ -22,7 +22,7 @@ use crate::event::{Event, EventOutcome};
 use crate::log::{Datagram, Entry, Note};
 use crate::mutual::{Mutual, Mutuals, do_agree};
 use crate::run::RunFault;
-use crate::sides::Sides;
+use crate::simulation::Simulation;
 use gtp_gateway::{Config, Gateway, Memory, Role, SessionSpec};
 use std::alloc::Global;
 use std::marker::Model;
@@ -31,7 +31,7 @@ use std::marker::Model;
 /// machine leaves, so what its views promise needs no premise on how it came about.
 #[derive(Drop)]
 pub struct World {
-    sides: Sides,
+    sides: Simulation,
 }
 
 impl Model for World {
@@ -58,7 +58,7 @@ impl World {
         ensures run { IfOk result (λ world. LeftByRun config.now [] world) }
     {
         Ok(World {
-            sides: Sides::start(alloc, config)?,
+            sides: Simulation::start(alloc, config)?,
         })
     }
 

@@ -33,16 +33,24 @@ use Rattle.gtp_gateway.proofs.Determined.Datagram.{tied_draws}
 -- ---- a command
 
 -- the request that was begun waits beside the others
-begun_waits : (old : GatewayState) (begun : Begun) (new : GatewayState) → NodeMatchesQueues old → (next : SendsRequestNext old begun new) → (p : PendingRequest) × (new.node.pending ≡ insert old.node.pending next.number p)
+begun_waits : (old : GatewayState) (begun : Begun) (new : GatewayState) → NodeMatchesQueues old → (next : SendsRequestNext old begun new)
+    → (p : PendingRequest) × (new.node.pending ≡ insert old.node.pending next.number p)
 begun_waits old begun new tied next =
     let w : Waiting Purpose = just_sent next.number begun.out.to begun.out.octets.items next.purpose in (
       (pending_of w).1,
-      next.tied.pending ∙ (ap (λ (t : Queues). pending_in t.waiting) next.queues ∙ (pending_push old.queues.waiting w (pending_of w).1 next.free.free refl ∙ ap (λ (k : FiniteMap PendingRequest). insert k next.number (pending_of w).1) (sym tied.pending))),
+      next.tied.pending
+          ∙ (ap (λ (t : Queues). pending_in t.waiting) next.queues ∙ (pending_push old.queues.waiting w (pending_of w).1 next.free.free refl
+          ∙ ap (λ (k : FiniteMap PendingRequest). insert k next.number (pending_of w).1) (sym tied.pending))),
     )
 
-waits_too : (old one other : Node) (m n : ℕ) (p q : PendingRequest) → one.pending ≡ insert old.pending m p → other.pending ≡ insert old.pending n q → m ≡ n → (number : ℕ) → get old.pending number ≡ None → HasPending one number → HasPending other number
+waits_too : (old one other : Node) (m n : ℕ) (p q : PendingRequest) → one.pending ≡ insert old.pending m p → other.pending ≡ insert old.pending n q → m ≡ n
+    → (number : ℕ) → get old.pending number ≡ None → HasPending one number → HasPending other number
 waits_too old one other m n p q is_one is_other same number free waits = ⊎_elim
-    (λ here. record { pending = q; waits = ap (λ (k : FiniteMap PendingRequest). get k number) is_other ∙ (ap (λ k. get (insert old.pending n q) k) (here.0 ∙ same) ∙ get-insert_same old.pending n q) })
+    (λ here. record {
+      pending = q;
+      waits = ap (λ (k : FiniteMap PendingRequest). get k number) is_other
+          ∙ (ap (λ k. get (insert old.pending n q) k) (here.0 ∙ same) ∙ get-insert_same old.pending n q);
+    })
     (λ there. absurd (never waits.pending there.1))
     (found-insert old.pending m p number waits.pending (ap (λ (k : FiniteMap PendingRequest). get k number) (sym is_one) ∙ waits.waits))
   where
@@ -52,13 +60,15 @@ waits_too old one other m n p q is_one is_other same number free waits = ⊎_eli
 same_begun : (a b : Option Teid) → ◌≡◌ {A = Outcome} (outcomes.Begun a) (outcomes.Begun b) → a ≡ b
 same_begun a b e = cc
 
-one_teid : (command : Command) (old : GatewayState) (begun other : Begun) (new left : GatewayState) → WaitsNext command old begun new → WaitsNext command old other left → outcome_by command begun.teid ≡ outcome_by command other.teid → begun.teid ≡ other.teid
+one_teid : (command : Command) (old : GatewayState) (begun other : Begun) (new left : GatewayState) → WaitsNext command old begun new
+    → WaitsNext command old other left → outcome_by command begun.teid ≡ outcome_by command other.teid → begun.teid ≡ other.teid
 one_teid (Mark_end bearer) old begun other new left m n e = m.0 ∙ sym n.0
 one_teid (Send_user bearer payload) old begun other new left m n e = m.0 ∙ sym n.0
 one_teid command old begun other new left m n e = same_begun begun.teid other.teid e
 
 module _ (old : GatewayState) (whole : IsSoundState old) (once : OneAnswerPerRequest old.node) (tied : NodeMatchesQueues old) where
-  asks_one : (command : Command) (begun other : Begun) (new left : GatewayState) (m : IsCarriedOut command old begun new) (n : IsCarriedOut command old other left) → SendsRequestNext old begun new → SendsRequestNext old other left → m.effect ≡ n.effect
+  asks_one : (command : Command) (begun other : Begun) (new left : GatewayState) (m : IsCarriedOut command old begun new)
+      (n : IsCarriedOut command old other left) → SendsRequestNext old begun new → SendsRequestNext old other left → m.effect ≡ n.effect
   asks_one command begun other new left m n next also =
       let both = step_done old.role old.node (Commanded command) (whole_fits old whole) once m.effect n.effect m.step n.step in
       let first = begun_waits old begun new tied next in

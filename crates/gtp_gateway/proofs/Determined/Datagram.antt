@@ -43,11 +43,17 @@ pub tied_draws : (new : GatewayState) (node : Node) → new.node ≡ node → No
 tied_draws new node is tied = subst (λ (k : Node). k.drawn ≡ drawn_up_to k.counter (length k.drawn)) is tied.drawn
 
 -- the requests for bearers that two answers begin have one number
-number_wanted : (plane : Plane) (source : Endpoint) (octets : List ℕ) (old : GatewayState) → IsSoundState old → NodeMatchesQueues old → AreDistinct old.queues.waiting → (step other : Step) (new left : GatewayState) → KeepsOnce plane source octets step old new → KeepsOnce plane source octets other old left → (request : Arrival) (reading : ControlReading) → coming plane source octets ≡ Control_came request reading → (others : FiniteMap PendingRequest) (m n : ℕ) (p q : PendingRequest) → WaitsBeside old.node.drawn new.node.pending others m p → WaitsBeside old.node.drawn left.node.pending others n q → m ≡ n
-number_wanted Control source octets old whole tied apart step other new left goes also request reading is others m n p q waits too = number_begun old whole tied apart (arrival_of source octets) new left others m n p q goes also waits too
+number_wanted : (plane : Plane) (source : Endpoint) (octets : List ℕ) (old : GatewayState) → IsSoundState old → NodeMatchesQueues old
+    → AreDistinct old.queues.waiting → (step other : Step) (new left : GatewayState) → KeepsOnce plane source octets step old new
+    → KeepsOnce plane source octets other old left → (request : Arrival) (reading : ControlReading)
+    → coming plane source octets ≡ Control_came request reading → (others : FiniteMap PendingRequest) (m n : ℕ) (p q : PendingRequest)
+    → WaitsBeside old.node.drawn new.node.pending others m p → WaitsBeside old.node.drawn left.node.pending others n q → m ≡ n
+number_wanted Control source octets old whole tied apart step other new left goes also request reading is others m n p q waits too =
+    number_begun old whole tied apart (arrival_of source octets) new left others m n p q goes also waits too
 number_wanted User source octets old whole tied apart step other new left goes also request reading is others m n p q waits too = absurd cc
 
-module _ (plane : Plane) (source : Endpoint) (octets : List ℕ) (old : GatewayState) (whole : IsSoundState old) (once : OneAnswerPerRequest old.node) (tied : NodeMatchesQueues old) (apart : AreDistinct old.queues.waiting) where
+module _ (plane : Plane) (source : Endpoint) (octets : List ℕ) (old : GatewayState) (whole : IsSoundState old)
+    (once : OneAnswerPerRequest old.node) (tied : NodeMatchesQueues old) (apart : AreDistinct old.queues.waiting) where
   module _ (step other : Step) (new left : GatewayState) (m : MeetsOnce plane source octets old step new) (n : MeetsOnce plane source octets old other left) where
     abbrev e : Effect
     e = m.received.effect
@@ -65,12 +71,22 @@ module _ (plane : Plane) (source : Endpoint) (octets : List ℕ) (old : GatewayS
           (tied_draws left f.node n.received.becomes (keeps_tied plane source octets other old left n.queues))
           both.tell.counter both.tell.draws;
       addresses = λ request reading is packet made others t a b x y version p q in_one in_other.
-          let first = lowest_address old.node e.node others t a (subst (λ k. MakesLowestSession old.node k) m.received.becomes (subst (λ r. MakesLowest r old.node new.node) packet (made_lowest made))) x version p in_one in
-          let second = lowest_address old.node f.node others t b (subst (λ k. MakesLowestSession old.node k) n.received.becomes (subst (λ r. MakesLowest r old.node left.node) packet (also_lowest made))) y version q in_other in
+          let first =
+          lowest_address old.node e.node others t a
+          (subst (λ k. MakesLowestSession old.node k) m.received.becomes (subst (λ r. MakesLowest r old.node new.node) packet (made_lowest made))) x
+          version p in_one in
+          let second =
+          lowest_address old.node f.node others t b
+          (subst (λ k. MakesLowestSession old.node k) n.received.becomes (subst (λ r. MakesLowest r old.node left.node) packet (also_lowest made))) y
+          version q in_other in
           one_lowest_address version others old.node.config.pools p q first second;
       identities = λ request reading is serving made others t a b x y session.
-          let first = lowest_identity old.node e.node others t a (subst (λ k. MakesLowestBearer old.node k) m.received.becomes (subst (λ r. MakesLowest r old.node new.node) serving (made_lowest made))) x in
-          let second = lowest_identity old.node f.node others t b (subst (λ k. MakesLowestBearer old.node k) n.received.becomes (subst (λ r. MakesLowest r old.node left.node) serving (also_lowest made))) y in
+          let first =
+          lowest_identity old.node e.node others t a
+          (subst (λ k. MakesLowestBearer old.node k) m.received.becomes (subst (λ r. MakesLowest r old.node new.node) serving (made_lowest made))) x in
+          let second =
+          lowest_identity old.node f.node others t b
+          (subst (λ k. MakesLowestBearer old.node k) n.received.becomes (subst (λ r. MakesLowest r old.node left.node) serving (also_lowest made))) y in
           first.1 ∙ (ap (λ k. Some k) (one_lowest_identity others a.session first.0 second.0 first.2 (subst (λ k. IsLowestUnused others k second.0) (sym session) second.2)) ∙ sym second.1);
       numbers = λ command is. absurd (no_command plane source octets command is);
       wanted = λ request reading is packet made others number another p q waits too.
@@ -93,10 +109,15 @@ module _ (plane : Plane) (source : Endpoint) (octets : List ℕ) (old : GatewayS
         let outcome : step.report.outcome ≡ other.report.outcome = same_outcome step.report.outcome other.report.outcome (tells.outcome ∙ (ap (λ (k : Effect). k.outcome) same ∙ sym also.outcome)) in
         let heard : step.report.heard ≡ other.report.heard = same_heard step.report.heard other.report.heard (tells.heard ∙ (ap (λ (k : Effect). k.out.heard) same ∙ sym also.heard)) in
         let restart : step.report.restart ≡ other.report.restart = same_heard step.report.restart other.report.restart (tells.restart ∙ (ap (λ (k : Effect). k.out.learned) same ∙ sym also.restart)) in
-        let made : step.report.made ≡ other.report.made = same_made (arrival_of source octets) step.report.made other.report.made (tells.made ∙ (ap (λ (k : Effect). k.out.made) same ∙ sym also.made)) in
+        let made : step.report.made ≡ other.report.made =
+        same_made (arrival_of source octets) step.report.made other.report.made (tells.made ∙ (ap (λ (k : Effect). k.out.made) same ∙ sym also.made)) in
         record {
           sent = tells.sent.octets ∙ (ap (λ (k : Effect). map (datagram_of old.node.config) k.out.sent) same ∙ sym also.sent.octets);
           report = λ i. record { outcome = outcome i; second = (tells.alone ∙ sym also.alone) i; heard = heard i; restart = restart i; made = made i };
-          accepted = same_packet old.node step.accepted other.accepted f.out.accepted (subst (λ k. AreEntries old.node step.accepted k) (ap (λ (k : Effect). k.out.accepted) same) tells.accepted) also.accepted;
-          leaves = left_by plane source octets step other old new left apart (m.received.role ∙ sym n.received.role) (m.received.becomes ∙ (ap (λ (k : Effect). k.node) same ∙ sym n.received.becomes)) m.queues n.queues;
+          accepted =
+              same_packet old.node step.accepted other.accepted f.out.accepted
+              (subst (λ k. AreEntries old.node step.accepted k) (ap (λ (k : Effect). k.out.accepted) same) tells.accepted) also.accepted;
+          leaves =
+              left_by plane source octets step other old new left apart (m.received.role ∙ sym n.received.role)
+              (m.received.becomes ∙ (ap (λ (k : Effect). k.node) same ∙ sym n.received.becomes)) m.queues n.queues;
         }

@@ -63,7 +63,8 @@ answered_bearer a t old e none =
 restarted_bearer : (old : Node) (counter t : ℕ) → get old.bearers t ≡ None → get (peer_restarted old counter).bearers t ≡ None
 restarted_bearer old counter t none = none_where (get (peer_restarted old counter).bearers t) (λ b is. let both : None ≡ Some b = sym none ∙ (found-kept _ old.bearers t b is).1 in cc)
 
-heard_bearer : (a : CreateSessionResponse) (t : ℕ) (old : Node) (recovery : Option ℕ) (e : Effect) → get old.bearers t ≡ None → Hears (CreateSessionAnswered a) old recovery e → get e.node.bearers t ≡ None
+heard_bearer : (a : CreateSessionResponse) (t : ℕ) (old : Node) (recovery : Option ℕ) (e : Effect) → get old.bearers t ≡ None
+    → Hears (CreateSessionAnswered a) old recovery e → get e.node.bearers t ≡ None
 heard_bearer a t old recovery e none =
     on_hears (λ x. get x.node.bearers t ≡ None) (CreateSessionAnswered a) old
     (λ x. answered_bearer a t old x none)
@@ -71,14 +72,21 @@ heard_bearer a t old recovery e none =
     (λ c x. answered_bearer a t (peer_restarted old c) x (restarted_bearer old c t none))
     (λ x outcome is. ap (λ (k : Effect). get k.node.bearers t) is ∙ none) (λ x heard learned so. so) recovery e
 
-opening_bearer : (request : Arrival) (a : CreateSessionResponse) (old : Node) (e : Effect) (t : ℕ) → MachineStep Serving old (Control_came request (Control_message (Create_session_response a))) e → get old.bearers t ≡ None → get e.node.bearers t ≡ None
+opening_bearer : (request : Arrival) (a : CreateSessionResponse) (old : Node) (e : Effect) (t : ℕ)
+    → MachineStep Serving old (Control_came request (Control_message (Create_session_response a))) e → get old.bearers t ≡ None
+    → get e.node.bearers t ≡ None
 opening_bearer request a old e t (inl f) none = ap (λ (x : Effect). get x.node.bearers t) f.1 ∙ none
 opening_bearer request a old e t (inr (peer, inl r)) none = ap (λ (x : Effect). get x.node.bearers t) r.gives ∙ none
 opening_bearer request a old e t (inr (peer, inr (new, inl f))) none = ap (λ (x : Effect). get x.node.bearers t) f.1 ∙ none
 opening_bearer request a old e t (inr (peer, inr (new, inr (kind, r)))) none = heard_bearer a t old a.recovery e none r
 
-module _ (arrival : Arrival) (old : GatewayState) (whole : IsSoundState old) (once : OneAnswerPerRequest old.node) (apart : AreDistinct old.queues.waiting) (serving : old.role ≡ Serving) (a : CreateSessionResponse) (q : CreateBearerRequest) (step other : Step) (new left : GatewayState)
-    (m : AreReceived arrival a q old step new) (n : AreReceived arrival a q old other left) (goes : QueuesAfterMessage (second_arrival arrival) old new) (also_goes : QueuesAfterMessage (second_arrival arrival) old left) (between : IsSoundState (record old { node = m.first.node })) (chooses : ChoosesLowest step.report.made old.role old.node new.node) (also_chooses : ChoosesLowest other.report.made old.role old.node left.node) where
+module _ (arrival : Arrival) (old : GatewayState) (whole : IsSoundState old) (once : OneAnswerPerRequest old.node)
+    (apart : AreDistinct old.queues.waiting) (serving : old.role ≡ Serving) (a : CreateSessionResponse) (q : CreateBearerRequest) (step other : Step)
+    (new left : GatewayState)
+    (m : AreReceived arrival a q old step new) (n : AreReceived arrival a q old other left)
+    (goes : QueuesAfterMessage (second_arrival arrival) old new) (also_goes : QueuesAfterMessage (second_arrival arrival) old left)
+    (between : IsSoundState (record old { node = m.first.node })) (chooses : ChoosesLowest step.report.made old.role old.node new.node)
+    (also_chooses : ChoosesLowest other.report.made old.role old.node left.node) where
   abbrev first_input : Input
   first_input = first_comes arrival a
 
@@ -132,11 +140,18 @@ module _ (arrival : Arrival) (old : GatewayState) (whole : IsSoundState old) (on
 
   picked_second : PickAlike old.role mid second_input m.second n.second
   picked_second = record {
-    drawn = one_drawn m.second.node n.second.node (tied_draws new m.second.node m.becomes goes.tied) (tied_draws left n.second.node n.becomes also_goes.tied) both_second.tell.counter both_second.tell.draws;
+    drawn =
+        one_drawn m.second.node n.second.node (tied_draws new m.second.node m.becomes goes.tied)
+        (tied_draws left n.second.node n.becomes also_goes.tied) both_second.tell.counter both_second.tell.draws;
     addresses = λ x reading is packet. absurd (not_packet packet);
     identities = λ x reading is by made others t b c one two session.
-        let first = lowest_identity mid m.second.node others t b (lowest_then new m.second m.becomes (subst (λ r. MakesLowest r old.node new.node) serving (chooses (is_made (second_arrival arrival) step.report.made m.second.out.made m.tells.made made)))) one in
-        let second = lowest_identity mid n.second.node others t c (lowest_then left n.second n.becomes (subst (λ r. MakesLowest r old.node left.node) serving (also_chooses (is_made (second_arrival arrival) other.report.made n.second.out.made n.tells.made (λ none. made (ap (λ (o : Out). o.made) both_second.tell.told ∙ none)))))) two in
+        let first =
+        lowest_identity mid m.second.node others t b (lowest_then new m.second m.becomes (subst (λ r. MakesLowest r old.node new.node) serving
+        (chooses (is_made (second_arrival arrival) step.report.made m.second.out.made m.tells.made made)))) one in
+        let second =
+        lowest_identity mid n.second.node others t c (lowest_then left n.second n.becomes (subst (λ r. MakesLowest r old.node left.node) serving
+        (also_chooses (is_made (second_arrival arrival) other.report.made n.second.out.made n.tells.made
+        (λ none. made (ap (λ (o : Out). o.made) both_second.tell.told ∙ none)))))) two in
         first.1 ∙ (ap (λ k. Some k) (one_lowest_identity others b.session first.0 second.0 first.2 (subst (λ k. IsLowestUnused others k second.0) (sym session) second.2)) ∙ sym second.1);
     numbers = λ command is. absurd (cc is);
     wanted = λ x reading is packet. absurd (not_packet packet);
@@ -153,10 +168,12 @@ module _ (arrival : Arrival) (old : GatewayState) (whole : IsSoundState old) (on
       let same : m.second ≡ n.second = both_second.one picked_second in
       let tells = m.tells in
       let also = n.tells in
-      let outcome : step.report.outcome ≡ other.report.outcome = same_outcome step.report.outcome other.report.outcome (tells.outcome ∙ (ap (λ (k : Effect). k.outcome) one_first ∙ sym also.outcome)) in
+      let outcome : step.report.outcome ≡ other.report.outcome =
+      same_outcome step.report.outcome other.report.outcome (tells.outcome ∙ (ap (λ (k : Effect). k.outcome) one_first ∙ sym also.outcome)) in
       let second : step.report.second ≡ other.report.second = same_second step.report.second other.report.second n.second.outcome (tells.next ∙ ap (λ (k : Effect). Some k.outcome) same) also.next in
       let heard : step.report.heard ≡ other.report.heard = same_heard step.report.heard other.report.heard (tells.heard ∙ (ap (λ (k : Effect). k.out.heard) one_first ∙ sym also.heard)) in
-      let restart : step.report.restart ≡ other.report.restart = same_heard step.report.restart other.report.restart (tells.restart ∙ (ap (λ (k : Effect). k.out.learned) one_first ∙ sym also.restart)) in
+      let restart : step.report.restart ≡ other.report.restart =
+      same_heard step.report.restart other.report.restart (tells.restart ∙ (ap (λ (k : Effect). k.out.learned) one_first ∙ sym also.restart)) in
       let made : step.report.made ≡ other.report.made = same_made (second_arrival arrival) step.report.made other.report.made (tells.made ∙ (ap (λ (k : Effect). k.out.made) same ∙ sym also.made)) in
       record {
         sent = tells.sent.octets ∙ (ap (λ (k : Effect). map (datagram_of old.node.config) k.out.sent) same ∙ sym also.sent.octets);
@@ -165,22 +182,31 @@ module _ (arrival : Arrival) (old : GatewayState) (whole : IsSoundState old) (on
         leaves = left_goes (second_arrival arrival) old new left apart (m.role ∙ sym n.role) (m.becomes ∙ (ap (λ (k : Effect). k.node) same ∙ sym n.becomes)) goes also_goes;
       }
 
-one_of_both : (a b : CreateSessionResponse) (q r : CreateBearerRequest) → Both (Create_session_response a) (Create_bearer_request q) ≡ Both (Create_session_response b) (Create_bearer_request r) → (a ≡ b) × (q ≡ r)
+one_of_both : (a b : CreateSessionResponse) (q r : CreateBearerRequest)
+    → Both (Create_session_response a) (Create_bearer_request q) ≡ Both (Create_session_response b) (Create_bearer_request r) → (a ≡ b) × (q ≡ r)
 one_of_both a b q r is = (cc is, cc is)
 
-between_sound : (arrival : Arrival) (old : GatewayState) → IsSoundState old → (pair : TakesPair old.role old.node.config arrival (datagram_reading arrival.octets)) → (e : Effect) → MachineStep old.role old.node (first_comes arrival pair.answer) e → IsSoundState (record old { node = e.node })
+between_sound : (arrival : Arrival) (old : GatewayState) → IsSoundState old
+    → (pair : TakesPair old.role old.node.config arrival (datagram_reading arrival.octets)) → (e : Effect)
+    → MachineStep old.role old.node (first_comes arrival pair.answer) e → IsSoundState (record old { node = e.node })
 between_sound arrival old whole pair e takes =
-    ∥∥₁_elim whole ∥∥₁_prop (λ before. merely (stays_sound old.role old.node (first_comes arrival pair.answer) e before (pair_reads_whole arrival.octets (Create_session_response pair.answer) (Create_bearer_request pair.asked) (sym pair.is)).0 takes))
+    ∥∥₁_elim whole ∥∥₁_prop (λ before. merely (stays_sound old.role old.node (first_comes arrival pair.answer) e before
+    (pair_reads_whole arrival.octets (Create_session_response pair.answer) (Create_bearer_request pair.asked) (sym pair.is)).0 takes))
 
 -- a datagram of the control plane: as a whole, or message by message
-control_one : (source : Endpoint) (octets : List ℕ) (old : GatewayState) → IsSoundState old → OneAnswerPerRequest old.node → NodeMatchesQueues old → AreDistinct old.queues.waiting → (step other : Step) (new left : GatewayState) → IsReceived Control source octets old step new → QueuesAfterControl (arrival_of source octets) old new → ChoosesLowest step.report.made old.role old.node new.node → IsReceived Control source octets old other left → QueuesAfterControl (arrival_of source octets) old left
+control_one : (source : Endpoint) (octets : List ℕ) (old : GatewayState) → IsSoundState old → OneAnswerPerRequest old.node → NodeMatchesQueues old
+    → AreDistinct old.queues.waiting → (step other : Step) (new left : GatewayState) → IsReceived Control source octets old step new
+    → QueuesAfterControl (arrival_of source octets) old new → ChoosesLowest step.report.made old.role old.node new.node
+    → IsReceived Control source octets old other left → QueuesAfterControl (arrival_of source octets) old left
     → ChoosesLowest other.report.made old.role old.node left.node → AreOneStep step other new left
 control_one source octets old whole once tied apart step other new left (inl m) (inl goes) chooses (inl n) (inl also) too =
-    one_step Control source octets old whole once tied apart step other new left (record { received = m.1; queues = goes.1; choices = chooses }) (record { received = n.1; queues = also.1; choices = too })
+    one_step Control source octets old whole once tied apart step other new left (record { received = m.1; queues = goes.1; choices = chooses })
+    (record { received = n.1; queues = also.1; choices = too })
 control_one source octets old whole once tied apart step other new left (inr (pair, m)) (inr (x, goes)) chooses (inr (given, n)) (inr (y, also)) too =
     let same = one_of_both given.answer pair.answer given.asked pair.asked (sym given.is ∙ pair.is) in
     one_pair (arrival_of source octets) old whole once apart pair.by pair.answer pair.asked step other new left m
-    (subst (λ (a : CreateSessionResponse). AreReceived (arrival_of source octets) a pair.asked old other left) same.0 (subst (λ (q : CreateBearerRequest). AreReceived (arrival_of source octets) given.answer q old other left) same.1 n))
+    (subst (λ (a : CreateSessionResponse). AreReceived (arrival_of source octets) a pair.asked old other left) same.0
+    (subst (λ (q : CreateBearerRequest). AreReceived (arrival_of source octets) given.answer q old other left) same.1 n))
     goes also (between_sound (arrival_of source octets) old whole pair m.first m.takes) chooses too
 control_one source octets old whole once tied apart step other new left (inl m) (inr goes) chooses n also too = absurd (m.0 goes.0)
 control_one source octets old whole once tied apart step other new left (inr m) (inl goes) chooses n also too = absurd (goes.0 m.0)
@@ -190,5 +216,9 @@ control_one source octets old whole once tied apart step other new left (inr m) 
 control_one source octets old whole once tied apart step other new left (inr m) (inr goes) chooses (inr n) (inl also) too = absurd (also.0 n.0)
 
 pub receives_one : (old : GatewayState) → IsSoundState old → OneAnswerPerRequest old.node → NodeMatchesQueues old → AreDistinct old.queues.waiting → ReceivesOne old
-receives_one old whole once tied apart Control source octets step other new left m n = control_one source octets old whole once tied apart step other new left m.received m.queues m.choices n.received n.queues n.choices
-receives_one old whole once tied apart User source octets step other new left m n = one_step User source octets old whole once tied apart step other new left (record { received = m.received; queues = m.queues; choices = m.choices }) (record { received = n.received; queues = n.queues; choices = n.choices })
+receives_one old whole once tied apart Control source octets step other new left m n =
+    control_one source octets old whole once tied apart step other new left m.received m.queues m.choices n.received n.queues n.choices
+receives_one old whole once tied apart User source octets step other new left m n =
+    one_step User source octets old whole once tied apart step other new left
+    (record { received = m.received; queues = m.queues; choices = m.choices })
+    (record { received = n.received; queues = n.queues; choices = n.choices })

@@ -17,7 +17,8 @@ by_later d e = grind (arith, nat_tests)
 by_earlier : (d : ℕ) → age_by d ≡ Earlier → 128 ≤ d
 by_earlier d e = grind (arith, nat_tests)
 
-module _ (first known_start heard_start known heard : ℕ) (known_few : known_start ≤ 127) (heard_few : heard_start ≤ 127) (known_is : known ≡ (first + known_start) % 256) (heard_is : heard ≡ (first + heard_start) % 256) where
+module _ (first known_start heard_start known heard : ℕ) (known_few : known_start ≤ 127) (heard_few : heard_start ≤ 127)
+    (known_is : known ≡ (first + known_start) % 256) (heard_is : heard ≡ (first + heard_start) % 256) where
   pub same_start : age_of known heard ≡ Same → heard_start ≡ known_start
   same_start e = omega (arith, by_same (lead known heard) e)
 

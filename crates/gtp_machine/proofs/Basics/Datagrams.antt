@@ -63,7 +63,8 @@ of_one (s ∷ []) datagram e = let one : s.messages ≡ datagram = cc e in appen
 of_one (s ∷ next ∷ sent) datagram e = absurd (cc e)
 
 -- the two lists grow alike
-pub flat_grows : (sent_before : List SentDatagram) (history : List Sent) → flat sent_before ≡ history → (role : Role) (sent : List Sending) → flat (sent_before ++ signed role (datagrams sent)) ≡ history ++ signed role (messages sent)
+pub flat_grows : (sent_before : List SentDatagram) (history : List Sent) → flat sent_before ≡ history → (role : Role) (sent : List Sending)
+    → flat (sent_before ++ signed role (datagrams sent)) ≡ history ++ signed role (messages sent)
 flat_grows sent_before history kept role sent = both_flat sent_before (signed role (datagrams sent)) ∙ (λ i. kept i ++ flat_signed role sent i)
 
 signed_few : (role : Role) (sent : List (List Message)) → AreFew sent → EachFew (signed role sent)
@@ -83,7 +84,9 @@ among_signed role (y ∷ list) x (inr there) = inr (among_signed role list x the
 -- a message of a datagram that was sent was sent
 among_flat : (sent : List SentDatagram) (role : Role) (datagram : List Message) (m : Message) → Among (record { role = role; what = datagram }) sent → Among m datagram → HasSent (flat sent) role m
 among_flat [] role datagram m none has = absurd none
-among_flat (d ∷ sent) role datagram m (inl is) has = subst (λ (k : SentDatagram). HasSent (signed k.role k.what ++ flat sent) role m) is (Among-left _ (signed role datagram) (flat sent) (among_signed role datagram m has))
+among_flat (d ∷ sent) role datagram m (inl is) has =
+    subst (λ (k : SentDatagram). HasSent (signed k.role k.what ++ flat sent) role m) is
+    (Among-left _ (signed role datagram) (flat sent) (among_signed role datagram m has))
 among_flat (d ∷ sent) role datagram m (inr there) has = Among-right _ (signed d.role d.what) (flat sent) (among_flat sent role datagram m there has)
 
 pub sent_whole : (sent : List SentDatagram) (history : List Sent) → flat sent ≡ history → EachFew sent → (s : SentDatagram) → Among s sent → IsSentWhole history s.role s.what

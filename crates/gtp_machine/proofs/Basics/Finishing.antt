@@ -11,13 +11,18 @@ use Rattle.gtp_values.specs.declared.qos.Qos.{Qos}
 use Rattle.gtp_machine.specs.Ordered.{Unless}
 use Rattle.gtp_machine.specs.Config.{user_end}
 use Rattle.gtp_machine.specs.Element.{IsAccepting, teid_in, cause_of, cause_at}
-use Rattle.gtp_machine.specs.Message.{Message, CreateSessionRequest, CreateSessionResponse, CreateBearerRequest, CreateBearerResponse, Create_bearer_response, End_marker, Supported_extensions, recovery_of}
+use Rattle.gtp_machine.specs.Message.{Message, CreateSessionRequest, CreateSessionResponse, CreateBearerRequest, CreateBearerResponse}
+use Rattle.gtp_machine.specs.Message.{Create_bearer_response, End_marker, Supported_extensions, recovery_of}
 use Rattle.gtp_machine.specs.Node.{Role, Serving, Packet, Active, Arrival, Node, written}
-use Rattle.gtp_machine.specs.Input.{Effect, UserReading, User_message, Extension_needed, User_fault, Dropped, UnknownExtension, EventOutcome, Came_to, Outcome, Specification, GoneOut, Ended, Broken, nothing, says, ControlReading, Control_message, Faulty, Control_fault, FaultyRequest, NotPeer, dropped}
+use Rattle.gtp_machine.specs.Input.{Effect, UserReading, User_message, Extension_needed, User_fault, Dropped, UnknownExtension, EventOutcome, Came_to}
+use Rattle.gtp_machine.specs.Input.{Outcome, Specification, GoneOut, Ended, Broken, nothing, says, ControlReading, Control_message, Faulty}
+use Rattle.gtp_machine.specs.Input.{Control_fault, FaultyRequest, NotPeer, dropped}
 use Rattle.gtp_machine.specs.Choice.{HasPending, HasSession, HasBearer, HasSessionRoom, HasPendingRoom, HasHeldRoom, HasDraws, IsIdentity}
 use Rattle.gtp_machine.specs.Response.{EndsRequest, finishing}
 use Rattle.gtp_machine.specs.Answer.{answered, Repeats, IsNew, Faulted, faulted, TakesReading}
-use Rattle.gtp_machine.specs.Command.{SessionBegun, BeginsSession, SessionDeleted, ClosesSession, BearerBegun, BeginsBearer, BearerDeleted, NamesBearer, ClosesBearer, SessionReleased, ReleasesSession, EndMarked, EchoBegun, SendsEcho, PacketSent, SendsPacket}
+use Rattle.gtp_machine.specs.Command.{SessionBegun, BeginsSession, SessionDeleted, ClosesSession, BearerBegun, BeginsBearer, BearerDeleted}
+use Rattle.gtp_machine.specs.Command.{NamesBearer, ClosesBearer, SessionReleased, ReleasesSession, EndMarked, EchoBegun, SendsEcho, PacketSent}
+use Rattle.gtp_machine.specs.Command.{SendsPacket}
 use Rattle.gtp_machine.specs.User.{UserTaken, UserStep, udp_port, PacketCame, Accepts, indicated, EndCame, ErrorCame, ended_bearer, broken}
 use Rattle.gtp_machine.specs.Serving.{CreateBearerAsked, MakesBearer, CreateSessionAnswered, FitsCreateSession, DescribesSession, OpensSession}
 use Rattle.gtp_machine.specs.MessageType.{takes_message, answers_type}
@@ -49,7 +54,8 @@ module _ {G : Type 0} (old : Node) (e : Effect) (quiet : (outcome : EventOutcome
   on_bearer_begun Packet session tft qos begins r = by_rule (quiet _) (λ at. by_rule (quiet _) (λ active. by_rule (quiet _) (λ draws. by_rule (quiet _) (begins at active draws)))) r
 
   pub on_bearer_deleted : (by : Role) (session identity : ℕ)
-      → ((at : HasSession old session) (named : NamesBearer old session identity) → named.at.bearer.state ≡ Active → HasPendingRoom old → ClosesBearer old session at.session identity named.key named.at.bearer e → G) → BearerDeleted by session identity old e → G
+      → ((at : HasSession old session) (named : NamesBearer old session identity) → named.at.bearer.state ≡ Active → HasPendingRoom old
+      → ClosesBearer old session at.session identity named.key named.at.bearer e → G) → BearerDeleted by session identity old e → G
   on_bearer_deleted Serving session identity closes r = quiet _ r
   on_bearer_deleted Packet session identity closes r = by_rule (quiet _) (λ at. by_rule (quiet _) (λ named. by_rule (quiet _) (λ active. by_rule (quiet _) (closes at named active.1)))) r
 
@@ -59,7 +65,12 @@ module _ {G : Type 0} (old : Node) (e : Effect) (quiet : (outcome : EventOutcome
   on_session_released Packet session closes r = by_rule (quiet _) (λ at. by_rule (quiet _) (λ active. by_rule (quiet _) (closes at active))) r
 
   pub on_end_marked : (by : Role) (bearer : ℕ)
-      → ((at : HasBearer old bearer) → at.bearer.state ≡ Active → e ≡ record { out = says (user_end old.config.peer.user) (End_marker (written at.bearer.remote)); outcome = Came_to GoneOut; node = record old { bearers = insert old.bearers bearer (ended_bearer at.bearer) } } → G) → EndMarked by bearer old e → G
+      → ((at : HasBearer old bearer) → at.bearer.state ≡ Active
+      → e ≡ record {
+        out = says (user_end old.config.peer.user) (End_marker (written at.bearer.remote));
+        outcome = Came_to GoneOut;
+        node = record old { bearers = insert old.bearers bearer (ended_bearer at.bearer) };
+      } → G) → EndMarked by bearer old e → G
   on_end_marked Serving bearer marks r = quiet _ r
   on_end_marked Packet bearer marks r = by_rule (quiet _) (λ at. by_rule (quiet _) (λ active. by_rule (quiet _) (λ before. marks at active))) r
 
@@ -75,7 +86,8 @@ module _ {G : Type 0} (old : Node) (e : Effect) (quiet : (outcome : EventOutcome
   on_packet_came by target payload unknown accepts r = by_rule unknown (λ at. by_rule (quiet _) (λ active. by_rule (quiet _) (λ comes. accepts at active))) r
 
   pub on_end_came : (by : Role) (target : ℕ)
-      → ((at : HasBearer old target) → at.bearer.state ≡ Active → e ≡ quietly (record old { bearers = insert old.bearers target (ended_bearer at.bearer) }) (Came_to Ended) → G) → EndCame by target old e → G
+      → ((at : HasBearer old target) → at.bearer.state ≡ Active
+      → e ≡ quietly (record old { bearers = insert old.bearers target (ended_bearer at.bearer) }) (Came_to Ended) → G) → EndCame by target old e → G
   on_end_came Packet target marks r = quiet _ r
   on_end_came Serving target marks r = by_rule (quiet _) (λ at. by_rule (quiet _) (marks at)) r
 
@@ -83,7 +95,11 @@ module _ {G : Type 0} (old : Node) (e : Effect) (quiet : (outcome : EventOutcome
   on_error_came remote breaks r = by_rule (quiet _) (λ named. breaks) r
 
   pub on_user_step : (by : Role) (source : Endpoint) (reading : UserReading) → ((m : Message) → reading ≡ User_message m → UserTaken by source m old e → G)
-      → (e ≡ record { out = says (user_end old.config.peer.user) (Supported_extensions (udp_port ∷ [])); outcome = Came_to (Dropped UnknownExtension); node = old } → G) → UserStep by source reading old e → G
+      → (e ≡ record {
+        out = says (user_end old.config.peer.user) (Supported_extensions (udp_port ∷ []));
+        outcome = Came_to (Dropped UnknownExtension);
+        node = old;
+      } → G) → UserStep by source reading old e → G
   on_user_step by source reading taken needed (inl f) = quiet _ f.1
   on_user_step by source (User_message m) taken needed (inr (peer, r)) = taken m refl r
   on_user_step by source Extension_needed taken needed (inr (peer, r)) = needed r
@@ -100,7 +116,8 @@ module _ {G : Type 0} (old : Node) (e : Effect) (quiet : (outcome : EventOutcome
 
   -- and what was read of it
   pub on_read : (by : Role) (Takes : Arrival → Message → Node → Effect → Type 0) (request : Arrival) (reading : ControlReading)
-      → ((m : Message) → reading ≡ Control_message m → takes_message by m ≡ true → Hears (Takes request m) old (recovery_of m) e → G) → ((f : FaultyRequest) → reading ≡ Faulty f → e ≡ faulted request f old → G) → TakesReading by Takes reading request old e → G
+      → ((m : Message) → reading ≡ Control_message m → takes_message by m ≡ true → Hears (Takes request m) old (recovery_of m) e → G)
+      → ((f : FaultyRequest) → reading ≡ Faulty f → e ≡ faulted request f old → G) → TakesReading by Takes reading request old e → G
   on_read by Takes request (Control_message m) takes answers r = by_rule (quiet _) (takes m refl) r
   on_read by Takes request (Faulty f) takes answers r = on_faulty (answers_type by f.kind) request f (answers f refl) r
   on_read by Takes request (Control_fault fault) takes answers r = quiet _ r
@@ -111,15 +128,20 @@ module _ {G : Type 0} (old : Node) (e : Effect) (quiet : (outcome : EventOutcome
   on_finish ends r = by_rule (quiet _) (λ at. by_rule (quiet _) (λ fits. ends at)) r
 
   pub on_session_answered : (a : CreateSessionResponse) → ((at : HasPending old a.number) (outcome : Outcome) → e ≡ finishing old a.number at.pending outcome → G)
-      → ((at : HasPending old a.number) (fits : FitsCreateSession at.pending a) → IsAccepting a.cause → (new : DescribesSession old fits.session a) → IsAccepting new.context.cause → OpensSession old a fits.request fits.session new.at.session new.address e → G) → CreateSessionAnswered a old e → G
+      → ((at : HasPending old a.number) (fits : FitsCreateSession at.pending a) → IsAccepting a.cause → (new : DescribesSession old fits.session a)
+      → IsAccepting new.context.cause → OpensSession old a fits.request fits.session new.at.session new.address e → G)
+      → CreateSessionAnswered a old e → G
   on_session_answered a ends opens r =
       by_rule (quiet _) (λ at. by_rule (quiet _) (λ fits. by_rule (ends at _) (λ accepts. by_rule (quiet _) (λ new. by_rule (ends at _) (opens at fits accepts new))))) r
 
   pub on_bearer_answered : (x : CreateBearerResponse) → ((at : HasPending old x.number) (outcome : Outcome) → e ≡ finishing old x.number at.pending outcome → G)
-      → ((at : HasPending old x.number) (fits : FitsCreateBearer at.pending x) → IsAccepting x.cause → (new : DescribesBearer x) → IsAccepting new.context.cause → teid_in new.context.packet_user ≡ Some fits.bearer → CanOpen old fits.session new.context.identity → OpensBearer old x fits.bearer e → G)
+      → ((at : HasPending old x.number) (fits : FitsCreateBearer at.pending x) → IsAccepting x.cause → (new : DescribesBearer x)
+      → IsAccepting new.context.cause → teid_in new.context.packet_user ≡ Some fits.bearer → CanOpen old fits.session new.context.identity
+      → OpensBearer old x fits.bearer e → G)
       → CreateBearerAnswered x old e → G
   on_bearer_answered x ends opens r =
-      by_rule (quiet _) (λ at. by_rule (quiet _) (λ fits. by_rule (ends at _) (λ accepts. by_rule (quiet _) (λ new. by_rule (ends at _) (λ both. by_rule (quiet _) (λ returned. by_rule (ends at _) (opens at fits accepts new both returned))))))) r
+      by_rule (quiet _) (λ at. by_rule (quiet _) (λ fits. by_rule (ends at _) (λ accepts. by_rule (quiet _)
+      (λ new. by_rule (ends at _) (λ both. by_rule (quiet _) (λ returned. by_rule (ends at _) (opens at fits accepts new both returned))))))) r
 
   pub on_bearer_asked : (request : Arrival) (q : CreateBearerRequest) → (HasHeldRoom old → (x : CreateBearerResponse) (cause : ℕ) → e ≡ answered request (Create_bearer_response x) cause old → G)
       → (HasHeldRoom old → (at : HasSession old q.header) → HasDraws old 1 → MakesBearer request old q at.session e → G) → CreateBearerAsked request q old e → G
@@ -140,8 +162,11 @@ module _ {G : Type 0} (old : Node) (e : Effect) (quiet : (outcome : EventOutcome
       by_rule (refuses room (cause_of 84) (omega arith)) (λ can. makes room identity few.0 few.1))))))) r
 
 -- a message is taken once its counter is heard: by the gateway as it is, once the counter is known, or once the peer has restarted
-module _ (G : Effect → Type 0) (Takes : Node → Effect → Type 0) (old : Node) (same : (e : Effect) → Takes old e → G e) (first : (c : ℕ) (e : Effect) → Takes (record old { known = Some c }) e → G e) (restarted : (c : ℕ) (e : Effect) → Takes (peer_restarted old c) e → G e)
-    (quiet : (e : Effect) (outcome : EventOutcome) → e ≡ quietly old outcome → G e) (told : (taken : Effect) (heard learned : Option ℕ) → G taken → G (record taken { out = record taken.out { heard = heard; learned = learned } })) where
+module _ (G : Effect → Type 0) (Takes : Node → Effect → Type 0) (old : Node) (same : (e : Effect) → Takes old e → G e)
+    (first : (c : ℕ) (e : Effect) → Takes (record old { known = Some c }) e → G e)
+    (restarted : (c : ℕ) (e : Effect) → Takes (peer_restarted old c) e → G e)
+    (quiet : (e : Effect) (outcome : EventOutcome) → e ≡ quietly old outcome → G e)
+    (told : (taken : Effect) (heard learned : Option ℕ) → G taken → G (record taken { out = record taken.out { heard = heard; learned = learned } })) where
   on_age : (c : ℕ) (age : Age) (e : Effect) → Judges Takes old c age e → G e
   on_age c Same e r = same e r
   on_age c Later e r = restarted c e r

@@ -1,6 +1,9 @@
 -- A message by what a gateway does with it: it is of one of the six kinds that the gateway takes, or it is dropped.
 use Rattle.std.proofs.Common.{◌≡◌, Bool, true, false, ap}
-use Rattle.gtp_machine.specs.Message.{Echo, CreateSessionRequest, CreateSessionResponse, DeleteSessionRequest, DeleteSessionResponse, CreateBearerRequest, CreateBearerResponse, DeleteBearerRequest, DeleteBearerResponse, Message, Echo_request, Echo_response, Create_session_request, Create_session_response, Delete_session_request, Delete_session_response, Create_bearer_request, Create_bearer_response, Delete_bearer_request, Delete_bearer_response}
+use Rattle.gtp_machine.specs.Message.{Echo, CreateSessionRequest, CreateSessionResponse, DeleteSessionRequest, DeleteSessionResponse}
+use Rattle.gtp_machine.specs.Message.{CreateBearerRequest, CreateBearerResponse, DeleteBearerRequest, DeleteBearerResponse, Message, Echo_request}
+use Rattle.gtp_machine.specs.Message.{Echo_response, Create_session_request, Create_session_response, Delete_session_request, Delete_session_response}
+use Rattle.gtp_machine.specs.Message.{Create_bearer_request, Create_bearer_response, Delete_bearer_request, Delete_bearer_response}
 use Rattle.gtp_machine.specs.Node.{Role, Serving, Packet, Arrival, Node}
 use Rattle.gtp_machine.specs.Input.{FaultyRequest, Effect, dropped, Unexpected}
 use Rattle.gtp_machine.specs.Answer.{Faulted}
@@ -31,7 +34,9 @@ faulted_leaves false request f old e r = ap (λ (k : Effect). k.node) r
 
 module _ (P : Message → Type 0) where
   -- at the serving gateway
-  pub by_serving : ((q : Echo) → P (Echo_request q)) → ((a : Echo) → P (Echo_response a)) → ((a : CreateSessionResponse) → P (Create_session_response a)) → ((d : DeleteSessionResponse) → P (Delete_session_response d)) → ((q : CreateBearerRequest) → P (Create_bearer_request q)) → ((d : DeleteBearerRequest) → P (Delete_bearer_request d)) → ((m : Message) → IsDropped ServingTakes m → P m) → (m : Message) → P m
+  pub by_serving : ((q : Echo) → P (Echo_request q)) → ((a : Echo) → P (Echo_response a)) → ((a : CreateSessionResponse) → P (Create_session_response a))
+      → ((d : DeleteSessionResponse) → P (Delete_session_response d)) → ((q : CreateBearerRequest) → P (Create_bearer_request q))
+      → ((d : DeleteBearerRequest) → P (Delete_bearer_request d)) → ((m : Message) → IsDropped ServingTakes m → P m) → (m : Message) → P m
   by_serving echo alive opens ends grants removes rest (Echo_request q) = echo q
   by_serving echo alive opens ends grants removes rest (Echo_response a) = alive a
   by_serving echo alive opens ends grants removes rest (Create_session_response a) = opens a
@@ -41,7 +46,9 @@ module _ (P : Message → Type 0) where
   by_serving echo alive opens ends grants removes rest m = rest m (record { only = λ request old e r. r; so = λ request old e r. r })
 
   -- at the packet gateway
-  pub by_packet : ((q : Echo) → P (Echo_request q)) → ((a : Echo) → P (Echo_response a)) → ((q : CreateSessionRequest) → P (Create_session_request q)) → ((d : DeleteSessionRequest) → P (Delete_session_request d)) → ((x : CreateBearerResponse) → P (Create_bearer_response x)) → ((d : DeleteBearerResponse) → P (Delete_bearer_response d)) → ((m : Message) → IsDropped PacketTakes m → P m) → (m : Message) → P m
+  pub by_packet : ((q : Echo) → P (Echo_request q)) → ((a : Echo) → P (Echo_response a)) → ((q : CreateSessionRequest) → P (Create_session_request q))
+      → ((d : DeleteSessionRequest) → P (Delete_session_request d)) → ((x : CreateBearerResponse) → P (Create_bearer_response x))
+      → ((d : DeleteBearerResponse) → P (Delete_bearer_response d)) → ((m : Message) → IsDropped PacketTakes m → P m) → (m : Message) → P m
   by_packet echo alive opens ends grants removes rest (Echo_request q) = echo q
   by_packet echo alive opens ends grants removes rest (Echo_response a) = alive a
   by_packet echo alive opens ends grants removes rest (Create_session_request q) = opens q

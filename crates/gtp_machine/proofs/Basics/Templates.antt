@@ -17,7 +17,8 @@ pub record IsAdded (found : Option Template) (request : Arrival) (a : CreateSess
   pub adds : AddsBearer template request a cause session s made e
 
 module _ (request : Arrival) (a : CreateSessionResponse) (cause session : ℕ) (s : Session) (made : Node) (e : Effect) where
-  pub goes : (found : Option Template) → AnswersWith found request a cause session s made e → (e ≡ making request (Create_session_response a ∷ []) cause made) ⊎ IsAdded found request a cause session s made e
+  pub goes : (found : Option Template) → AnswersWith found request a cause session s made e
+      → (e ≡ making request (Create_session_response a ∷ []) cause made) ⊎ IsAdded found request a cause session s made e
   goes None r = inl r
   goes (Some t) (inl f) = inl f.1
   goes (Some t) (inr (can, r)) = inr (record { template = t; is = refl; draws = can.0; room = can.1; adds = r })

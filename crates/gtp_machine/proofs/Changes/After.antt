@@ -31,7 +31,8 @@ abbrev pub Contexts : Role → List Sent → FiniteMap Session → FiniteMap Bea
 Contexts Serving history sessions bearers = ServingContexts history sessions bearers
 Contexts Packet history sessions bearers = PacketContexts history sessions bearers
 
-pub Contexts-later : (role : Role) (before after : List Sent) → Extends before after → (sessions : FiniteMap Session) (bearers : FiniteMap Bearer) → Contexts role before sessions bearers → Contexts role after sessions bearers
+pub Contexts-later : (role : Role) (before after : List Sent) → Extends before after → (sessions : FiniteMap Session) (bearers : FiniteMap Bearer)
+    → Contexts role before sessions bearers → Contexts role after sessions bearers
 Contexts-later Serving before after extends sessions bearers c = ServingContexts-later before after extends sessions bearers c
 Contexts-later Packet before after extends sessions bearers c = PacketContexts-later before after extends sessions bearers c
 
@@ -99,7 +100,8 @@ pub IsPending-later : (before after : List Sent) → Extends before after → (r
 IsPending-later before after extends role number p is = record { sent = extends.keeps role p.request is.sent; names = is.names; asks = is.asks }
 
 -- a new TEID is that of no pending request
-module _ (history : List Sent) (role : Role) (node : Node) (unowned : NothingOwns history role node) (number : ℕ) (p : PendingRequest) (is : IsPending history role number p) (key : ℕ) (free : IsFree node key) where
+module _ (history : List Sent) (role : Role) (node : Node) (unowned : NothingOwns history role node) (number : ℕ) (p : PendingRequest)
+    (is : IsPending history role number p) (key : ℕ) (free : IsFree node key) where
   new_session : (q : CreateSessionRequest) → p.request ≡ Create_session_request q → q.control.teid ≢ key
   new_session q e same = unowned (Create_session_request q) key (subst (λ m. HasSent history role m) e is.sent) (inl (sym same)) free
 
@@ -107,19 +109,31 @@ module _ (history : List Sent) (role : Role) (node : Node) (unowned : NothingOwn
   new_bearer r e same = unowned (Create_bearer_request r) key (subst (λ m. HasSent history role m) e is.sent) (sym same) free
 
 -- pending requests still match once a session or a bearer comes under a new TEID
-pub matched_session : (history : List Sent) (role : Role) (node : Node) → NothingOwns history role node → Each (IsPending history role) node.pending → (key : ℕ) (s : Session) → IsFree node key → Each (IsMatched node.sessions node.bearers) node.pending → Each (IsMatched (insert node.sessions key s) node.bearers) node.pending
-matched_session history role node unowned pending key s free each number p e = IsMatched-session node.sessions node.bearers key s number p (new_session history role node unowned number p (pending number p e) key free) (each number p e)
+pub matched_session : (history : List Sent) (role : Role) (node : Node) → NothingOwns history role node → Each (IsPending history role) node.pending
+    → (key : ℕ) (s : Session) → IsFree node key → Each (IsMatched node.sessions node.bearers) node.pending
+    → Each (IsMatched (insert node.sessions key s) node.bearers) node.pending
+matched_session history role node unowned pending key s free each number p e =
+    IsMatched-session node.sessions node.bearers key s number p (new_session history role node unowned number p (pending number p e) key free)
+    (each number p e)
 
 -- a session that is put under a new TEID leaves each other where it stands
-still_stands : (history : List Sent) (role : Role) (node : Node) → Knows role history node → (key : ℕ) (new : Session) → (Among key node.drawn → ⊥) → (t : ℕ) (s : Session) → get node.sessions t ≡ Some s → get (insert node.sessions key new) t ≡ Some s
+still_stands : (history : List Sent) (role : Role) (node : Node) → Knows role history node → (key : ℕ) (new : Session) → (Among key node.drawn → ⊥)
+    → (t : ℕ) (s : Session) → get node.sessions t ≡ Some s → get (insert node.sessions key new) t ≡ Some s
 still_stands history role node knows key new undrawn t s stands = get-insert_other node.sessions key new t (λ same. undrawn (subst (λ k. Among k node.drawn) same (knows.drawn t s stands))) ∙ stands
 
 -- a session that comes under a new TEID leaves each bearer with its session
-pub with_new_session : (history : List Sent) (role : Role) (node : Node) → Knows role history node → (Origin : ℕ → Bearer → Session → Type 0) (key : ℕ) (new : Session) → (Among key node.drawn → ⊥) → Each (IsAt Origin node.sessions) node.bearers → Each (IsAt Origin (insert node.sessions key new)) node.bearers
-with_new_session history role node knows Origin key new undrawn each t b e = let at = each t b e in record { session = at.session; stands = still_stands history role node knows key new undrawn b.session at.session at.stands; origin = at.origin }
+pub with_new_session : (history : List Sent) (role : Role) (node : Node) → Knows role history node → (Origin : ℕ → Bearer → Session → Type 0) (key : ℕ) (new : Session)
+    → (Among key node.drawn → ⊥) → Each (IsAt Origin node.sessions) node.bearers → Each (IsAt Origin (insert node.sessions key new)) node.bearers
+with_new_session history role node knows Origin key new undrawn each t b e =
+    let at = each t b e in
+    record { session = at.session; stands = still_stands history role node knows key new undrawn b.session at.session at.stands; origin = at.origin }
 
-pub matched_bearer : (history : List Sent) (role : Role) (node : Node) → NothingOwns history role node → Each (IsPending history role) node.pending → (sessions : FiniteMap Session) (key : ℕ) (b : Bearer) → IsFree node key → Each (IsMatched sessions node.bearers) node.pending → Each (IsMatched sessions (insert node.bearers key b)) node.pending
-matched_bearer history role node unowned pending sessions key b free each number p e = IsMatched-bearer sessions node.bearers key b number p (λ r is same. absurd (new_bearer history role node unowned number p (pending number p e) key free r is same)) (each number p e)
+pub matched_bearer : (history : List Sent) (role : Role) (node : Node) → NothingOwns history role node → Each (IsPending history role) node.pending
+    → (sessions : FiniteMap Session) (key : ℕ) (b : Bearer) → IsFree node key → Each (IsMatched sessions node.bearers) node.pending
+    → Each (IsMatched sessions (insert node.bearers key b)) node.pending
+matched_bearer history role node unowned pending sessions key b free each number p e =
+    IsMatched-bearer sessions node.bearers key b number p
+    (λ r is same. absurd (new_bearer history role node unowned number p (pending number p e) key free r is same)) (each number p e)
 
 pub Knows-later : (role : Role) (before after : List Sent) → Extends before after → (node : Node) → Knows role before node → Knows role after node
 Knows-later role before after extends node knows = record {
@@ -171,7 +185,8 @@ module _ (role : Role) (history : List Sent) (taken : Arrival → Message → Ty
   }
 
   -- a step that only shrinks, and sends nothing
-  pub shrunk : (new : Node) → Shrunk old new → (gave_up : List ℕ) (outcome : EventOutcome) → After role history taken old (record { out = record nothing { gave_up = gave_up }; outcome = outcome; node = new })
+  pub shrunk : (new : Node) → Shrunk old new → (gave_up : List ℕ) (outcome : EventOutcome)
+      → After role history taken old (record { out = record nothing { gave_up = gave_up }; outcome = outcome; node = new })
   shrunk new s gave_up outcome = record {
     knows = knows_shrunk [] new s;
     known = s.known;
@@ -186,7 +201,8 @@ module _ (role : Role) (history : List Sent) (taken : Arrival → Message → Ty
   stays outcome = shrunk old (Shrunk-itself old) [] outcome
 
   -- a step that only shrinks, and sends a message that is made now
-  pub speaks : (destination : Endpoint) (m : Message) (outcome : EventOutcome) (new : Node) → Shrunk old new → IsPlain m → IsMadeNow history role old new m → After role history taken old (record { out = says destination m; outcome = outcome; node = new })
+  pub speaks : (destination : Endpoint) (m : Message) (outcome : EventOutcome) (new : Node) → Shrunk old new → IsPlain m → IsMadeNow history role old new m
+      → After role history taken old (record { out = says destination m; outcome = outcome; node = new })
   speaks destination m outcome new s plain made = record {
     knows = knows_shrunk (m ∷ []) new s;
     known = s.known;
@@ -197,8 +213,19 @@ module _ (role : Role) (history : List Sent) (taken : Arrival → Message → Ty
   }
 
   -- an answer that is held from now on
-  pub held_now : (request : Arrival) (answer : List Message) (new : Node) → IsFew answer → Knows role (history ++ signed role answer) new → Knows role (history ++ signed role answer) (holding request answer new)
-  held_now request answer new few k = record { contexts = k.contexts; drawn = k.drawn; standing = k.standing; ready = k.ready; closed = k.closed; pending = k.pending; matched = k.matched; held = held }
+  pub held_now : (request : Arrival) (answer : List Message) (new : Node) → IsFew answer → Knows role (history ++ signed role answer) new
+      → Knows role (history ++ signed role answer) (holding request answer new)
+  held_now request answer new few k =
+      record {
+        contexts = k.contexts;
+        drawn = k.drawn;
+        standing = k.standing;
+        ready = k.ready;
+        closed = k.closed;
+        pending = k.pending;
+        matched = k.matched;
+        held = held;
+      }
     where
       held : (h : Held) → Among h (new.held ++ (record { request = request; answer = answer } ∷ [])) → IsSentWhole (history ++ signed role answer) role h.answer
       held h among = ⊎_elim (λ there. k.held h there)
@@ -206,7 +233,8 @@ module _ (role : Role) (history : List Sent) (taken : Arrival → Message → Ty
           (Among-one_more h (record { request = request; answer = answer }) new.held among)
 
   -- a step that only shrinks, and gives an answer, which is held
-  pub answers : (request : Arrival) (m : Message) (cause : ℕ) (new : Node) → Shrunk old new → IsPlain m → IsMadeNow history role old (holding request (m ∷ []) new) m → After role history taken old (answered request m cause new)
+  pub answers : (request : Arrival) (m : Message) (cause : ℕ) (new : Node) → Shrunk old new → IsPlain m
+      → IsMadeNow history role old (holding request (m ∷ []) new) m → After role history taken old (answered request m cause new)
   answers request m cause new s plain made = record {
     knows = held_now request (m ∷ []) new tt (knows_shrunk (m ∷ []) new s);
     known = s.known;
@@ -217,7 +245,10 @@ module _ (role : Role) (history : List Sent) (taken : Arrival → Message → Ty
   }
 
   -- a pending request is added to what only shrinks
-  pub asks_plain : (number : ℕ) (p : PendingRequest) (teid : Option ℕ) (new : Node) → Shrunk old new → IsPlain p.request → IsMadeNow history role old (record new { pending = insert old.pending number p }) p.request → IsMatched new.sessions new.bearers number p → ((q : CreateSessionRequest) → p.request ≡ Create_session_request q → p.session ≡ Some q.control.teid) → is_create_answer p.request ≡ false → After role history taken old (asks old number p teid new)
+  pub asks_plain : (number : ℕ) (p : PendingRequest) (teid : Option ℕ) (new : Node) → Shrunk old new → IsPlain p.request
+      → IsMadeNow history role old (record new { pending = insert old.pending number p }) p.request → IsMatched new.sessions new.bearers number p
+      → ((q : CreateSessionRequest) → p.request ≡ Create_session_request q → p.session ≡ Some q.control.teid) → is_create_answer p.request ≡ false
+      → After role history taken old (asks old number p teid new)
   asks_plain number p teid new s plain made matched names asked =
       let m = p.request in
       let after = history ++ signed role (m ∷ []) in
@@ -230,18 +261,24 @@ module _ (role : Role) (history : List Sent) (taken : Arrival → Message → Ty
           ready = k.ready;
           closed = k.closed;
           pending = Each-insert (IsPending after role) old.pending number p (record { sent = by_now history role (m ∷ []) m (inl refl); names = names; asks = asked }) (later (m ∷ [])).pending;
-          matched = Each-insert (IsMatched new.sessions new.bearers) old.pending number p matched (Each-weaker (IsMatched old.sessions old.bearers) (IsMatched new.sessions new.bearers) old.pending (IsMatched-shrinks old new s.shrinks) knows.matched);
+          matched =
+              Each-insert (IsMatched new.sessions new.bearers) old.pending number p matched
+              (Each-weaker (IsMatched old.sessions old.bearers) (IsMatched new.sessions new.bearers) old.pending (IsMatched-shrinks old new s.shrinks)
+              knows.matched);
           held = k.held;
         };
         known = s.known;
         told = nothing_told history (other role);
         draws = Draws-one history role old (record new { pending = insert old.pending number p }) m s.config s.counter s.drawn (inr made);
-        logs = Logs-plain history role taken old (record new { pending = insert old.pending number p }) (Came_to (Begun teid)) (λ h was. subst (Among h) (sym s.held) was) (control_end old.config.peer.control) m plain;
+        logs =
+            Logs-plain history role taken old (record new { pending = insert old.pending number p }) (Came_to (Begun teid))
+            (λ h was. subst (Among h) (sym s.held) was) (control_end old.config.peer.control) m plain;
         few = (tt, tt);
       }
 
   -- nothing changes, and a message is sent that was sent before
-  pub repeated : (destination : Endpoint) (m : Message) (outcome : EventOutcome) → HasSent history role m → After role history taken old (record { out = says destination m; outcome = outcome; node = old })
+  pub repeated : (destination : Endpoint) (m : Message) (outcome : EventOutcome) → HasSent history role m
+      → After role history taken old (record { out = says destination m; outcome = outcome; node = old })
   repeated destination m outcome was = record {
     knows = later (m ∷ []);
     known = refl;
@@ -252,7 +289,8 @@ module _ (role : Role) (history : List Sent) (taken : Arrival → Message → Ty
   }
 
   -- nothing changes, and a datagram is sent again, of messages that were sent before
-  pub repeated_whole : (destination : Endpoint) (datagram : List Message) (outcome : EventOutcome) → Once history role → IsSentWhole history role datagram → After role history taken old (record { out = says_all destination datagram; outcome = outcome; node = old })
+  pub repeated_whole : (destination : Endpoint) (datagram : List Message) (outcome : EventOutcome) → Once history role → IsSentWhole history role datagram
+      → After role history taken old (record { out = says_all destination datagram; outcome = outcome; node = old })
   repeated_whole destination [] outcome once was = absurd was.few
   repeated_whole destination (m ∷ []) outcome once was = repeated destination m outcome (was.each m (inl refl))
   repeated_whole destination (m ∷ n ∷ []) outcome once was = record {

@@ -17,7 +17,8 @@ packet_of target payload b s = entry_for target payload s.subscriber b.identity
 
 module _ (history : List Sent) (serving_once : Once history Serving) (packet_once : Once history Packet) (sessions : FiniteMap Session) (bearers : FiniteMap Bearer) where
   -- a default bearer of the serving gateway and its session go back to one request
-  asked_alike : ServingContexts history sessions bearers → (t : ℕ) (b : Bearer) (s : Session) → get sessions b.session ≡ Some s → (n : Session) (o : IsAskedWith history t b n) → s.subscriber ≡ subscriber_of o.request
+  asked_alike : ServingContexts history sessions bearers → (t : ℕ) (b : Bearer) (s : Session) → get sessions b.session ≡ Some s
+      → (n : Session) (o : IsAskedWith history t b n) → s.subscriber ≡ subscriber_of o.request
   asked_alike c t b s stands n o =
       let asked = c.sessions_asked b.session s stands in
       let same = same_request history serving_once asked.request o.request asked.sent o.sent (asked.control ∙ sym o.control) in
@@ -36,7 +37,18 @@ module _ (history : List Sent) (serving_once : Once history Serving) (packet_onc
       → ForDedicated history (packet_of target payload b s)
   granted_for c t b s n target payload stands g =
       let asked = c.sessions_asked b.session s stands in
-      record { answer = g.answer; answered = g.answered; wanted = g.request; sent = g.asked; echoed = g.echoed; identity = g.identity; request = asked.request; asked = asked.sent; header = g.to_session ∙ sym asked.control; subscriber = ap names_in asked.subscriber }
+      record {
+        answer = g.answer;
+        answered = g.answered;
+        wanted = g.request;
+        sent = g.asked;
+        echoed = g.echoed;
+        identity = g.identity;
+        request = asked.request;
+        asked = asked.sent;
+        header = g.to_session ∙ sym asked.control;
+        subscriber = ap names_in asked.subscriber;
+      }
 
   abbrev wanted_for : PacketContexts history sessions bearers → (t : ℕ) (b : Bearer) (s : Session) (r target : ℕ) (payload : List ℕ) → get sessions b.session ≡ Some s → b.remote ≡ Some r
       → IsWanted history t b → ForDedicated history (packet_of target payload b s)
@@ -57,30 +69,57 @@ module _ (history : List Sent) (serving_once : Once history Serving) (packet_onc
         subscriber = ap names_in made.subscriber;
       }
 
-  pub leaves_for : (role : Role) → Contexts role history sessions bearers → (t : ℕ) (payload : List ℕ) (b : Bearer) (s : Session) (r : ℕ) → get bearers t ≡ Some b → b.remote ≡ Some r → get sessions b.session ≡ Some s → IsFor history (other role) (packet_of r payload b s)
+  pub leaves_for : (role : Role) → Contexts role history sessions bearers → (t : ℕ) (payload : List ℕ) (b : Bearer) (s : Session) (r : ℕ) → get bearers t ≡ Some b
+      → b.remote ≡ Some r → get sessions b.session ≡ Some s → IsFor history (other role) (packet_of r payload b s)
   leaves_for Serving c t payload b s r stands named session_stands =
       let at = c.bearers_asked t b stands in
       ⊎_elim
       (λ o.
       let with_answer = o.opened r named in
-      inl (record { of = record { request = o.request; asked = o.sent; subscriber = ap names_in (asked_alike c t b s session_stands at.session o); identity = o.identity }; answer = with_answer.answer; answered = with_answer.sent; target = sym with_answer.user ∙ named; header = with_answer.header ∙ sym o.control }))
+      inl (record {
+        of = record {
+          request = o.request;
+          asked = o.sent;
+          subscriber = ap names_in (asked_alike c t b s session_stands at.session o);
+          identity = o.identity;
+        };
+        answer = with_answer.answer;
+        answered = with_answer.sent;
+        target = sym with_answer.user ∙ named;
+        header =
+            with_answer.header ∙ sym o.control;
+      }))
       (λ g. inr (record { of = granted_for c t b s at.session r payload session_stands g; target = one_value b.remote r g.request.context.user.teid named g.remote; given = t; gives = g.user }))
       at.origin
   leaves_for Packet c t payload b s r stands named session_stands =
       ⊎_elim
-      (λ o. inl (record { of = record { request = o.request; asked = o.asked; subscriber = ap names_in (made_alike c t b s session_stands o); identity = o.identity }; target = one_value b.remote r o.request.context.user.teid named o.remote }))
+      (λ o. inl (record {
+        of = record { request = o.request; asked = o.asked; subscriber = ap names_in (made_alike c t b s session_stands o); identity = o.identity };
+        target = one_value b.remote r o.request.context.user.teid named o.remote;
+      }))
       (λ w. inr (record { of = wanted_for c t b s r r payload session_stands named w; target = sym (w.opened r named).remote ∙ named }))
       (c.bearers_made t b stands).origin
 
-  pub comes_for : (role : Role) → Contexts role history sessions bearers → (t : ℕ) (payload : List ℕ) (b : Bearer) (s : Session) (r : ℕ) → get bearers t ≡ Some b → b.remote ≡ Some r → get sessions b.session ≡ Some s → IsFor history role (packet_of t payload b s)
+  pub comes_for : (role : Role) → Contexts role history sessions bearers → (t : ℕ) (payload : List ℕ) (b : Bearer) (s : Session) (r : ℕ) → get bearers t ≡ Some b
+      → b.remote ≡ Some r → get sessions b.session ≡ Some s → IsFor history role (packet_of t payload b s)
   comes_for Serving c t payload b s r stands named session_stands =
       let at = c.bearers_asked t b stands in
       ⊎_elim
-      (λ o. inl (record { of = record { request = o.request; asked = o.sent; subscriber = ap names_in (asked_alike c t b s session_stands at.session o); identity = o.identity }; target = sym o.user }))
+      (λ o. inl (record {
+        of = record
+            { request = o.request; asked = o.sent; subscriber = ap names_in (asked_alike c t b s session_stands at.session o); identity = o.identity };
+        target = sym o.user;
+      }))
       (λ g. inr (record { of = granted_for c t b s at.session t payload session_stands g; target = g.user }))
       at.origin
   comes_for Packet c t payload b s r stands named session_stands =
       ⊎_elim
-      (λ o. inl (record { of = record { request = o.request; asked = o.asked; subscriber = ap names_in (made_alike c t b s session_stands o); identity = o.identity }; answer = o.answer; answered = o.answered; target = o.user; header = o.header }))
+      (λ o. inl (record {
+        of = record { request = o.request; asked = o.asked; subscriber = ap names_in (made_alike c t b s session_stands o); identity = o.identity };
+        answer = o.answer;
+        answered = o.answered;
+        target = o.user;
+        header = o.header;
+      }))
       (λ w. inr (record { of = wanted_for c t b s r t payload session_stands named w; target = sym w.user; given = r; gives = sym (w.opened r named).remote ∙ named }))
       (c.bearers_made t b stands).origin

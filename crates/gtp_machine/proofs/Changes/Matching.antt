@@ -23,7 +23,9 @@ IsMatched-shrinks old new shrinks number p m = record {
 }
 
 -- a session that comes or changes under another TEID
-pub IsMatched-session : (sessions : FiniteMap Session) (bearers : FiniteMap Bearer) (key : ℕ) (s : Session) (number : ℕ) (p : PendingRequest) → ((q : CreateSessionRequest) → p.request ≡ Create_session_request q → q.control.teid ≢ key) → IsMatched sessions bearers number p → IsMatched (insert sessions key s) bearers number p
+pub IsMatched-session : (sessions : FiniteMap Session) (bearers : FiniteMap Bearer) (key : ℕ) (s : Session) (number : ℕ) (p : PendingRequest)
+    → ((q : CreateSessionRequest) → p.request ≡ Create_session_request q → q.control.teid ≢ key) → IsMatched sessions bearers number p
+    → IsMatched (insert sessions key s) bearers number p
 IsMatched-session sessions bearers key s number p apart m = record {
   waits = λ q is x stands. ⊎_elim (λ same. absurd (apart q is same.0)) (λ old. m.waits q is x old.1) (found-insert sessions key s q.control.teid x stands);
   numbered = m.numbered;
@@ -32,10 +34,14 @@ IsMatched-session sessions bearers key s number p apart m = record {
 }
 
 -- a bearer that comes under another TEID, or changes and stays with its session
-pub IsMatched-bearer : (sessions : FiniteMap Session) (bearers : FiniteMap Bearer) (key : ℕ) (b : Bearer) (number : ℕ) (p : PendingRequest) → ((r : CreateBearerRequest) → p.request ≡ Create_bearer_request r → r.context.user.teid ≡ key → p.session ≡ Some b.session) → IsMatched sessions bearers number p → IsMatched sessions (insert bearers key b) number p
+pub IsMatched-bearer : (sessions : FiniteMap Session) (bearers : FiniteMap Bearer) (key : ℕ) (b : Bearer) (number : ℕ) (p : PendingRequest)
+    → ((r : CreateBearerRequest) → p.request ≡ Create_bearer_request r → r.context.user.teid ≡ key → p.session ≡ Some b.session)
+    → IsMatched sessions bearers number p → IsMatched sessions (insert bearers key b) number p
 IsMatched-bearer sessions bearers key b number p stays m = record {
   waits = m.waits;
   numbered = m.numbered;
   names_bearer = m.names_bearer;
-  of_session = λ r is x stands. ⊎_elim (λ same. stays r is same.0 ∙ ap (λ (k : Bearer). Some k.session) same.1) (λ old. m.of_session r is x old.1) (found-insert bearers key b r.context.user.teid x stands);
+  of_session =
+      λ r is x stands. ⊎_elim (λ same. stays r is same.0 ∙ ap (λ (k : Bearer). Some k.session) same.1) (λ old. m.of_session r is x old.1)
+      (found-insert bearers key b r.context.user.teid x stands);
 }

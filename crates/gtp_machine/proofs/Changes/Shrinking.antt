@@ -57,7 +57,9 @@ Shrinks-without session_goes bearer_goes node = record {
         before = b;
         stood = found.1;
         same = IsSameBearer-itself b;
-        session = λ s stood. stays_itself (kept stays_session node.sessions) b.session s (get-kept stays_session node.sessions b.session s stood (ap not (not_or_right (bearer_goes t) (session_goes b.session) found.0)));
+        session =
+            λ s stood. stays_itself (kept stays_session node.sessions) b.session s
+            (get-kept stays_session node.sessions b.session s stood (ap not (not_or_right (bearer_goes t) (session_goes b.session) found.0)));
       };
   closed = λ t b s b_at s_at closing. inr (s, (found-kept stays_session node.sessions b.session s s_at).1, closing);
 }
@@ -80,13 +82,37 @@ Shrunk-without session_goes bearer_goes node = record {
 pub Shrunk-finished : (node : Node) (number : ℕ) (session bearer : Option ℕ) → Shrunk node (finished_about node number session bearer)
 Shrunk-finished node number session (Some bearer) = Shrunk-without (λ t. false) (λ t. eqb t bearer) node
 Shrunk-finished node number (Some session) None = Shrunk-without (λ t. eqb t session) (λ t. false) node
-Shrunk-finished node number None None = record { shrinks = Shrinks-itself node; config = refl; counter = refl; drawn = refl; known = refl; held = refl; pending = λ k p e. (found-remove node.pending number k p e).1 }
+Shrunk-finished node number None None =
+    record {
+      shrinks = Shrinks-itself node;
+      config = refl;
+      counter = refl;
+      drawn = refl;
+      known = refl;
+      held = refl;
+      pending = λ k p e. (found-remove node.pending number k p e).1;
+    }
 
 same_then : (a b c : Session) → IsSame a b → IsSame b c → IsSame a c
-same_then a b c x y = record { remote = y.remote ∙ x.remote; subscriber = y.subscriber ∙ x.subscriber; address = y.address ∙ x.address; waits = λ h. x.waits (y.waits h); waited = λ h. y.waited (x.waited h) }
+same_then a b c x y =
+    record {
+      remote = y.remote ∙ x.remote;
+      subscriber = y.subscriber ∙ x.subscriber;
+      address = y.address ∙ x.address;
+      waits = λ h. x.waits (y.waits h);
+      waited = λ h. y.waited (x.waited h);
+    }
 
 same_bearer_then : (a b c : Bearer) → IsSameBearer a b → IsSameBearer b c → IsSameBearer a c
-same_bearer_then a b c x y = record { remote = y.remote ∙ x.remote; session = y.session ∙ x.session; identity = y.identity ∙ x.identity; kind = y.kind ∙ x.kind; active = λ h. x.active (y.active h); closing = λ h. y.closing (x.closing h) }
+same_bearer_then a b c x y =
+    record {
+      remote = y.remote ∙ x.remote;
+      session = y.session ∙ x.session;
+      identity = y.identity ∙ x.identity;
+      kind = y.kind ∙ x.kind;
+      active = λ h. x.active (y.active h);
+      closing = λ h. y.closing (x.closing h);
+    }
 
 -- one change after the other
 Shrinks-then : (a b c : Node) → NodeShrinks a b → NodeShrinks b c → NodeShrinks a c
@@ -110,7 +136,8 @@ Shrinks-then a b c first second = record {
   closed = λ t e s e_at s_at closing. ⊎_elim (λ is. inl is) (λ mid. before t e e_at mid.0 mid.1 mid.2) (second.closed t e s e_at s_at closing);
 }
   where
-    before : (t : ℕ) (e : Bearer) → get c.bearers t ≡ Some e → (o : Session) → get b.sessions e.session ≡ Some o → o.state ≡ Closing → (e.state ≡ Closing) ⊎ ((o : Session) × (get a.sessions e.session ≡ Some o) × (o.state ≡ Closing))
+    before : (t : ℕ) (e : Bearer) → get c.bearers t ≡ Some e → (o : Session) → get b.sessions e.session ≡ Some o → o.state ≡ Closing
+        → (e.state ≡ Closing) ⊎ ((o : Session) × (get a.sessions e.session ≡ Some o) × (o.state ≡ Closing))
     before t e e_at o o_at closing =
         let y = second.bearers t e e_at in
         let key : y.before.session ≡ e.session = sym y.same.session in
@@ -152,7 +179,12 @@ pub Shrunk-bearer : (node : Node) (key : ℕ) (b n : Bearer) → get node.bearer
 Shrunk-bearer node key b n stands same = contexts_shrunk node node.sessions (insert node.bearers key n) (record {
   sessions = λ t s e. was_itself node.sessions t s e;
   bearers = λ t x e. ⊎_elim
-      (λ at. record { before = b; stood = ap (λ k. get node.bearers k) at.0 ∙ stands; same = subst (λ y. IsSameBearer b y) at.1 same; session = λ s stood. stays_itself node.sessions b.session s stood })
+      (λ at. record {
+        before = b;
+        stood = ap (λ k. get node.bearers k) at.0 ∙ stands;
+        same = subst (λ y. IsSameBearer b y) at.1 same;
+        session = λ s stood. stays_itself node.sessions b.session s stood;
+      })
       (λ old. record { before = x; stood = old.1; same = IsSameBearer-itself x; session = λ s stood. stays_itself node.sessions x.session s stood })
       (found-insert node.bearers key n t x e);
   closed = λ t x s x_at s_at closing. inr (s, s_at, closing);
@@ -175,11 +207,17 @@ same_if false b = IsSameBearer-itself b
 closes_if : (b : Bearer) (session : ℕ) → b.session ≡ session → (closing_bearer session b).state ≡ Closing
 closes_if b session same = ap (λ t. (cond t (record b { state = Closing }) b).state) (eq-eqb b.session session same)
 
-closed : (node : Node) (session : ℕ) (s : Session) → get node.sessions session ≡ Some s → s.state ≡ Active → (t : ℕ) (x : Session) → get node.sessions t ≡ Some x → (t ≡ session) ⊎ (t ≢ session) → StaysSession (insert node.sessions session (closing_session s)) t x
+closed : (node : Node) (session : ℕ) (s : Session) → get node.sessions session ≡ Some s → s.state ≡ Active → (t : ℕ) (x : Session)
+    → get node.sessions t ≡ Some x → (t ≡ session) ⊎ (t ≢ session) → StaysSession (insert node.sessions session (closing_session s)) t x
 closed node session s stands active t x e (inl same) =
     let is : x ≡ s = cc (ap (λ k. get node.sessions k) same) in
-    record { after = closing_session s; stands = ap (λ k. get (insert node.sessions session (closing_session s)) k) same ∙ get-insert_same node.sessions session (closing_session s); same = subst (λ y. IsSame y (closing_session s)) (sym is) (closing_waited s active) }
-closed node session s stands active t x e (inr different) = stays_itself (insert node.sessions session (closing_session s)) t x (get-insert_other node.sessions session (closing_session s) t different ∙ e)
+    record {
+      after = closing_session s;
+      stands = ap (λ k. get (insert node.sessions session (closing_session s)) k) same ∙ get-insert_same node.sessions session (closing_session s);
+      same = subst (λ y. IsSame y (closing_session s)) (sym is) (closing_waited s active);
+    }
+closed node session s stands active t x e (inr different) =
+    stays_itself (insert node.sessions session (closing_session s)) t x (get-insert_other node.sessions session (closing_session s) t different ∙ e)
 
 -- an active session and its bearers are closing
 pub Shrunk-closing : (node : Node) (session : ℕ) (s : Session) → get node.sessions session ≡ Some s → s.state ≡ Active → Shrunk node (session_closing node session s)
@@ -209,4 +247,6 @@ Shrunk-closing node session s stands active = contexts_shrunk node (insert node.
 pub removes_each : (session : ℕ) (identities : List ℕ) (from : Node) (contexts : List RemovedBearer) (new : Node) → RemovesEach session identities from contexts new → Shrunk from new
 removes_each session [] from contexts new r = subst (λ n. Shrunk from n) (sym r.1) (Shrunk-itself from)
 removes_each session (identity ∷ rest) from contexts new (others, inl f) = removes_each session rest from others new f.1.1
-removes_each session (identity ∷ rest) from contexts new (others, inr (named, h)) = Shrunk-then from (without_bearer from named.key) new (Shrunk-without (λ t. false) (λ t. eqb t named.key) from) (removes_each session rest (without_bearer from named.key) others new h.1)
+removes_each session (identity ∷ rest) from contexts new (others, inr (named, h)) =
+    Shrunk-then from (without_bearer from named.key) new (Shrunk-without (λ t. false) (λ t. eqb t named.key) from)
+    (removes_each session rest (without_bearer from named.key) others new h.1)

@@ -49,7 +49,8 @@ pub record Logs (history : List Sent) (role : Role) (taken : Arrival → Message
   pub packets : (target : ℕ) (payload : List ℕ) → Among (Packet_data target payload) (messages e.out.sent) → HasSent history role (Packet_data target payload) ⊎ IsHandedNow e.out target payload
   pub handed : (entry : Entry) → Among entry e.out.handed → IsFor history (other role) entry
   pub accepted : (entry : Entry) → Among entry e.out.accepted → HasSent history (other role) (Packet_data entry.target entry.payload) × IsFor history role entry
-  pub answers : (x : CreateBearerResponse) (t : ℕ) → Among (Create_bearer_response x) (messages e.out.sent) → first_given x.contexts ≡ Some t → HasSent history role (Create_bearer_response x) ⊎ IsAnsweredNow history old e.node taken x
+  pub answers : (x : CreateBearerResponse) (t : ℕ) → Among (Create_bearer_response x) (messages e.out.sent) → first_given x.contexts ≡ Some t
+      → HasSent history role (Create_bearer_response x) ⊎ IsAnsweredNow history old e.node taken x
   pub made : (e.out.made ≡ []) ⊎ MakesFor role taken e.out.made e.node
 
 -- the message is no packet and gives no bearer
@@ -84,7 +85,9 @@ module _ (history : List Sent) (role : Role) (taken : Arrival → Message → Ty
       (λ x t among gives. absurd (none_some t (sym (subst IsPlain (sym (Among-only _ m among)) plain) ∙ gives)))
 
   -- messages that were sent before are sent again
-  pub Logs-again : (destination : Endpoint) (datagram : List Message) → ((m : Message) → Among m (messages (says_all destination datagram).sent) → HasSent history role m) → Logs history role taken old (record { out = says_all destination datagram; outcome = outcome; node = new })
+  pub Logs-again : (destination : Endpoint) (datagram : List Message)
+      → ((m : Message) → Among m (messages (says_all destination datagram).sent) → HasSent history role m)
+      → Logs history role taken old (record { out = says_all destination datagram; outcome = outcome; node = new })
   Logs-again destination datagram was =
       Logs-said (says_all destination datagram).sent []
       (λ target payload among. was (Packet_data target payload) among)
@@ -94,9 +97,12 @@ module _ (history : List Sent) (role : Role) (taken : Arrival → Message → Ty
   Logs-repeat destination m was = Logs-again destination (m ∷ []) (λ n among. subst (λ k. HasSent history role k) (sym (Among-only n m among)) was)
 
 -- a context is made, and the answer that is held from now on says no packet
-pub Logs-made : (history : List Sent) (role : Role) (taken : Arrival → Message → Type 0) (old : Node) (request : Arrival) (answer : List Message) (cause : ℕ) (new : Node) (m : Message) → creates role m ≡ true → taken request m → new.held ≡ old.held
+pub Logs-made : (history : List Sent) (role : Role) (taken : Arrival → Message → Type 0) (old : Node) (request : Arrival) (answer : List Message) (cause : ℕ)
+    (new : Node) (m : Message) → creates role m ≡ true → taken request m → new.held ≡ old.held
     → ((target : ℕ) (payload : List ℕ) → Among (Packet_data target payload) (messages (making request answer cause new).out.sent) → ⊥)
-    → ((x : CreateBearerResponse) (t : ℕ) → Among (Create_bearer_response x) (messages (making request answer cause new).out.sent) → first_given x.contexts ≡ Some t → HasSent history role (Create_bearer_response x) ⊎ IsAnsweredNow history old (holding request answer new) taken x)
+    → ((x : CreateBearerResponse) (t : ℕ) → Among (Create_bearer_response x) (messages (making request answer cause new).out.sent)
+    → first_given x.contexts ≡ Some t
+    → HasSent history role (Create_bearer_response x) ⊎ IsAnsweredNow history old (holding request answer new) taken x)
     → Logs history role taken old (making request answer cause new)
 Logs-made history role taken old request answer cause new m creates came same packets answers = record {
   held_stays = λ h stood. inl (Among-left h new.held _ (subst (Among h) (sym same) stood));
@@ -104,7 +110,16 @@ Logs-made history role taken old request answer cause new m creates came same pa
   handed = λ e none. absurd none;
   accepted = λ e none. absurd none;
   answers = answers;
-  made = inr (record { arrival = request; is = refl; message = m; creates = creates; came = came; answer = answer; held = Among-last {X = Held} (record { request = request; answer = answer }) new.held });
+  made =
+      inr (record {
+        arrival = request;
+        is = refl;
+        message = m;
+        creates = creates;
+        came = came;
+        answer = answer;
+        held = Among-last {X = Held} (record { request = request; answer = answer }) new.held;
+      });
 }
 
 -- a result of a row, from what the row says of it
@@ -139,7 +154,9 @@ Draws-from history role old mid new sent from d = record {
       proper = is.proper;
     }
 
-pub Logs-from : (history : List Sent) (role : Role) (taken : Arrival → Message → Type 0) (old mid : Node) (e : Effect) (heard learned : Option ℕ) → IsHeardFrom old mid → Logs history role taken mid e → Logs history role taken old (record e { out = record e.out { heard = heard; learned = learned } })
+pub Logs-from : (history : List Sent) (role : Role) (taken : Arrival → Message → Type 0) (old mid : Node) (e : Effect) (heard learned : Option ℕ)
+    → IsHeardFrom old mid → Logs history role taken mid e
+    → Logs history role taken old (record e { out = record e.out { heard = heard; learned = learned } })
 Logs-from history role taken old mid e heard learned from l = record {
   held_stays = λ h was. l.held_stays h (subst (Among h) (sym from.held) was);
   packets = λ t p among. ⊎_elim (λ was. inl was) (λ is. inr (record { entry = is.entry; handed = is.handed; names = is.names; carries = is.carries })) (l.packets t p among);
@@ -150,7 +167,18 @@ Logs-from history role taken old mid e heard learned from l = record {
 }
   where
     answered : (x : CreateBearerResponse) → IsAnsweredNow history mid e.node taken x → IsAnsweredNow history old e.node taken x
-    answered x is = let stood = from.sessions is.request.header is.session is.stands in record { request = is.request; sent = is.sent; echoed = is.echoed; arrival = is.arrival; came = is.came; session = stood.0; stands = stood.1; held = is.held }
+    answered x is =
+        let stood = from.sessions is.request.header is.session is.stands in
+        record {
+          request = is.request;
+          sent = is.sent;
+          echoed = is.echoed;
+          arrival = is.arrival;
+          came = is.came;
+          session = stood.0;
+          stands = stood.1;
+          held = is.held;
+        }
 
 pub Heard-itself : (old : Node) → IsHeardFrom old old
 Heard-itself old = record { config = refl; counter = refl; drawn = refl; held = refl; sessions = λ t s e. (s, e) }
@@ -160,4 +188,6 @@ abbrev pub NothingOwns : List Sent → Role → Node → Type 0
 NothingOwns history role node = (m : Message) (t : ℕ) → HasSent history role m → Owns m t → IsFree node t → ⊥
 
 pub NothingOwns-from : (history : List Sent) (role : Role) (old mid : Node) → IsHeardFrom old mid → NothingOwns history role old → NothingOwns history role mid
-NothingOwns-from history role old mid from unowned m t has owns free = unowned m t has owns (record { counted = free.counted ∙ from.counter; numbered = free.numbered; undrawn = λ was. free.undrawn (subst (Among t) (sym from.drawn) was) })
+NothingOwns-from history role old mid from unowned m t has owns free =
+    unowned m t has owns
+    (record { counted = free.counted ∙ from.counter; numbered = free.numbered; undrawn = λ was. free.undrawn (subst (Among t) (sym from.drawn) was) })

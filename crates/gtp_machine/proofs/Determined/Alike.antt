@@ -43,10 +43,17 @@ pub record WaitsBeside (drawn : List ℕ) (new others : FiniteMap PendingRequest
 -- gave, the identity of a serving gateway's bearer, and the number of a packet gateway's request for a bearer; and for a command the number of a new request.
 pub record PickAlike (role : Role) (old : Node) (input : Input) (e f : Effect) : Type 0 where
   pub drawn : e.node.drawn ≡ f.node.drawn
-  pub addresses : (request : Arrival) (reading : ControlReading) → input ≡ Control_came request reading → role ≡ Packet → e.out.made ≢ [] → (others : FiniteMap Session) (t : ℕ) (a b : Session) → ComesBeside old.sessions e.node.sessions others t a → ComesBeside old.sessions f.node.sessions others t b → (version : IpVersion) (x y : List ℕ) → part_of version a.address ≡ Some x → part_of version b.address ≡ Some y → x ≡ y
-  pub identities : (request : Arrival) (reading : ControlReading) → input ≡ Control_came request reading → role ≡ Serving → e.out.made ≢ [] → (others : FiniteMap Bearer) (t : ℕ) (a b : Bearer) → ComesBeside old.bearers e.node.bearers others t a → ComesBeside old.bearers f.node.bearers others t b → a.session ≡ b.session → a.identity ≡ b.identity
+  pub addresses : (request : Arrival) (reading : ControlReading) → input ≡ Control_came request reading → role ≡ Packet → e.out.made ≢ []
+      → (others : FiniteMap Session) (t : ℕ) (a b : Session) → ComesBeside old.sessions e.node.sessions others t a
+      → ComesBeside old.sessions f.node.sessions others t b → (version : IpVersion) (x y : List ℕ) → part_of version a.address ≡ Some x
+      → part_of version b.address ≡ Some y → x ≡ y
+  pub identities : (request : Arrival) (reading : ControlReading) → input ≡ Control_came request reading → role ≡ Serving → e.out.made ≢ []
+      → (others : FiniteMap Bearer) (t : ℕ) (a b : Bearer) → ComesBeside old.bearers e.node.bearers others t a
+      → ComesBeside old.bearers f.node.bearers others t b → a.session ≡ b.session → a.identity ≡ b.identity
   pub numbers : (command : Command) → input ≡ Commanded command → (number : ℕ) → get old.pending number ≡ None → HasPending e.node number → HasPending f.node number
-  pub wanted : (request : Arrival) (reading : ControlReading) → input ≡ Control_came request reading → role ≡ Packet → e.out.made ≢ [] → (others : FiniteMap PendingRequest) (m n : ℕ) (p q : PendingRequest) → WaitsBeside old.drawn e.node.pending others m p → WaitsBeside old.drawn f.node.pending others n q → m ≡ n
+  pub wanted : (request : Arrival) (reading : ControlReading) → input ≡ Control_came request reading → role ≡ Packet → e.out.made ≢ []
+      → (others : FiniteMap PendingRequest) (m n : ℕ) (p q : PendingRequest) → WaitsBeside old.drawn e.node.pending others m p
+      → WaitsBeside old.drawn f.node.pending others n q → m ≡ n
 
 -- they tell the same, and where the same was chosen they are the same
 pub record Alike (role : Role) (old : Node) (input : Input) (e f : Effect) : Type 0 where
@@ -71,7 +78,8 @@ module _ {So : Effect → Effect → Type 0} {P : Type 0} {Fails : Effect → Ty
   unless_plain fails next = unless fails (λ p q. next)
 
   -- what comes next is the same for any two reasons
-  pub unless_moved : {Next : P → Effect → Type 0} → ((p q : P) (f : Effect) → Next q f → Next p f) → Determines So Fails → ((p : P) → Determines So (Next p)) → Determines So (λ e. Unless P (Fails e) (λ p. Next p e))
+  pub unless_moved : {Next : P → Effect → Type 0} → ((p q : P) (f : Effect) → Next q f → Next p f) → Determines So Fails → ((p : P) → Determines So (Next p))
+      → Determines So (λ e. Unless P (Fails e) (λ p. Next p e))
   unless_moved moves fails next = unless fails (λ p q e f r s. next p e f r (moves p q f s))
 
   -- there is one reason

@@ -20,7 +20,8 @@ use Rattle.std.proofs.lemmas.Option.{same_Some}
 use Rattle.gtp_machine.proofs.Determined.Chosen.{last_drawn, rest_drawn, second_drawn, comes_beside, one_cause, one_address}
 
 -- the contexts of an answer, and the gateway that is left, for a list of identities
-removes_one : (session : ℕ) (identities : List ℕ) (old : Node) (contexts others : List RemovedBearer) (left right : Node) → AreApart old.bearers → RemovesEach session identities old contexts left → RemovesEach session identities old others right → (contexts ≡ others) × (left ≡ right)
+removes_one : (session : ℕ) (identities : List ℕ) (old : Node) (contexts others : List RemovedBearer) (left right : Node) → AreApart old.bearers
+    → RemovesEach session identities old contexts left → RemovesEach session identities old others right → (contexts ≡ others) × (left ≡ right)
 removes_one session [] old contexts others left right apart r s = (r.0 ∙ sym s.0, r.1 ∙ sym s.1)
 removes_one session (identity ∷ rest) old contexts others left right apart (cs, inl r) (ds, inl s) =
     let found = removes_one session rest old cs ds left right apart r.1.1 s.1.1 in
@@ -29,7 +30,10 @@ removes_one session (identity ∷ rest) old contexts others left right apart (cs
 removes_one session (identity ∷ rest) old contexts others left right apart (cs, inr r) (ds, inl s) = absurd (s.0 r.0)
 removes_one session (identity ∷ rest) old contexts others left right apart (cs, inr r) (ds, inr s) =
     let key : s.0.key ≡ r.0.key = one_named old session identity apart s.0 r.0 in
-    let found = removes_one session rest (without_bearer old r.0.key) cs ds left right (apart_left old (without_bearer old r.0.key) (Shrinks-without (λ t. false) (λ t. t == r.0.key) old) apart) r.1.1 (subst (λ k. RemovesEach session rest (without_bearer old k) ds right) key s.1.1) in
+    let found =
+    removes_one session rest (without_bearer old r.0.key) cs ds left right
+    (apart_left old (without_bearer old r.0.key) (Shrinks-without (λ t. false) (λ t. t == r.0.key) old) apart) r.1.1
+    (subst (λ k. RemovesEach session rest (without_bearer old k) ds right) key s.1.1) in
     (r.1.0 ∙ (ap (λ k. record { identity = identity; cause = cause_of 16 } ∷ k) found.0 ∙ sym s.1.0), found.1)
 
 module _ {first : Node} {reading : ControlReading} (request : Arrival) (old : Node) (fits : Fits first) (left : IsLeft first old) where
@@ -40,7 +44,10 @@ module _ {first : Node} {reading : ControlReading} (request : Arrival) (old : No
       outcome = ap (λ cause. Came_to (Answered cause)) (one_cause old q.pdn r.address s.address r.given s.given)
 
       -- the answers go alone
-      alone : e ≡ making request (Create_session_response (session_response old q r.control r.user r.address) ∷ []) (session_cause q.pdn r.address) (session_made old q r.control r.user r.address) → f ≡ making request (Create_session_response (session_response old q s.control s.user s.address) ∷ []) (session_cause q.pdn s.address) (session_made old q s.control s.user s.address) → Alike Packet first (Control_came request reading) e f
+      alone : e ≡ making request (Create_session_response (session_response old q r.control r.user r.address) ∷ []) (session_cause q.pdn r.address)
+          (session_made old q r.control r.user r.address)
+          → f ≡ making request (Create_session_response (session_response old q s.control s.user s.address) ∷ []) (session_cause q.pdn s.address)
+          (session_made old q s.control s.user s.address) → Alike Packet first (Control_came request reading) e f
       alone is also = by_effects _ _ e f is also (record {
         tell = record { outcome = outcome; told = refl; places = refl; known = refl; counter = refl; draws = refl };
         one = λ alike.
@@ -54,9 +61,17 @@ module _ {first : Node} {reading : ControlReading} (request : Arrival) (old : No
       })
 
       -- a request for a bearer that goes with one waits beside those that waited
-      waits : (control user : ℕ) (address : PdnAddress) (t : Template) (added number : ℕ) → IsFree (session_made old q control user address) added → IsFreeNumber (session_made old q control user address) number
-          → WaitsBeside first.drawn (begun_bearer (session_made old q control user address) control (bearer_request (session_made old q control user address) (made_session q address) t.tft t.qos added number) added).pending old.pending number
-          (record { session = Some control; bearer = Some added; request = Create_bearer_request (bearer_request (session_made old q control user address) (made_session q address) t.tft t.qos added number) })
+      waits : (control user : ℕ) (address : PdnAddress) (t : Template) (added number : ℕ) → IsFree (session_made old q control user address) added
+          → IsFreeNumber (session_made old q control user address) number
+          → WaitsBeside first.drawn (begun_bearer (session_made old q control user address) control
+          (bearer_request (session_made old q control user address) (made_session q address) t.tft t.qos added number) added).pending old.pending
+          number
+          (record {
+            session = Some control;
+            bearer = Some added;
+            request =
+                Create_bearer_request (bearer_request (session_made old q control user address) (made_session q address) t.tft t.qos added number);
+          })
       waits control user address t added number free unused = record {
         request = bearer_request (session_made old q control user address) (made_session q address) t.tft t.qos added number;
         asked = refl;
@@ -66,7 +81,10 @@ module _ {first : Node} {reading : ControlReading} (request : Arrival) (old : No
       }
 
       -- they go with a request
-      both : (t : Template) → AddsBearer t request (session_response old q r.control r.user r.address) (session_cause q.pdn r.address) r.control (made_session q r.address) (session_made old q r.control r.user r.address) e → AddsBearer t request (session_response old q s.control s.user s.address) (session_cause q.pdn s.address) s.control (made_session q s.address) (session_made old q s.control s.user s.address) f → Alike Packet first (Control_came request reading) e f
+      both : (t : Template) → AddsBearer t request (session_response old q r.control r.user r.address) (session_cause q.pdn r.address) r.control
+          (made_session q r.address) (session_made old q r.control r.user r.address) e
+          → AddsBearer t request (session_response old q s.control s.user s.address) (session_cause q.pdn s.address) s.control
+          (made_session q s.address) (session_made old q s.control s.user s.address) f → Alike Packet first (Control_came request reading) e f
       both t x y = by_effects _ _ e f x.gives y.gives (record {
         tell = record { outcome = outcome; told = refl; places = refl; known = refl; counter = refl; draws = refl };
         one = λ alike.
@@ -85,7 +103,11 @@ module _ {first : Node} {reading : ControlReading} (request : Arrival) (old : No
             cc;
       })
 
-      by : (found : Option Template) → AnswersWith found request (session_response old q r.control r.user r.address) (session_cause q.pdn r.address) r.control (made_session q r.address) (session_made old q r.control r.user r.address) e → AnswersWith found request (session_response old q s.control s.user s.address) (session_cause q.pdn s.address) s.control (made_session q s.address) (session_made old q s.control s.user s.address) f → Alike Packet first (Control_came request reading) e f
+      by : (found : Option Template)
+          → AnswersWith found request (session_response old q r.control r.user r.address) (session_cause q.pdn r.address) r.control
+          (made_session q r.address) (session_made old q r.control r.user r.address) e
+          → AnswersWith found request (session_response old q s.control s.user s.address) (session_cause q.pdn s.address) s.control
+          (made_session q s.address) (session_made old q s.control s.user s.address) f → Alike Packet first (Control_came request reading) e f
       by None is also = alone is also
       by (Some t) (inl x) (inl y) = alone x.1 y.1
       by (Some t) (inl x) (inr y) = absurd (x.0 (record { left = y.0.0.left }, record { few = y.0.1.few }))
@@ -105,10 +127,14 @@ module _ {first : Node} {reading : ControlReading} (request : Arrival) (old : No
   })
 
   pub create_session_asked : (q : CreateSessionRequest) → Determines (Alike Packet first (Control_came request reading)) (CreateSessionAsked request q old)
-  create_session_asked q = unless_plain says_it (unless_plain says_it (unless_plain says_it (unless_plain says_it (unless_plain says_it (unless_plain says_it (unless_plain says_it (makes_session q)))))))
+  create_session_asked q =
+      unless_plain says_it (unless_plain says_it
+      (unless_plain says_it (unless_plain says_it (unless_plain says_it (unless_plain says_it (unless_plain says_it (makes_session q)))))))
 
   pub create_bearer_asked : (q : CreateBearerRequest) → Determines (Alike Serving first (Control_came request reading)) (CreateBearerAsked request q old)
-  create_bearer_asked q = unless_plain says_it (unless_one (one_session old q.header) says_it (λ at. unless_plain says_it (unless_plain says_it (unless_plain says_it (unless_plain says_it (makes_bearer q at.session))))))
+  create_bearer_asked q =
+      unless_plain says_it (unless_one (one_session old q.header) says_it
+      (λ at. unless_plain says_it (unless_plain says_it (unless_plain says_it (unless_plain says_it (makes_bearer q at.session))))))
 
 module _ {role : Role} {first : Node} {input : Input} (request : Arrival) (old : Node) where
   pub delete_session_asked : (d : DeleteSessionRequest) → Determines (Alike role first input) (DeleteSessionAsked request d old)

@@ -26,13 +26,17 @@ rest_drawn t u xs ys e = cc
 
 -- a number under which nothing waited is that of the new request, where something waits there now
 pub new_number : (other : Node) (pending : FiniteMap PendingRequest) (m n : ℕ) (q : PendingRequest) → other.pending ≡ insert pending n q → get pending m ≡ None → HasPending other m → m ≡ n
-new_number other pending m n q is_other free here = ⊎_elim (λ same. same.0) (λ old. absurd (never old.1)) (found-insert pending n q m here.pending (sym (ap (λ (k : FiniteMap PendingRequest). get k m) is_other) ∙ here.waits))
+new_number other pending m n q is_other free here =
+    ⊎_elim (λ same. same.0) (λ old. absurd (never old.1))
+    (found-insert pending n q m here.pending (sym (ap (λ (k : FiniteMap PendingRequest). get k m) is_other) ∙ here.waits))
   where
     never : {x : PendingRequest} → get pending m ≡ Some x → ⊥
     never {x} e = cc
 
 -- the number of a new request
-pub one_number : (one other : Node) (pending : FiniteMap PendingRequest) (m n : ℕ) (p q : PendingRequest) → one.pending ≡ insert pending m p → other.pending ≡ insert pending n q → get pending m ≡ None → ((number : ℕ) → get pending number ≡ None → HasPending one number → HasPending other number) → m ≡ n
+pub one_number : (one other : Node) (pending : FiniteMap PendingRequest) (m n : ℕ) (p q : PendingRequest) → one.pending ≡ insert pending m p
+    → other.pending ≡ insert pending n q → get pending m ≡ None
+    → ((number : ℕ) → get pending number ≡ None → HasPending one number → HasPending other number) → m ≡ n
 one_number one other pending m n p q is_one is_other free alike =
     let there : HasPending one m = record { pending = p; waits = ap (λ (k : FiniteMap PendingRequest). get k m) is_one ∙ get-insert_same pending m p } in
     new_number other pending m n q is_other free (alike m free there)
@@ -61,7 +65,8 @@ one_part (Some a) None alike same = absurd (cc alike)
 one_part (Some a) (Some b) alike same = ap (λ k. Some k) (same a b refl refl)
 
 -- addresses whose parts are one
-pub one_address : (node : Node) (pdn : ℕ) (a b : PdnAddress) → IsGiven node pdn a → IsGiven node pdn b → ((version : IpVersion) (x y : List ℕ) → part_in version a ≡ Some x → part_in version b ≡ Some y → x ≡ y) → a ≡ b
+pub one_address : (node : Node) (pdn : ℕ) (a b : PdnAddress) → IsGiven node pdn a → IsGiven node pdn b
+    → ((version : IpVersion) (x y : List ℕ) → part_in version a ≡ Some x → part_in version b ≡ Some y → x ≡ y) → a ≡ b
 one_address node pdn a b r s same =
     let v4 : a.v4 ≡ b.v4 = one_part a.v4 b.v4 (one_shape node pdn a b r s V4) (same V4) in
     let v6 : a.v6 ≡ b.v6 = one_part a.v6 b.v6 (one_shape node pdn a b r s V6) (same V6) in
@@ -73,7 +78,9 @@ none_found None never = refl
 none_found (Some x) never = absurd (never x refl)
 
 -- a new context, beside what is left of those that stood before
-module _ {X : Type 0} (old others : FiniteMap X) (drawn : List ℕ) (stood : (key : ℕ) (y : X) → get others key ≡ Some y → (z : X) × (get old key ≡ Some z)) (own : (t : ℕ) (y : X) → get old t ≡ Some y → (Among t drawn → ⊥) → ⊥) where
+module _ {X : Type 0} (old others : FiniteMap X) (drawn : List ℕ)
+    (stood : (key : ℕ) (y : X) → get others key ≡ Some y → (z : X) × (get old key ≡ Some z))
+    (own : (t : ℕ) (y : X) → get old t ≡ Some y → (Among t drawn → ⊥) → ⊥) where
   pub comes_beside : (t u : ℕ) (x : X) → t ≡ u → (Among t drawn → ⊥) → ComesBeside old (insert others u x) others t x
   comes_beside t u x same undrawn = record {
     absent = none_found (get old t) (λ y stands. own t y stands undrawn);

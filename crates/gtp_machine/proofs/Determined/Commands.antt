@@ -33,7 +33,8 @@ module _ {role : Role} (command : Command) (old : Node) where
   })
 
   -- a request of which the number alone is chosen
-  asks_alike : (m n : ℕ) (p q : PendingRequest) (teid : Option ℕ) (new : Node) (e f : Effect) → (m ≡ n → p ≡ q) → get old.pending m ≡ None → e ≡ asks old m p teid new → f ≡ asks old n q teid new → Alike role old (Commanded command) e f
+  asks_alike : (m n : ℕ) (p q : PendingRequest) (teid : Option ℕ) (new : Node) (e f : Effect) → (m ≡ n → p ≡ q) → get old.pending m ≡ None
+      → e ≡ asks old m p teid new → f ≡ asks old n q teid new → Alike role old (Commanded command) e f
   asks_alike m n p q teid new e f same unused is_e is_f = by_effects _ _ e f is_e is_f (record {
     tell = record { outcome = refl; told = refl; places = refl; known = refl; counter = refl; draws = refl };
     one = λ alike.
@@ -49,7 +50,9 @@ module _ {role : Role} (command : Command) (old : Node) where
   releases_session session at e f r s = asks_alike r.number s.number _ _ _ (session_closing old session at) e f (λ same. cc) r.number_free.unused r.gives s.gives
 
   closes_bearer : (session : ℕ) (at : Session) (identity bearer : ℕ) (b : Bearer) → Determines (Alike role old (Commanded command)) (ClosesBearer old session at identity bearer b)
-  closes_bearer session at identity bearer b e f r s = asks_alike r.number s.number _ _ _ (record old { bearers = insert old.bearers bearer (record b { state = Closing }) }) e f (λ same. cc) r.number_free.unused r.gives s.gives
+  closes_bearer session at identity bearer b e f r s =
+      asks_alike r.number s.number _ _ _ (record old { bearers = insert old.bearers bearer (record b { state = Closing }) }) e f (λ same. cc)
+      r.number_free.unused r.gives s.gives
 
   sends_echo : Determines (Alike role old (Commanded command)) (SendsEcho old)
   sends_echo e f r s = asks_alike r.number s.number _ _ _ old e f (λ same. cc) r.number_free.unused r.gives s.gives

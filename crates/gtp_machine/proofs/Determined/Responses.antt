@@ -16,7 +16,8 @@ module _ {role : Role} {first : Node} {input : Input} (old : Node) where
   pub response_finishes : (number : ℕ) {Fits : HasPending old number → Type 0} {outcome : Outcome} → Determines (Alike role first input) (EndsRequest old number Fits outcome)
   response_finishes number = unless_one (one_pending old number) says_it (λ at. unless_plain says_it says_it)
 
-  opens_session : (a : CreateSessionResponse) (q : CreateSessionRequest) (session : ℕ) (s : Session) (address : PdnAddress) → Determines (Alike role first input) (OpensSession old a q session s address)
+  opens_session : (a : CreateSessionResponse) (q : CreateSessionRequest) (session : ℕ) (s : Session) (address : PdnAddress)
+      → Determines (Alike role first input) (OpensSession old a q session s address)
   opens_session a q session at address e f r s =
       let bearer : r.default.bearer ≡ s.default.bearer = one_value _ _ _ r.default.stands s.default.stands in
       the_same e f cc

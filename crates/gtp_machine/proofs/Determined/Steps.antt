@@ -7,9 +7,13 @@ use Rattle.gtp_values.specs.Counter.{age_of}
 use Rattle.gtp_values.specs.declared.address.Endpoint.{Endpoint}
 use Rattle.gtp_values.specs.declared.counter.Age.{Age}
 use Rattle.gtp_values.specs.declared.counter.Age.TheVariants.{Same, Later, Earlier}
-use Rattle.gtp_machine.specs.Message.{CreateBearerRequest, Message, Echo_request, Echo_response, Create_session_request, Create_session_response, Delete_session_request, Delete_session_response, Create_bearer_request, Create_bearer_response, Delete_bearer_request, Delete_bearer_response, Packet_data, End_marker, Error_indication, User_echo_request, recovery_of}
+use Rattle.gtp_machine.specs.Message.{CreateBearerRequest, Message, Echo_request, Echo_response, Create_session_request, Create_session_response}
+use Rattle.gtp_machine.specs.Message.{Delete_session_request, Delete_session_response, Create_bearer_request, Create_bearer_response}
+use Rattle.gtp_machine.specs.Message.{Delete_bearer_request, Delete_bearer_response, Packet_data, End_marker, Error_indication, User_echo_request}
+use Rattle.gtp_machine.specs.Message.{recovery_of}
 use Rattle.gtp_machine.specs.Node.{Role, Serving, Packet, Bearer, PendingRequest, Arrival, Node}
-use Rattle.gtp_machine.specs.Input.{ControlReading, Control_message, Faulty, Control_fault, UserReading, User_message, Extension_needed, User_fault, Input, Commanded, Control_came, User_came, Moves_on, Out, Effect}
+use Rattle.gtp_machine.specs.Input.{ControlReading, Control_message, Faulty, Control_fault, UserReading, User_message, Extension_needed, User_fault}
+use Rattle.gtp_machine.specs.Input.{Input, Commanded, Control_came, User_came, Moves_on, Out, Effect}
 use Rattle.gtp_machine.specs.MessageType.{answers_type}
 use Rattle.gtp_machine.specs.Recovery.{Judges, Weighs, Hears, peer_restarted}
 use Rattle.gtp_machine.specs.User.{Accepts, EndCame, UserTaken, UserRead, UserStep}
@@ -41,7 +45,8 @@ with_heard heard learned out = record out { heard = heard; learned = learned }
 abbrev as_heard : Option ℕ → Option ℕ → Effect → Effect
 as_heard heard learned e = record e { out = with_heard heard learned e.out }
 
-still_alike : (role : Role) (first : Node) (input : Input) (heard learned : Option ℕ) (e f : Effect) → Alike role first input e f → Alike role first input (as_heard heard learned e) (as_heard heard learned f)
+still_alike : (role : Role) (first : Node) (input : Input) (heard learned : Option ℕ) (e f : Effect) → Alike role first input e f
+    → Alike role first input (as_heard heard learned e) (as_heard heard learned f)
 still_alike role first input heard learned e f alike = record {
   tell = record {
     outcome = alike.tell.outcome;
@@ -51,7 +56,9 @@ still_alike role first input heard learned e f alike = record {
     counter = alike.tell.counter;
     draws = alike.tell.draws;
   };
-  one = λ picked. ap (as_heard heard learned) (alike.one (record { drawn = picked.drawn; addresses = picked.addresses; identities = picked.identities; numbers = picked.numbers; wanted = picked.wanted }));
+  one =
+      λ picked. ap (as_heard heard learned) (alike.one (record
+      { drawn = picked.drawn; addresses = picked.addresses; identities = picked.identities; numbers = picked.numbers; wanted = picked.wanted }));
 }
 
 module _ {role : Role} {input : Input} (Takes : Node → Effect → Type 0) (old : Node) (takes : (node : Node) → IsLeft old node → Determines (Alike role old input) (Takes node)) where
@@ -142,7 +149,8 @@ step_done role old (User_came source reading) fits once = λ e f r s. the_same e
 step_done role old (Moves_on move) fits once = λ e f r s. the_same e f (move_made old move e f r s)
 
 -- the TEID in a request for a bearer that waits was drawn
-pub drawn_before : (role : Role) (old : Node) → IsSound role old → (number : ℕ) (p : PendingRequest) (r : CreateBearerRequest) → get old.pending number ≡ Some p → p.request ≡ Create_bearer_request r → Among r.context.user.teid old.drawn
+pub drawn_before : (role : Role) (old : Node) → IsSound role old → (number : ℕ) (p : PendingRequest) (r : CreateBearerRequest) → get old.pending number ≡ Some p
+    → p.request ≡ Create_bearer_request r → Among r.context.user.teid old.drawn
 drawn_before role old sound number p r stands asked =
     let ask = is_bearer role old sound number p r stands asked in
     let own : Among ask.0.request.context.user.teid old.drawn = ⊎_elim (λ w. (sound.contexts.each_bearer _ w.0 w.1).own) (λ w. (sound.contexts.each_bearer _ w.0.0 w.0.1).own) ask.0.wanted in
@@ -162,7 +170,8 @@ one_is_done role old input e f twice alike = (both_steps role old input e f twic
   numbers = λ command is number none has. alike.numbers number has.pending has.waits (λ was. none_some has.pending (sym none ∙ was));
   wanted = λ request reading is packet made others m n p q waits also.
       new_number f.node others m n q also.is waits.absent
-      (alike.numbers m p (ap (λ (k : FiniteMap PendingRequest). get k m) waits.is ∙ get-insert_same others m p) (λ was. waits.undrawn (drawn_before role old twice.sound m p waits.request was waits.asked)));
+      (alike.numbers m p (ap (λ (k : FiniteMap PendingRequest). get k m) waits.is ∙ get-insert_same others m p)
+      (λ was. waits.undrawn (drawn_before role old twice.sound m p waits.request was waits.asked)));
 })
 
 pub one_answer : OneAnswer

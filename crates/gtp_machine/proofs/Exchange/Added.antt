@@ -22,7 +22,8 @@ use Rattle.gtp_machine.specs.Message.{WantedBearer, CreateBearerRequest, GivenBe
 use Rattle.gtp_machine.specs.Choice.{IsIdentity}
 use Rattle.gtp_machine.specs.Spelling.{control_value, wanted_rows, given_rows, IsSendable}
 use Rattle.gtp_machine.specs.Exchange.{IsQos}
-use Rattle.gtp_machine.proofs.Exchange.Ranges.{IsAtMost, nothing, with_more, group_more, octet_short, cause_short, end_short, qos_short, charging_short, headed_octets, identity_again, alone, spelled_cause, spelled_end, spelled_qos}
+use Rattle.gtp_machine.proofs.Exchange.Ranges.{IsAtMost, nothing, with_more, group_more, octet_short, cause_short, end_short, qos_short}
+use Rattle.gtp_machine.proofs.Exchange.Ranges.{charging_short, headed_octets, identity_again, alone, spelled_cause, spelled_end, spelled_qos}
 use Rattle.gtp_machine.proofs.Basics.Facts.{◌⊗◌}
 use Rattle.gtp_machine.proofs.Octets.AsOctets.{none, and, element_octets}
 
@@ -40,7 +41,9 @@ unfolding encoding_of
 tft_short tft short octets = record { few = short; octets = record { each = octets } }
 
 -- the request
-module _ (header number linked : ℕ) (tft : List ℕ) (qos : Qos) (user : ℕ) (own : Ip) (header_small : header < 2 ^ 32) (number_small : number < 2 ^ 24) (identity : IsIdentity linked) (short : length tft ≤ 255) (octets : All (λ octet. octet < 256) tft) (quality : IsQos qos) (user_small : user < 2 ^ 32) (address : IsIp own) where
+module _ (header number linked : ℕ) (tft : List ℕ) (qos : Qos) (user : ℕ) (own : Ip) (header_small : header < 2 ^ 32)
+    (number_small : number < 2 ^ 24) (identity : IsIdentity linked) (short : length tft ≤ 255) (octets : All (λ octet. octet < 256) tft)
+    (quality : IsQos qos) (user_small : user < 2 ^ 32) (address : IsIp own) where
   abbrev context : WantedBearer
   context = record { identity = 0; tft = tft; user = tunnel_end 5 user own; qos = qos; charging = Some user }
 
@@ -71,7 +74,9 @@ module _ (header number linked : ℕ) (tft : List ℕ) (qos : Qos) (user : ℕ) 
       kinds =
           tt
           ⊗ ebi_again linked (identity_again linked identity)
-          ⊗ alone (RowsHaveKinds bearer_request_context_rows) _ (ebi_again 0 (omega arith) ⊗ tft_again tft short ⊗ spelled_end 5 user own address (omega arith) user_small ⊗ spelled_qos qos quality ⊗ charging_id_again user user_small ⊗ tt)
+          ⊗ alone (RowsHaveKinds bearer_request_context_rows) _
+          (ebi_again 0 (omega arith) ⊗ tft_again tft short ⊗ spelled_end 5 user own address (omega arith) user_small ⊗ spelled_qos qos quality ⊗
+          charging_id_again user user_small ⊗ tt)
           ⊗ tt;
       marks = search rules;
       short = omega (arith, wanted_carried.few);
@@ -80,7 +85,8 @@ module _ (header number linked : ℕ) (tft : List ℕ) (qos : Qos) (user : ℕ) 
   }
 
 -- its answers: one gives a bearer, and one says that there is none to give
-module _ (header number counter user : ℕ) (own : Ip) (header_small : header < 2 ^ 32) (number_small : number < 2 ^ 24) (counter_small : counter < 256) (user_small : user < 2 ^ 32) (address : IsIp own) where
+module _ (header number counter user : ℕ) (own : Ip) (header_small : header < 2 ^ 32) (number_small : number < 2 ^ 24)
+    (counter_small : counter < 256) (user_small : user < 2 ^ 32) (address : IsIp own) where
   -- an answer with this cause and this bearer context
   abbrev answer : ℕ → GivenBearer → CreateBearerResponse
   answer cause context = record { header = header; number = number; cause = cause_of cause; contexts = context ∷ []; recovery = Some counter }
@@ -90,7 +96,8 @@ module _ (header number counter user : ℕ) (own : Ip) (header_small : header < 
       → MeetsMarks (control_value (Create_bearer_response (answer cause context))) → IsSendable (Create_bearer_response (answer cause context))
   unfolding encoding_of value_encoding groups_encoding
   answer_sendable cause context most low few context_short context_kinds marks =
-      let counter_short : IsAtMost (element_encoding 3 0 (counter ∷ [])) 5 = record { few = omega arith; octets = element_octets 3 0 (counter ∷ []) (omega arith) (omega arith) (and counter [] counter_small none) } in
+      let counter_short : IsAtMost (element_encoding 3 0 (counter ∷ [])) 5 =
+      record { few = omega arith; octets = element_octets 3 0 (counter ∷ []) (omega arith) (omega arith) (and counter [] counter_small none) } in
       let short : IsAtMost (carried (control_value (Create_bearer_response (answer cause context)))) (4 + 100 + (4 + most + 5)) =
       with_more 2 0 100 (encoding_of (OfCause (cause_of cause))) _ (4 + most + 5) (search rules) (cause_short cause low)
       (group_more 93 0 most (rows_encoding bearer_response_context_rows (given_rows context)) _ 5 (search rules) context_short counter_short) in
@@ -116,7 +123,9 @@ module _ (header number counter user : ℕ) (own : Ip) (header_small : header < 
       (with_more 87 3 100 (encoding_of (OfFTeid (tunnel_end 5 user own))) [] 0 (search rules) (end_short 5 user own (omega arith) address) nothing))
 
   pub refusal_sendable : IsSendable (Create_bearer_response (answer 73 none_given))
-  refusal_sendable = answer_sendable 73 none_given 312 (omega arith) (omega arith) none_short (ebi_again 0 (omega arith) ⊗ spelled_cause 73 ⊗ tt ⊗ spelled_end 5 user own address (omega arith) user_small ⊗ tt) (search rules)
+  refusal_sendable =
+      answer_sendable 73 none_given 312 (omega arith) (omega arith) none_short
+      (ebi_again 0 (omega arith) ⊗ spelled_cause 73 ⊗ tt ⊗ spelled_end 5 user own address (omega arith) user_small ⊗ tt) (search rules)
 
   module _ (identity given : ℕ) (there : Ip) (is_identity : IsIdentity identity) (given_small : given < 2 ^ 32) (address_there : IsIp there) where
     abbrev context_given : GivenBearer
@@ -131,4 +140,7 @@ module _ (header number counter user : ℕ) (own : Ip) (header_small : header < 
         (with_more 87 3 100 (encoding_of (OfFTeid (tunnel_end 5 user own))) [] 0 (search rules) (end_short 5 user own (omega arith) address) nothing)))
 
     pub grant_sendable : IsSendable (Create_bearer_response (answer 16 context_given))
-    grant_sendable = answer_sendable 16 context_given 416 (omega arith) (omega arith) given_short (ebi_again identity (identity_again identity is_identity) ⊗ spelled_cause 16 ⊗ spelled_end 4 given there address_there (omega arith) given_small ⊗ spelled_end 5 user own address (omega arith) user_small ⊗ tt) (search rules)
+    grant_sendable =
+        answer_sendable 16 context_given 416 (omega arith) (omega arith) given_short
+        (ebi_again identity (identity_again identity is_identity) ⊗ spelled_cause 16 ⊗ spelled_end 4 given there address_there (omega arith)
+        given_small ⊗ spelled_end 5 user own address (omega arith) user_small ⊗ tt) (search rules)

@@ -11,7 +11,9 @@ use Rattle.gtp_machine.specs.Tick.{TickStep, ticked}
 use Rattle.gtp_machine.specs.Step.{Step}
 use Rattle.gtp_machine.specs.Answer.{IsNew}
 use Rattle.gtp_machine.specs.Spelling.{spelled, announcing}
-use Rattle.gtp_machine.specs.World.{World, Sent, HasSent, Note, Event, MovesTwice, fault_of_cut, first_came, second_came, note_of_both, Run, other, side_of, with_side, with_steps, signed, moved, noted, marked_late, arrival, delivered_on, restarted, start, quiet_note, No_such_datagram}
+use Rattle.gtp_machine.specs.World.{World, Sent, HasSent, Note, Event, MovesTwice, fault_of_cut, first_came, second_came, note_of_both, Run, other}
+use Rattle.gtp_machine.specs.World.{side_of, with_side, with_steps, signed, moved, noted, marked_late, arrival, delivered_on, restarted, start}
+use Rattle.gtp_machine.specs.World.{quiet_note, No_such_datagram}
 use Rattle.gtp_machine.proofs.Basics.FiniteMaps.{Among-one_more}
 use Rattle.gtp_machine.proofs.Origins.Drawing.{by_before}
 use Rattle.gtp_machine.proofs.Changes.Shrinking.{Shrunk-finished}
@@ -27,7 +29,9 @@ HeldBy request old e = (h : Held) → Among h e.node.held → Among h old.held �
 
 held_by : (request : Arrival) (old : Node) (e : Effect) → Keeps old e ⊎ (IsNew old request × Adds request old e) → HeldBy request old e
 held_by request old e (inl kept) h among = inl (subst (λ l. Among h l) kept among)
-held_by request old e (inr adds) h among = ⊎_elim (λ was. inl was) (λ is. inr (ap (λ (k : Held). k.request) is)) (Among-one_more h (record { request = request; answer = adds.1.answer }) old.held (subst (λ l. Among h l) adds.1.held among))
+held_by request old e (inr adds) h among =
+    ⊎_elim (λ was. inl was) (λ is. inr (ap (λ (k : Held). k.request) is))
+    (Among-one_more h (record { request = request; answer = adds.1.answer }) old.held (subst (λ l. Among h l) adds.1.held among))
 
 -- the datagram for which an answer is held
 pub record IsOfSent (history : List Sent) (sender : Role) (from : Addresses) (h : Held) : Type 0 where
@@ -52,8 +56,15 @@ not_announcing m a control same = less_announced m a (omega arith) same
 abbrev pub HeldOfSent : World → Type 0
 HeldOfSent w = (role : Role) (h : Held) → Among h (side_of w role).node.held → IsOfSent w.history (other role) (side_of w (other role)).node.config.own h
 
-later : (history : List Sent) (by : Role) (sent : List Message) (sender : Role) (from now : Addresses) (h : Held) → now ≡ from → IsOfSent history sender from h → IsOfSent (history ++ signed by sent) sender now h
-later history by sent sender from now h same is = record { message = is.message; sent = by_before history sender by sent is.message is.sent; control = is.control; is = is.is ∙ ap (λ k. arrival k is.message) (sym same) }
+later : (history : List Sent) (by : Role) (sent : List Message) (sender : Role) (from now : Addresses) (h : Held) → now ≡ from
+    → IsOfSent history sender from h → IsOfSent (history ++ signed by sent) sender now h
+later history by sent sender from now h same is =
+    record {
+      message = is.message;
+      sent = by_before history sender by sent is.message is.sent;
+      control = is.control;
+      is = is.is ∙ ap (λ k. arrival k is.message) (sym same);
+    }
 
 -- what the gateway holds after a step it held before, or it is of what was sent
 abbrev HoldsNow : World → Role → Effect → Type 0
@@ -62,10 +73,18 @@ HoldsNow w role e = (h : Held) → Among h e.node.held → Among h (side_of w ro
 -- a step of a gateway
 stepped_held : (w : World) (role : Role) (e : Effect) (note : Note) (steps : _) → HeldOfSent w → e.node.config ≡ (side_of w role).node.config → HoldsNow w role e
     → HeldOfSent (with_steps (noted (moved w role e) note) role steps)
-stepped_held w Serving e note steps held config now Serving h among = later w.history Serving (messages e.out.sent) Packet w.packet.node.config.own w.packet.node.config.own h refl (⊎_elim (λ was. held Serving h was) (λ is. is) (now h among))
-stepped_held w Serving e note steps held config now Packet h among = later w.history Serving (messages e.out.sent) Serving w.serving.node.config.own e.node.config.own h (ap (λ (c : Config). c.own) config) (held Packet h among)
-stepped_held w Packet e note steps held config now Packet h among = later w.history Packet (messages e.out.sent) Serving w.serving.node.config.own w.serving.node.config.own h refl (⊎_elim (λ was. held Packet h was) (λ is. is) (now h among))
-stepped_held w Packet e note steps held config now Serving h among = later w.history Packet (messages e.out.sent) Packet w.packet.node.config.own e.node.config.own h (ap (λ (c : Config). c.own) config) (held Serving h among)
+stepped_held w Serving e note steps held config now Serving h among =
+    later w.history Serving (messages e.out.sent) Packet w.packet.node.config.own w.packet.node.config.own h refl
+    (⊎_elim (λ was. held Serving h was) (λ is. is) (now h among))
+stepped_held w Serving e note steps held config now Packet h among =
+    later w.history Serving (messages e.out.sent) Serving w.serving.node.config.own e.node.config.own h (ap (λ (c : Config). c.own) config)
+    (held Packet h among)
+stepped_held w Packet e note steps held config now Packet h among =
+    later w.history Packet (messages e.out.sent) Serving w.serving.node.config.own w.serving.node.config.own h refl
+    (⊎_elim (λ was. held Packet h was) (λ is. is) (now h among))
+stepped_held w Packet e note steps held config now Serving h among =
+    later w.history Packet (messages e.out.sent) Packet w.packet.node.config.own e.node.config.own h (ap (λ (c : Config). c.own) config)
+    (held Serving h among)
 
 pub move_config : (old : Node) (move : Move) (e : Effect) → MoveStep old move e → e.node.config ≡ old.config
 move_config old (Resend number) e r = ap (λ (k : Effect). k.node.config) r.gives
@@ -111,21 +130,30 @@ module _ (own : Addresses) where
   brings_held w role input (Sends m sent timely) e step h among = brought w role (plane_of m) m sent refl e step h among
   brings_held w role input (Joins request) e step h among = inl (subst (Among h) (same_held (side_of w role).node request e (foreign role request 0 (side_of w role).node e step)) among)
   brings_held w role input (Begins Control from datagram count) e step h among = inl (fault_held role _ (fault_of_cut datagram count) (side_of w role).node e step h among)
-  brings_held w role input (Begins User from datagram count) e step h among = inl (subst (Among h) (user_held role (user_end from.user) (User_fault (user_cut_fault count)) (side_of w role).node e step) among)
+  brings_held w role input (Begins User from datagram count) e step h among =
+      inl (subst (Among h) (user_held role (user_end from.user) (User_fault (user_cut_fault count)) (side_of w role).node e step) among)
 
   -- the second of a pair comes to be held
   pair_held : (w : World) (inv : run.Invariant own w) → HeldOfSent w → (a : CreateSessionResponse) (r : CreateBearerRequest) → HasSent w.history Packet (Create_session_response a)
-      → HasSent w.history Packet (Create_bearer_request r) → (new : World) → MovesTwice w Serving (first_came w.packet.node.config.own (Create_session_response a)) (second_came w.packet.node.config.own (Create_bearer_request r)) new → HeldOfSent new
+      → HasSent w.history Packet (Create_bearer_request r) → (new : World)
+      → MovesTwice w Serving (first_came w.packet.node.config.own (Create_session_response a))
+      (second_came w.packet.node.config.own (Create_bearer_request r)) new → HeldOfSent new
   pair_held w inv held a r a_sent r_sent new m =
       let w1 = moved w Serving m.effect in
       let first_input = first_came w.packet.node.config.own (Create_session_response a) in
       let second_input = second_came w.packet.node.config.own (Create_bearer_request r) in
       let stays = run.config_stays own w inv Serving first_input m.effect (run.first_carried own w inv a r a_sent r_sent) m.step in
       let first : HeldOfSent w1 =
-      by_role w1 (stepped_held w Serving m.effect (quiet_note No_such_datagram) [] held stays (λ h among. inl (subst (Among h) (same_held w.serving.node _ m.effect (opening _ a w.serving.node m.effect m.step)) among))) in
+      by_role w1 (stepped_held w Serving m.effect (quiet_note No_such_datagram) [] held stays
+      (λ h among. inl (subst (Among h) (same_held w.serving.node _ m.effect (opening _ a w.serving.node m.effect m.step)) among))) in
       subst HeldOfSent (sym m.becomes)
-      (stepped_held w1 Serving m.next (note_of_both m.effect m.next) (w.serving_steps ++ both_steps w.serving.node first_input second_input m.effect m.next) first (run.config_stays own w1 (run.after_first own w inv a r a_sent r_sent m.effect m.step) Serving second_input m.next (run.second_carried own w inv a r a_sent r_sent m.effect m.step) m.follows)
-      (λ h among. ⊎_elim (λ was. inl was) (λ is. inr (record { message = Create_bearer_request r; sent = run.second_sent own w inv a r a_sent r_sent m.effect m.step; control = refl; is = is })) (held_by _ m.effect.node m.next (control_held Serving _ (Control_message (Create_bearer_request r)) m.effect.node m.next m.follows) h among)))
+      (stepped_held w1 Serving m.next (note_of_both m.effect m.next)
+      (w.serving_steps ++ both_steps w.serving.node first_input second_input m.effect m.next) first
+      (run.config_stays own w1 (run.after_first own w inv a r a_sent r_sent m.effect m.step) Serving second_input m.next
+      (run.second_carried own w inv a r a_sent r_sent m.effect m.step) m.follows)
+      (λ h among. ⊎_elim (λ was. inl was) (λ is. inr (record
+      { message = Create_bearer_request r; sent = run.second_sent own w inv a r a_sent r_sent m.effect m.step; control = refl; is = is }))
+      (held_by _ m.effect.node m.next (control_held Serving _ (Control_message (Create_bearer_request r)) m.effect.node m.next m.follows) h among)))
     where
       by_role : (w1 : World) → HeldOfSent (with_steps (noted w1 (quiet_note No_such_datagram)) Serving []) → HeldOfSent w1
       by_role w1 held Serving = held Serving
@@ -136,8 +164,14 @@ module _ (own : Addresses) where
     notes = noted_held;
     late = λ w role request inv held. late_held w role request held;
     restarts = λ w role note inv held few. restarted_held w role note held;
-    ticks = λ w role new inv held t. subst HeldOfSent (sym t.becomes) (stepped_held w role (ticked t.out t.after) _ _ held (tick_config (side_of w role).node t.moves t.out t.after t.tick) (λ h among. inl (tick_held (side_of w role).node t.moves t.out t.after t.tick h among)));
-    moves = λ w role input new inv held b m. subst HeldOfSent (sym m.becomes) (stepped_held w role m.effect _ _ held (run.config_stays own w inv role input m.effect (run.brings_carried own w inv role input b) m.step) (brings_held w role input b m.effect m.step));
+    ticks =
+        λ w role new inv held t. subst HeldOfSent (sym t.becomes)
+        (stepped_held w role (ticked t.out t.after) _ _ held (tick_config (side_of w role).node t.moves t.out t.after t.tick)
+        (λ h among. inl (tick_held (side_of w role).node t.moves t.out t.after t.tick h among)));
+    moves =
+        λ w role input new inv held b m. subst HeldOfSent (sym m.becomes)
+        (stepped_held w role m.effect _ _ held (run.config_stays own w inv role input m.effect (run.brings_carried own w inv role input b) m.step)
+        (brings_held w role input b m.effect m.step));
     pairs = λ w a r new inv held a_sent r_sent timely m. pair_held w inv held a r a_sent r_sent new m;
   }
 

@@ -1,5 +1,6 @@
 -- The command, the delivery of its request and the delivery of its answer make the session.
-use Rattle.std.proofs.Common.{◌≡◌, ◌≢◌, ◌⊎◌, inl, inr, ⊎_elim, ℕ, ◌+◌, ◌%◌, ◌^◌, ◌≤◌, ◌<◌, ◌==◌, length, List, [], ◌∷◌, ◌++◌, Option, Some, Bool, true, false, if◌then◌else◌, slice_get, refl, sym, ◌∙◌, ap, subst, arith}
+use Rattle.std.proofs.Common.{◌≡◌, ◌≢◌, ◌⊎◌, inl, inr, ⊎_elim, ℕ, ◌+◌, ◌%◌, ◌^◌, ◌≤◌, ◌<◌, ◌==◌, length, List, [], ◌∷◌, ◌++◌, Option, Some, Bool}
+use Rattle.std.proofs.Common.{true, false, if◌then◌else◌, slice_get, refl, sym, ◌∙◌, ap, subst, arith}
 use Rattle.std.specs.Prelude.{◌&&◌, not, is_some}
 use Rattle.std.specs.FinMap.{get}
 use Rattle.std.proofs.lemmas.List.{append-nil}
@@ -12,9 +13,12 @@ use Rattle.gtp_values.specs.declared.counter.Age.TheVariants.{Earlier}
 use Rattle.gtp_values.specs.Address.{IsIp}
 use Rattle.gtp_machine.specs.Config.{Addresses, Config, template_for, user_end}
 use Rattle.gtp_machine.specs.Element.{IsAccepting, PdnAddress, cause_of, tunnel_end, teid_in}
-use Rattle.gtp_machine.specs.Message.{CreateSessionRequest, CreateSessionResponse, CreateBearerRequest, Message, Create_session_request, Create_session_response, Packet_data, plane_of, Control, User, Create_bearer_request, Create_bearer_response, Owns}
+use Rattle.gtp_machine.specs.Message.{CreateSessionRequest, CreateSessionResponse, CreateBearerRequest, Message, Create_session_request}
+use Rattle.gtp_machine.specs.Message.{Create_session_response, Packet_data, plane_of, Control, User, Create_bearer_request, Create_bearer_response}
+use Rattle.gtp_machine.specs.Message.{Owns}
 use Rattle.gtp_machine.specs.Node.{Role, Serving, Packet, Active, Session, Bearer, Arrival, Node, holding, written}
-use Rattle.gtp_machine.specs.Input.{Entry, Specification, Create_session, Send_user, entry_for, Commanded, Control_came, User_came, Control_message, User_message, Effect, Came_to, Opened, messages, datagrams}
+use Rattle.gtp_machine.specs.Input.{Entry, Specification, Create_session, Send_user, entry_for, Commanded, Control_came, User_came, Control_message}
+use Rattle.gtp_machine.specs.Input.{User_message, Effect, Came_to, Opened, messages, datagrams}
 use Rattle.gtp_machine.specs.Choice.{IsFree, IsGiven, counter_of}
 use Rattle.gtp_machine.specs.Command.{bearer_request, BeginsSession, MayGo, SendsPacket, PacketSent, asks, session_request, session_begun, pending_session, pending_bearer}
 use Rattle.gtp_machine.specs.User.{MayCome, Accepts, UserStep}
@@ -25,7 +29,8 @@ use Rattle.gtp_machine.specs.Recovery.{heard_by}
 use Rattle.gtp_machine.specs.Reading.{control_reading}
 use Rattle.gtp_machine.specs.Spelling.{ReadsAs, spelled, announcing, IsSendable}
 use Rattle.gtp_machine.specs.Step.{Step}
-use Rattle.gtp_machine.specs.World.{World, Sent, SentDatagram, HasSent, Side, Event, Does, Deliver, Happens, Delivers, Moves, Run, other, side_of, signed, marked_late, come_from, arrival, first_came, delivered_on, start}
+use Rattle.gtp_machine.specs.World.{World, Sent, SentDatagram, HasSent, Side, Event, Does, Deliver, Happens, Delivers, Moves, Run, other, side_of}
+use Rattle.gtp_machine.specs.World.{signed, marked_late, come_from, arrival, first_came, delivered_on, start}
 use Rattle.gtp_machine.specs.Exchange.{AllRead, IsOnePath, IsTemplate, IsConfigured, IsSpecified, CanExchange, CameTo, Carries, IsMade, Exchanged, FairExchange, ExchangeSendable}
 use Rattle.gtp_machine.proofs.Basics.Ages.{earlier_start}
 use Rattle.gtp_machine.proofs.Basics.FiniteMaps.{Among-only, get-insert_same, Among-left, Among-right, Among-last}
@@ -36,7 +41,8 @@ use Rattle.gtp_machine.proofs.Exchange.Held.{HeldOfSent, not_announcing, always_
 use Rattle.gtp_machine.proofs.Worlds.Coming.{peer_comes, IsMoved, moved_so, Took, took_datagram, TookBoth, took_both, took_both_late}
 use Rattle.gtp_machine.proofs.Basics.Templates.{IsAdded}
 use Rattle.gtp_machine.proofs.Exchange.Added.{found_template, wanted_sendable, refusal_sendable, grant_sendable}
-use Rattle.gtp_machine.proofs.Exchange.Nodes.{pass, v4_given, v6_given, type_is as asked_type, begins, CanMake, IsAnswered, answers, waiting_for, Waits, OpensBy, IsOpened, is_opened_by, GoesOut, goes_out, SaysSo, asked_second}
+use Rattle.gtp_machine.proofs.Exchange.Nodes.{pass, v4_given, v6_given, type_is as asked_type, begins, CanMake, IsAnswered, answers, waiting_for}
+use Rattle.gtp_machine.proofs.Exchange.Nodes.{Waits, OpensBy, IsOpened, is_opened_by, GoesOut, goes_out, SaysSo, asked_second}
 use Rattle.gtp_machine.proofs.Exchange.Texts.{request_like, response_like, same_request_teid, same_response_teid}
 use Rattle.gtp_machine.proofs.Exchange.Ranges.{IsWritten, given_written, request_sendable, request_short, response_sendable, response_short}
 use Rattle.gtp_machine.specs.Laws.{OwnsOn, TeidWasDrawn}
@@ -52,7 +58,9 @@ one_longer : {X : Type 0} (xs : List X) (x : X) → 1 + length xs ≡ length (xs
 one_longer [] x = refl
 one_longer (y ∷ xs) x = omega (arith, one_longer xs x)
 
-delivered_so : (old : World) (sender : Role) (datagram : List Message) (number : ℕ) (new : World) → slice_get old.datagrams number ≡ Some (record { role = sender; what = datagram }) → Happens old (Deliver number) new → Delivers old sender datagram new
+delivered_so : (old : World) (sender : Role) (datagram : List Message) (number : ℕ) (new : World)
+    → slice_get old.datagrams number ≡ Some (record { role = sender; what = datagram }) → Happens old (Deliver number) new
+    → Delivers old sender datagram new
 delivered_so old sender datagram number new stands h =
     let found = pass (record { sent = record { role = sender; what = datagram }; is = stands }) h in
     subst (λ (s : SentDatagram). Delivers old s.role s.what new) (same_Some found.0.sent (record { role = sender; what = datagram }) (sym found.0.is ∙ stands)) found.1
@@ -65,10 +73,13 @@ brought old sender m number new stands h = took_datagram old sender m new (deliv
 brought_apart : (old : World) (a : CreateSessionResponse) (r : CreateBearerRequest) (new : World) → old.packet.node.config.own.control ≡ old.serving.node.config.peer.control
     → Delivers old Packet (Create_session_response a ∷ Create_bearer_request r ∷ []) new → TookBoth old a r new
 brought_apart old a r new peer (inl d) = took_both old a r new (peer_comes old Serving old.packet.node.config.own new a r refl peer d.1).moves
-brought_apart old a r new peer (inr d) = let x = arrival old.packet.node.config.own (Create_bearer_request r) in took_both_late old x a r new (peer_comes (marked_late old Serving x) Serving old.packet.node.config.own new a r refl peer d.1).moves
+brought_apart old a r new peer (inr d) =
+    let x = arrival old.packet.node.config.own (Create_bearer_request r) in
+    took_both_late old x a r new (peer_comes (marked_late old Serving x) Serving old.packet.node.config.own new a r refl peer d.1).moves
 
 -- the counter that a gateway tells is not earlier than one that was heard of it
-not_earlier : (peer : Side) (role : Role) (history : List Sent) (known : Option ℕ) (seen : List ℕ) (counter : ℕ) → Drawing peer role history → Hearing peer known seen → counter ≡ peer.node.counter → (k : ℕ) → known ≡ Some k → age_of k counter ≢ Earlier
+not_earlier : (peer : Side) (role : Role) (history : List Sent) (known : Option ℕ) (seen : List ℕ) (counter : ℕ) → Drawing peer role history
+    → Hearing peer known seen → counter ≡ peer.node.counter → (k : ℕ) → known ≡ Some k → age_of k counter ≢ Earlier
 not_earlier peer role history known seen counter draws hearing same k is early =
     let l = hearing.latest k is in
     let before = earlier_start peer.first l.start peer.restarts k counter (omega (arith, l.by_now, draws.few)) draws.few l.is (same ∙ draws.counter) early in
@@ -82,7 +93,8 @@ accepts_cause pdn address = by ((pdn == 3) && not (is_some address.v4 && is_some
     by false = record { low = omega arith; high = omega arith }
 
 -- a packet that may go is sent
-sends_so : (role : Role) (bearer : ℕ) (payload : List ℕ) (node : Node) (e : Effect) (b : Bearer) → get node.bearers bearer ≡ Some b → b.state ≡ Active → b.ended ≡ false → length payload ≤ 65000 → Step role node (Commanded (Send_user bearer payload)) e → SendsPacket node b payload e
+sends_so : (role : Role) (bearer : ℕ) (payload : List ℕ) (node : Node) (e : Effect) (b : Bearer) → get node.bearers bearer ≡ Some b → b.state ≡ Active
+    → b.ended ≡ false → length payload ≤ 65000 → Step role node (Commanded (Send_user bearer payload)) e → SendsPacket node b payload e
 sends_so role bearer payload node e b stands active unended short step = by step
   where
     may_go : (role : Role) → MayGo role b
@@ -97,7 +109,9 @@ sends_so role bearer payload node e b stands active unended short step = by step
         subst (λ k. SendsPacket node k payload e) (sym same) sends
 
 -- a packet that may come is accepted
-accepts_so : (role : Role) (source : Endpoint) (bearer : ℕ) (payload : List ℕ) (node : Node) (e : Effect) (b : Bearer) → source.ip ≡ node.config.peer.user → get node.bearers bearer ≡ Some b → b.state ≡ Active → b.ended ≡ false → Step role node (User_came source (User_message (Packet_data bearer payload))) e → Accepts node bearer payload b e
+accepts_so : (role : Role) (source : Endpoint) (bearer : ℕ) (payload : List ℕ) (node : Node) (e : Effect) (b : Bearer) → source.ip ≡ node.config.peer.user
+    → get node.bearers bearer ≡ Some b → b.state ≡ Active → b.ended ≡ false
+    → Step role node (User_came source (User_message (Packet_data bearer payload))) e → Accepts node bearer payload b e
 accepts_so role source bearer payload node e b peer stands active unended step = by step
   where
     may_come : (role : Role) → MayCome role b
@@ -135,17 +149,24 @@ carries w role bearer there ends payload sent came short h1 h2 =
     let m1 : Moves w role (Commanded (Send_user bearer payload)) sent = h1 in
     let f1 = moved_so w role _ sent m1 in
     let sends = sends_so role bearer payload (side_of w role).node m1.effect ends.here ends.stands ends.active ends.unended short m1.step in
-    let says : datagrams m1.effect.out.sent ≡ (Packet_data there payload ∷ []) ∷ [] = ap (λ (f : Effect). datagrams f.out.sent) sends.gives ∙ ap (λ r. (Packet_data (written r) payload ∷ []) ∷ []) ends.remote in
+    let says : datagrams m1.effect.out.sent ≡ (Packet_data there payload ∷ []) ∷ [] =
+    ap (λ (f : Effect). datagrams f.out.sent) sends.gives ∙ ap (λ r. (Packet_data (written r) payload ∷ []) ∷ []) ends.remote in
     let kept : (side_of sent role).node.config ≡ (side_of w role).node.config = ap (λ (n : Node). n.config) (f1.grown.node ∙ ap (λ (f : Effect). f.node) sends.gives) in
-    let d = brought sent role (Packet_data there payload) (length w.datagrams) came (ap (λ ds. slice_get ds (length w.datagrams)) (f1.grown.listed ∙ ap (λ ds. w.datagrams ++ signed role ds) says) ∙ at_end w.datagrams _) h2 in
+    let d =
+    brought sent role (Packet_data there payload) (length w.datagrams) came
+    (ap (λ ds. slice_get ds (length w.datagrams)) (f1.grown.listed ∙ ap (λ ds. w.datagrams ++ signed role ds) says) ∙ at_end w.datagrams _) h2 in
     let source = user_end (side_of sent role).node.config.own.user in
-    let takes = accepts_so (other role) source there payload (side_of w (other role)).node d.effect ends.at (ap (λ (c : Config). c.own.user) kept ∙ ap (λ (a : Addresses). a.user) (sym ends.path)) ends.stands_there ends.active_there ends.unended_there (subst (λ n. Step (other role) n (User_came source (User_message (Packet_data there payload))) d.effect) f1.grown.elsewhere d.step) in
+    let takes =
+    accepts_so (other role) source there payload (side_of w (other role)).node d.effect ends.at
+    (ap (λ (c : Config). c.own.user) kept ∙ ap (λ (a : Addresses). a.user) (sym ends.path)) ends.stands_there ends.active_there ends.unended_there
+    (subst (λ n. Step (other role) n (User_came source (User_message (Packet_data there payload))) d.effect) f1.grown.elsewhere d.step) in
     let packet : Entry = entry_for there payload ends.session.subscriber ends.here.identity in
     let handed : m1.effect.out.handed ≡ packet ∷ [] =
     ap (λ (f : Effect). f.out.handed) sends.gives ∙ ap (λ r. entry_for (written r) payload sends.of.session.subscriber ends.here.identity ∷ []) ends.remote
     ∙ ap (λ (s : Session). entry_for there payload s.subscriber ends.here.identity ∷ []) (same_Some sends.of.session ends.session (sym sends.of.stands ∙ ends.of)) in
     let accepted : d.effect.out.accepted ≡ packet ∷ [] =
-    ap (λ (f : Effect). f.out.accepted) takes.gives ∙ ap (λ (s : Session). entry_for there payload s.subscriber ends.at.identity ∷ []) (same_Some takes.of.session ends.session_there (sym takes.of.stands ∙ ends.of_there))
+    ap (λ (f : Effect). f.out.accepted) takes.gives ∙ ap (λ (s : Session). entry_for there payload s.subscriber ends.at.identity ∷ [])
+    (same_Some takes.of.session ends.session_there (sym takes.of.stands ∙ ends.of_there))
     ∙ (λ i. entry_for there payload (ends.subscriber i) (ends.identity i) ∷ []) in
     record {
       outcome = subst (CameTo came) (ap (λ (f : Effect). f.outcome) takes.gives) d.moved.note;
@@ -186,7 +207,9 @@ owned_small side role history draws m t sent owns = elim (draws.drawn m t sent o
   | inr earlier ↦ start_small t (side.first + earlier.start) earlier.is
 ]
 
-module _ (serving packet : Config) (serving_counter packet_counter : ℕ) (events : List Event) (w begun answered opened : World) (spec : Specification) (r : Run (start serving packet serving_counter packet_counter) events w) (path : IsOnePath w.serving.node.config w.packet.node.config) (can : CanExchange w spec)
+module _ (serving packet : Config) (serving_counter packet_counter : ℕ) (events : List Event) (w begun answered opened : World)
+    (spec : Specification) (r : Run (start serving packet serving_counter packet_counter) events w)
+    (path : IsOnePath w.serving.node.config w.packet.node.config) (can : CanExchange w spec)
     (h1 : Happens w (Does Serving (Create_session spec)) begun) (h2 : Happens begun (Deliver (length w.datagrams)) answered) (h3 : Happens answered (Deliver (1 + length w.datagrams)) opened) where
   inv : Invariant packet.own w
   inv = always serving packet serving_counter packet_counter events w r
@@ -244,7 +267,11 @@ module _ (serving packet : Config) (serving_counter packet_counter : ℕ) (event
     can_make = record { room = can.held_room; one = refl; identity = can.identity; configured = can.configured; few = can.packet_room; draws = can.packet_draws }
 
     a2 : IsAnswered asked q w.serving.node.counter w.packet.node d2.effect
-    a2 = answers asked q w.serving.node.counter w.packet.node d2.effect (ap (λ (k : Addresses). k.control) (serving_own ∙ sym path.back)) new2 refl (not_earlier w.serving Serving w.history w.packet.node.known w.packet.seen w.serving.node.counter inv.serving.draws inv.packet.hearing refl) can_make can.give (subst (λ n. Step Packet n (Control_came asked (Control_message (Create_session_request q))) d2.effect) f1.grown.elsewhere d2.step)
+    a2 =
+        answers asked q w.serving.node.counter w.packet.node d2.effect (ap (λ (k : Addresses). k.control) (serving_own ∙ sym path.back)) new2 refl
+        (not_earlier w.serving Serving w.history w.packet.node.known w.packet.seen w.serving.node.counter inv.serving.draws inv.packet.hearing refl)
+        can_make can.give
+        (subst (λ n. Step Packet n (Control_came asked (Control_message (Create_session_request q))) d2.effect) f1.grown.elsewhere d2.step)
 
     abbrev a : CreateSessionResponse
     a = session_response a2.mid q a2.made.control a2.made.user a2.made.address
@@ -263,7 +290,9 @@ module _ (serving packet : Config) (serving_counter packet_counter : ℕ) (event
     answered_node = d2.moved.grown.node ∙ a2.node ∙ ap (λ (f : Effect). f.node) go2.gives
 
     answered_history : answered.history ≡ (w.history ++ signed Serving (Create_session_request q ∷ [])) ++ signed Packet said
-    answered_history = d2.moved.history ∙ (λ i. begun_history i ++ signed Packet (messages ((a2.sent ∙ ap (λ (f : Effect). f.out.sent) go2.gives) i))) ∙ ap (λ l. (w.history ++ signed Serving (Create_session_request q ∷ [])) ++ signed Packet l) (append-nil said)
+    answered_history =
+        d2.moved.history ∙ (λ i. begun_history i ++ signed Packet (messages ((a2.sent ∙ ap (λ (f : Effect). f.out.sent) go2.gives) i)))
+        ∙ ap (λ l. (w.history ++ signed Serving (Create_session_request q ∷ [])) ++ signed Packet l) (append-nil said)
 
     answered_list : answered.datagrams ≡ (w.datagrams ++ signed Serving ((Create_session_request q ∷ []) ∷ [])) ++ signed Packet (said ∷ [])
     answered_list = d2.moved.grown.listed ∙ (λ i. begun_list i ++ signed Packet (datagrams ((a2.sent ∙ ap (λ (f : Effect). f.out.sent) go2.gives) i)))
@@ -271,7 +300,9 @@ module _ (serving packet : Config) (serving_counter packet_counter : ℕ) (event
     -- the answer comes
     d3 : Delivers answered Packet said opened
     d3 = delivered_so answered Packet said (1 + length w.datagrams) opened
-        (ap (λ n. slice_get answered.datagrams n) (one_longer w.datagrams _) ∙ ap (λ ds. slice_get ds (length (w.datagrams ++ signed Serving ((Create_session_request q ∷ []) ∷ [])))) answered_list ∙ at_end (w.datagrams ++ signed Serving ((Create_session_request q ∷ []) ∷ [])) _)
+        (ap (λ n. slice_get answered.datagrams n) (one_longer w.datagrams _)
+        ∙ ap (λ ds. slice_get ds (length (w.datagrams ++ signed Serving ((Create_session_request q ∷ []) ∷ [])))) answered_list
+        ∙ at_end (w.datagrams ++ signed Serving ((Create_session_request q ∷ []) ∷ [])) _)
         h3
 
     same3 : answered.serving.node ≡ e1.node
@@ -288,10 +319,31 @@ module _ (serving packet : Config) (serving_counter packet_counter : ℕ) (event
 
     module _ (answer_new : IsUnsent Packet (Create_session_response a)) where
       waits : Waits e1.node q
-      waits = record { request = get-insert_same w.serving.node.pending r1.number (waiting_for q); session = get-insert_same w.serving.node.sessions r1.control (pending_session q); bearer = get-insert_same w.serving.node.bearers r1.user (pending_bearer r1.control q) }
+      waits =
+          record {
+            request = get-insert_same w.serving.node.pending r1.number (waiting_for q);
+            session = get-insert_same w.serving.node.sessions r1.control (pending_session q);
+            bearer = get-insert_same w.serving.node.bearers r1.user (pending_bearer r1.control q);
+          }
 
       opens_by : OpensBy a q a2.made.address
-      opens_by = record { number = refl; header = refl; accepts = accepts_cause spec.pdn a2.made.address; context = record { identity = q.context.identity; cause = cause_of 16; user = Some (tunnel_end 5 a2.made.user a2.mid.config.own.user); qos = Some q.context.qos; charging = Some a2.made.user }; alone = refl; default = refl; both = record { low = omega arith; high = omega arith }; given = address_back 64 a2.made.address a2.made.given.some_part }
+      opens_by =
+          record {
+            number = refl;
+            header = refl;
+            accepts = accepts_cause spec.pdn a2.made.address;
+            context = record {
+              identity = q.context.identity;
+              cause = cause_of 16;
+              user = Some (tunnel_end 5 a2.made.user a2.mid.config.own.user);
+              qos = Some q.context.qos;
+              charging = Some a2.made.user;
+            };
+            alone = refl;
+            default = refl;
+            both = record { low = omega arith; high = omega arith };
+            given = address_back 64 a2.made.address a2.made.given.some_part;
+          }
 
       abbrev at_serving : Session
       at_serving = opened_session (pending_session q) a a2.made.address
@@ -306,7 +358,9 @@ module _ (serving packet : Config) (serving_counter packet_counter : ℕ) (event
       bearer_at_packet = made_bearer q a2.made.control
 
       abbrev Added : Type 0
-      Added = IsAdded (template_for q.access_point a2.mid.config.templates) asked a (session_cause spec.pdn a2.made.address) a2.made.control at_packet (session_made a2.mid q a2.made.control a2.made.user a2.made.address) a2.taken
+      Added =
+          IsAdded (template_for q.access_point a2.mid.config.templates) asked a (session_cause spec.pdn a2.made.address) a2.made.control at_packet
+          (session_made a2.mid q a2.made.control a2.made.user a2.made.address) a2.taken
 
       -- the request of the template's bearer
       abbrev wanted : Added → CreateBearerRequest
@@ -333,8 +387,12 @@ module _ (serving packet : Config) (serving_counter packet_counter : ℕ) (event
         pub outcome : CameTo opened (Came_to Opened)
 
       -- the gateway takes the answer
-      opens_so : (request : Arrival) (e : Effect) → request.source.ip ≡ w.serving.node.config.peer.control → IsNew e1.node request → Step Serving e1.node (Control_came request (Control_message (Create_session_response a))) e → IsOpened a q a2.made.address e1.node e
-      opens_so request e peer new step = is_opened_by request a q a2.made.address a2.mid.counter e1.node e peer new refl (not_earlier w.packet Packet w.history w.serving.node.known w.serving.seen a2.mid.counter inv.packet.draws inv.serving.hearing a2.ready.counter) waits opens_by step
+      opens_so : (request : Arrival) (e : Effect) → request.source.ip ≡ w.serving.node.config.peer.control → IsNew e1.node request
+          → Step Serving e1.node (Control_came request (Control_message (Create_session_response a))) e → IsOpened a q a2.made.address e1.node e
+      opens_so request e peer new step =
+          is_opened_by request a q a2.made.address a2.mid.counter e1.node e peer new refl
+          (not_earlier w.packet Packet w.history w.serving.node.known w.serving.seen a2.mid.counter inv.packet.draws inv.serving.hearing
+          a2.ready.counter) waits opens_by step
 
       session_in : (e : Effect) (o : IsOpened a q a2.made.address e1.node e) → get e.node.sessions r1.control ≡ Some at_serving
       session_in e o = ap (λ (n : Node). get n.sessions r1.control) o.node ∙ get-insert_same o.mid.sessions r1.control at_serving
@@ -369,18 +427,37 @@ module _ (serving packet : Config) (serving_counter packet_counter : ℕ) (event
 
       third_both : (x : Added) → go2.more ≡ Create_bearer_request (wanted x) ∷ [] → IsThird
       third_both x more =
-          let t = brought_apart answered a (wanted x) opened (from_peer ∙ ap (λ (n : Node). n.config.peer.control) (sym same3)) (subst (λ more. Delivers answered Packet (Create_session_response a ∷ more) opened) more d3) in
+          let t =
+          brought_apart answered a (wanted x) opened (from_peer ∙ ap (λ (n : Node). n.config.peer.control) (sym same3))
+          (subst (λ more. Delivers answered Packet (Create_session_response a ∷ more) opened) more d3) in
           let from = answered.packet.node.config.own in
-          let o = opens_so (come_from from (announcing (Create_session_response a))) t.effect from_peer new (subst (λ n. Step Serving n (first_came from (Create_session_response a)) t.effect) same3 t.step) in
-          let is = asked_second (arrival from (Create_bearer_request (wanted x))) (wanted x) at_serving t.effect.node t.next (from_peer ∙ ap (λ (c : Config). c.peer.control) (sym (config_in t.effect o))) (session_in t.effect o) refl refl refl t.follows in
+          let o =
+          opens_so (come_from from (announcing (Create_session_response a))) t.effect from_peer new
+          (subst (λ n. Step Serving n (first_came from (Create_session_response a)) t.effect) same3 t.step) in
+          let is =
+          asked_second (arrival from (Create_bearer_request (wanted x))) (wanted x) at_serving t.effect.node t.next
+          (from_peer ∙ ap (λ (c : Config). c.peer.control) (sym (config_in t.effect o))) (session_in t.effect o) refl refl refl t.follows in
           record {
             session = ap (λ (n : Node). get n.sessions r1.control) t.node ∙ ap (λ m. get m r1.control) is.sessions ∙ session_in t.effect o;
-            bearer = ap (λ (n : Node). get n.bearers r1.user) t.node ∙ is.bearers r1.user bearer_at_serving (subst (Among r1.user) (sym (ap (λ (n : Node). n.drawn) o.node ∙ o.ready.drawn)) (inl refl)) (bearer_in t.effect o);
+            bearer =
+                ap (λ (n : Node). get n.bearers r1.user) t.node
+                ∙ is.bearers r1.user bearer_at_serving (subst (Among r1.user) (sym (ap (λ (n : Node). n.drawn) o.node ∙ o.ready.drawn)) (inl refl))
+                (bearer_in t.effect o);
             config = ap (λ (n : Node). n.config) t.node ∙ is.config ∙ config_in t.effect o;
             there = t.elsewhere ∙ answered_node;
             extra = messages t.next.out.sent;
-            history = t.history ∙ (λ i. (answered.history ++ signed Serving (o.sent i)) ++ signed Serving (messages t.next.out.sent)) ∙ ap (λ h. h ++ signed Serving (messages t.next.out.sent)) (append-nil answered.history);
-            granted = λ m among. record { added = x; old = t.effect.node; counter = ap (λ (n : Node). n.counter) o.node ∙ o.ready.counter; config = config_in t.effect o; held = ap (λ (n : Node). n.held) o.node ∙ o.ready.held; says = is.says m among };
+            history =
+                t.history ∙ (λ i. (answered.history ++ signed Serving (o.sent i)) ++ signed Serving (messages t.next.out.sent))
+                ∙ ap (λ h. h ++ signed Serving (messages t.next.out.sent)) (append-nil answered.history);
+            granted =
+                λ m among. record {
+                  added = x;
+                  old = t.effect.node;
+                  counter = ap (λ (n : Node). n.counter) o.node ∙ o.ready.counter;
+                  config = config_in t.effect o;
+                  held = ap (λ (n : Node). n.held) o.node ∙ o.ready.held;
+                  says = is.says m among;
+                };
             outcome = subst (CameTo opened) o.outcome t.note;
           }
         where
@@ -420,8 +497,45 @@ module _ (serving packet : Config) (serving_counter packet_counter : ℕ) (event
         of = refl;
         of_there = refl;
         identity = refl;
-        up = carries opened Serving r1.user a2.made.user (record { here = bearer_at_serving; stands = third.bearer; active = refl; unended = refl; remote = refl; session = at_serving; of = third.session; at = bearer_at_packet; stands_there = bearer_stands_there; active_there = refl; unended_there = refl; session_there = at_packet; of_there = session_stands_there; subscriber = refl; identity = refl; path = ap (λ (c : Config). c.peer) packet_config ∙ path.back ∙ ap (λ (c : Config). c.own) (sym third.config) });
-        down = carries opened Packet a2.made.user r1.user (record { here = bearer_at_packet; stands = bearer_stands_there; active = refl; unended = refl; remote = refl; session = at_packet; of = session_stands_there; at = bearer_at_serving; stands_there = third.bearer; active_there = refl; unended_there = refl; session_there = at_serving; of_there = third.session; subscriber = refl; identity = refl; path = ap (λ (c : Config). c.peer) third.config ∙ path.there ∙ ap (λ (c : Config). c.own) (sym packet_config) });
+        up =
+            carries opened Serving r1.user a2.made.user (record {
+              here = bearer_at_serving;
+              stands = third.bearer;
+              active = refl;
+              unended = refl;
+              remote = refl;
+              session = at_serving;
+              of = third.session;
+              at = bearer_at_packet;
+              stands_there = bearer_stands_there;
+              active_there = refl;
+              unended_there = refl;
+              session_there = at_packet;
+              of_there = session_stands_there;
+              subscriber = refl;
+              identity = refl;
+              path = ap (λ (c : Config). c.peer) packet_config ∙ path.back ∙ ap (λ (c : Config). c.own) (sym third.config);
+            });
+        down =
+            carries opened Packet a2.made.user r1.user
+            (record {
+              here = bearer_at_packet;
+              stands = bearer_stands_there;
+              active = refl;
+              unended = refl;
+              remote = refl;
+              session = at_packet;
+              of = session_stands_there;
+              at = bearer_at_serving;
+              stands_there = third.bearer;
+              active_there = refl;
+              unended_there = refl;
+              session_there = at_serving;
+              of_there = third.session;
+              subscriber = refl;
+              identity = refl;
+              path = ap (λ (c : Config). c.peer) third.config ∙ path.there ∙ ap (λ (c : Config). c.own) (sym packet_config);
+            });
       }
 
       no_bearer : (role : Role) (t : ℕ) → IsFree (side_of w role).node t → (b : Bearer) → get (side_of w role).node.bearers t ≡ Some b → ⊥
@@ -493,10 +607,15 @@ module _ (serving packet : Config) (serving_counter packet_counter : ℕ) (event
     request_apart = unsent Serving (Create_session_request q) r1.control refl request_reads (inl refl) r1.control_free
 
     answer_reads : ReadsAs (plane_of (Create_session_response (a request_apart))) (spelled (Create_session_response (a request_apart))) (Create_session_response (a request_apart))
-    answer_reads = reads Packet (Create_session_response (a request_apart)) (subst (λ h. HasSent h Packet (Create_session_response (a request_apart))) (sym (answered_history request_apart)) (Among-right _ (w.history ++ signed Serving (Create_session_request q ∷ [])) (signed Packet (said request_apart)) (inl refl)))
+    answer_reads =
+        reads Packet (Create_session_response (a request_apart))
+        (subst (λ h. HasSent h Packet (Create_session_response (a request_apart))) (sym (answered_history request_apart))
+        (Among-right _ (w.history ++ signed Serving (Create_session_request q ∷ [])) (signed Packet (said request_apart)) (inl refl)))
 
     answer_apart : IsUnsent Packet (Create_session_response (a request_apart))
-    answer_apart = unsent Packet (Create_session_response (a request_apart)) (a2 request_apart).made.control refl answer_reads (inl refl) (free_before request_apart (a2 request_apart).made.control (a2 request_apart).made.control_free)
+    answer_apart =
+        unsent Packet (Create_session_response (a request_apart)) (a2 request_apart).made.control refl answer_reads (inl refl)
+        (free_before request_apart (a2 request_apart).made.control (a2 request_apart).made.control_free)
 
     by_reading : Exchanged spec w begun answered opened
     by_reading = exchanged request_apart answer_apart
@@ -520,13 +639,17 @@ module _ (serving packet : Config) (serving_counter packet_counter : ℕ) (event
     type_is = asked_type (heard_by w.packet.node w.serving.node.counter) spec.pdn can.give
 
     request_is : IsSendable (Create_session_request q)
-    request_is = request_sendable w.serving.node spec r1.control r1.user r1.number serving_is specified can.identity type_is (counter_small w.serving Serving w.history inv.serving.draws) control_small user_small number_small
+    request_is =
+        request_sendable w.serving.node spec r1.control r1.user r1.number serving_is specified can.identity type_is
+        (counter_small w.serving Serving w.history inv.serving.draws) control_small user_small number_small
 
     request_differs : IsUnsent Serving (Create_session_request q)
     request_differs m sent control text =
         let like = request_like m q control text in
         let was = subst (λ k. HasSent w.history Serving k) like.is sent in
-        let short = request_short w.serving.node spec r1.control r1.user r1.number serving_is specified can.identity type_is (counter_small w.serving Serving w.history inv.serving.draws) control_small user_small number_small in
+        let short =
+        request_short w.serving.node spec r1.control r1.user r1.number serving_is specified can.identity type_is
+        (counter_small w.serving Serving w.history inv.serving.draws) control_small user_small number_small in
         let small = owned_small w.serving Serving w.history inv.serving.draws (Create_session_request like.one) like.one.control.teid was (inl refl) in
         let same = same_request_teid like.one q (omega (arith, short)) small control_small like.after in
         unowned w.serving Serving w.history inv.serving.draws (Create_session_request like.one) r1.control was (inl (sym same)) r1.control_free
@@ -556,13 +679,19 @@ module _ (serving packet : Config) (serving_counter packet_counter : ℕ) (event
     address_is = given_written at.mid mid_is spec.pdn at.made.address at.made.given
 
     response_is : IsSendable (Create_session_response now)
-    response_is = response_sendable w.serving.node spec r1.control r1.user r1.number serving_is specified can.identity type_is (counter_small w.serving Serving w.history inv.serving.draws) control_small user_small number_small at.mid at.made.control at.made.user at.made.address mid_is mid_counter_small control_there_small user_there_small address_is
+    response_is =
+        response_sendable w.serving.node spec r1.control r1.user r1.number serving_is specified can.identity type_is
+        (counter_small w.serving Serving w.history inv.serving.draws) control_small user_small number_small at.mid at.made.control at.made.user
+        at.made.address mid_is mid_counter_small control_there_small user_there_small address_is
 
     response_differs : IsUnsent Packet (Create_session_response now)
     response_differs m sent control text =
         let like = response_like m now control text in
         let was = subst (λ k. HasSent w.history Packet k) like.is sent in
-        let short = response_short w.serving.node spec r1.control r1.user r1.number serving_is specified can.identity type_is (counter_small w.serving Serving w.history inv.serving.draws) control_small user_small number_small at.mid at.made.control at.made.user at.made.address mid_is mid_counter_small control_there_small user_there_small address_is in
+        let short =
+        response_short w.serving.node spec r1.control r1.user r1.number serving_is specified can.identity type_is
+        (counter_small w.serving Serving w.history inv.serving.draws) control_small user_small number_small at.mid at.made.control at.made.user
+        at.made.address mid_is mid_counter_small control_there_small user_there_small address_is in
         let names = same_response_teid like.one now (tunnel_end 7 at.made.control at.mid.config.own.control) refl (omega (arith, short)) control_there_small like.after in
         let owns = ap teid_in names.control in
         let small = owned_small w.packet Packet w.history inv.packet.draws (Create_session_response like.one) names.end.teid was (inl owns) in
@@ -578,7 +707,9 @@ module _ (serving packet : Config) (serving_counter packet_counter : ℕ) (event
     asked_for x = wanted request_differs response_differs x
 
     added_free : (x : Adds) → IsFree w.packet.node x.adds.user
-    added_free x = free_before request_differs x.adds.user (record { counted = x.adds.user_free.counted; numbered = x.adds.user_free.numbered; undrawn = λ stood. x.adds.user_free.undrawn (inr (inr stood)) })
+    added_free x =
+        free_before request_differs x.adds.user (record
+        { counted = x.adds.user_free.counted; numbered = x.adds.user_free.numbered; undrawn = λ stood. x.adds.user_free.undrawn (inr (inr stood)) })
 
     added_small : (x : Adds) → x.adds.user < 2 ^ 32
     added_small x = free_small w.packet Packet w.history inv.packet.draws x.adds.user (added_free x)
@@ -589,7 +720,8 @@ module _ (serving packet : Config) (serving_counter packet_counter : ℕ) (event
     wanted_is : (x : Adds) → IsSendable (Create_bearer_request (asked_for x))
     wanted_is x =
         let t = found_template IsTemplate spec.subscriber.access_point at.mid.config.templates x.template mid_is.templates x.is in
-        wanted_sendable r1.control x.adds.number spec.subscriber.identity x.template.tft x.template.qos x.adds.user at.mid.config.own.user control_small (added_number x) can.identity t.short t.octets t.qos (added_small x) mid_is.user
+        wanted_sendable r1.control x.adds.number spec.subscriber.identity x.template.tft x.template.qos x.adds.user at.mid.config.own.user
+        control_small (added_number x) can.identity t.short t.octets t.qos (added_small x) mid_is.user
 
     -- each message of the answer's datagram can be sent
     said_is : (m : Message) → Among m (said request_differs) → IsSendable m
@@ -611,8 +743,15 @@ module _ (serving packet : Config) (serving_counter packet_counter : ℕ) (event
 
         by : SaysSo (asked_for g.added) (at_serving request_differs response_differs) g.old m → HasSent w.history Serving m ⊎ IsSendable m
         by (inl h) = inl ((inv.serving.knows.held h.0 (subst (Among h.0) g.held h.1)).each m h.2)
-        by (inr (inl is)) = inr (subst IsSendable (sym is) (refusal_sendable at.made.control g.added.adds.number g.old.counter g.added.adds.user at.mid.config.own.user control_there_small (added_number g.added) counter (added_small g.added) mid_is.user))
-        by (inr (inr (user, identity, free, range, is))) = inr (subst IsSendable (sym is) (grant_sendable at.made.control g.added.adds.number g.old.counter g.added.adds.user at.mid.config.own.user control_there_small (added_number g.added) counter (added_small g.added) mid_is.user identity user g.old.config.own.user range (start_small user (w.serving.first + w.serving.restarts) (free.counted ∙ g.counter ∙ inv.serving.draws.counter)) own))
+        by (inr (inl is)) =
+            inr (subst IsSendable (sym is)
+            (refusal_sendable at.made.control g.added.adds.number g.old.counter g.added.adds.user at.mid.config.own.user control_there_small
+            (added_number g.added) counter (added_small g.added) mid_is.user))
+        by (inr (inr (user, identity, free, range, is))) =
+            inr (subst IsSendable (sym is)
+            (grant_sendable at.made.control g.added.adds.number g.old.counter g.added.adds.user at.mid.config.own.user control_there_small
+            (added_number g.added) counter (added_small g.added) mid_is.user identity user g.old.config.own.user range
+            (start_small user (w.serving.first + w.serving.restarts) (free.counted ∙ g.counter ∙ inv.serving.draws.counter)) own))
 
     each_sendable : (role : Role) (m : Message) → HasSent opened.history role m → HasSent w.history role m ⊎ IsSendable m
     each_sendable role m sent = elim (sent_now request_differs response_differs role m sent) [
@@ -627,12 +766,16 @@ module _ (serving packet : Config) (serving_counter packet_counter : ℕ) (event
     ]
 
 -- where each message that was sent reads as itself, whatever it carries
-pub fair_exchange : (serving packet : Config) (serving_counter packet_counter : ℕ) (events : List Event) (w begun answered opened : World) (spec : Specification) → Run (start serving packet serving_counter packet_counter) events w → IsOnePath w.serving.node.config w.packet.node.config → CanExchange w spec
-    → Happens w (Does Serving (Create_session spec)) begun → Happens begun (Deliver (length w.datagrams)) answered → Happens answered (Deliver (1 + length w.datagrams)) opened → AllRead answered → Exchanged spec w begun answered opened
+pub fair_exchange : (serving packet : Config) (serving_counter packet_counter : ℕ) (events : List Event) (w begun answered opened : World) (spec : Specification)
+    → Run (start serving packet serving_counter packet_counter) events w → IsOnePath w.serving.node.config w.packet.node.config → CanExchange w spec
+    → Happens w (Does Serving (Create_session spec)) begun → Happens begun (Deliver (length w.datagrams)) answered
+    → Happens answered (Deliver (1 + length w.datagrams)) opened → AllRead answered → Exchanged spec w begun answered opened
 fair_exchange serving packet sc pc events w begun answered opened spec r path can h1 h2 h3 reads = by_reading serving packet sc pc events w begun answered opened spec r path can h1 h2 h3 reads
 
 pub exchange_made : FairExchange
-exchange_made serving packet sc pc events w begun answered opened spec r x = in_range serving packet sc pc events w begun answered opened spec r x.path x.can x.begins x.comes x.opens x.serving x.packet x.specified
+exchange_made serving packet sc pc events w begun answered opened spec r x =
+    in_range serving packet sc pc events w begun answered opened spec r x.path x.can x.begins x.comes x.opens x.serving x.packet x.specified
 
 pub exchange_sendable : ExchangeSendable
-exchange_sendable serving packet sc pc events w begun answered opened spec r x = each_sendable serving packet sc pc events w begun answered opened spec r x.path x.can x.begins x.comes x.opens x.serving x.packet x.specified
+exchange_sendable serving packet sc pc events w begun answered opened spec r x =
+    each_sendable serving packet sc pc events w begun answered opened spec r x.path x.can x.begins x.comes x.opens x.serving x.packet x.specified

@@ -9,7 +9,8 @@ use Rattle.gtp_machine.proofs.Determined.Chosen.{one_cause}
 use Rattle.gtp_machine.proofs.Octets.Spelled.{spelled_reads}
 use Rattle.gtp_machine.proofs.Exchange.Nodes.{can_be_had}
 use Rattle.gtp_machine.proofs.Exchange.Made.{exchange_made}
-use Rattle.gtp_machine.proofs.Worlds.Beginning.{serving_config, packet_config, no_sessions, none_pending, w0, w1, w2, w3, spec, step1, step2, step3, at_start, only_v4, only_v6, both_versions, gives_v4, gives_v6, gives_both, gives_one_of_both}
+use Rattle.gtp_machine.proofs.Worlds.Beginning.{serving_config, packet_config, no_sessions, none_pending, w0, w1, w2, w3, spec, step1, step2, step3}
+use Rattle.gtp_machine.proofs.Worlds.Beginning.{at_start, only_v4, only_v6, both_versions, gives_v4, gives_v6, gives_both, gives_one_of_both}
 use Rattle.gtp_machine.proofs.Worlds.Sendable.{serving_is, packet_is, specified, session_request, session_response, among_sendable}
 
 pub sendable_read : SendableRead

@@ -72,19 +72,23 @@ pub nothing : IsAtMost [] 0
 nothing = record { few = omega arith; octets = none }
 
 -- an element, and what stands after it
-pub with_more : (kind instance most : ℕ) (body rest : List ℕ) (n : ℕ) → (kind < 256) × (instance < 256) → IsAtMost body most → IsAtMost rest n → IsAtMost (element_encoding kind instance body ++ rest) (4 + most + n)
+pub with_more : (kind instance most : ℕ) (body rest : List ℕ) (n : ℕ) → (kind < 256) × (instance < 256) → IsAtMost body most → IsAtMost rest n
+    → IsAtMost (element_encoding kind instance body ++ rest) (4 + most + n)
 with_more kind instance most body rest n head short more =
     let long = length-append body rest in
     record { few = omega (arith, long, short.few, more.few); octets = joined (element_encoding kind instance body) rest (element_octets kind instance body head.0 head.1 short.octets) more.octets }
 
 -- a group of them, and what stands after it
-pub group_more : (kind instance most : ℕ) (body rest : List ℕ) (n : ℕ) → (kind < 256) × (instance < 256) → IsAtMost body most → IsAtMost rest n → IsAtMost ((element_encoding kind instance body ++ []) ++ rest) (4 + most + n)
+pub group_more : (kind instance most : ℕ) (body rest : List ℕ) (n : ℕ) → (kind < 256) × (instance < 256) → IsAtMost body most → IsAtMost rest n
+    → IsAtMost ((element_encoding kind instance body ++ []) ++ rest) (4 + most + n)
 group_more kind instance most body rest n head short more =
     let last = length-append body [] in
     let long = length-append (body ++ []) rest in
     record {
       few = omega (arith, last, long, short.few, more.few);
-      octets = joined (element_encoding kind instance body ++ []) rest (joined (element_encoding kind instance body) [] (element_octets kind instance body head.0 head.1 short.octets) none) more.octets;
+      octets =
+          joined (element_encoding kind instance body ++ []) rest
+          (joined (element_encoding kind instance body) [] (element_octets kind instance body head.0 head.1 short.octets) none) more.octets;
     }
 
 -- ---- the bodies of its elements
@@ -100,8 +104,16 @@ pub end_short : (interface teid : ℕ) (ip : Ip) → interface < 64 → IsIp ip 
 unfolding encoding_of
 end_short interface teid (V4 octets) low is =
     let long = length-append octets [] in
-    record { few = omega (arith, long, is.0); octets = and (128 + interface) _ (omega (arith, low)) (joined (bytes_high_first 4 teid) (octets ++ []) (big 4 teid) (joined octets [] (record { each = is.1 }) none)) }
-end_short interface teid (V6 octets) low is = record { few = omega (arith, is.0); octets = and (64 + interface) _ (omega (arith, low)) (joined (bytes_high_first 4 teid) octets (big 4 teid) (record { each = is.1 })) }
+    record {
+      few = omega (arith, long, is.0);
+      octets = and (128 + interface) _ (omega (arith, low))
+          (joined (bytes_high_first 4 teid) (octets ++ []) (big 4 teid) (joined octets [] (record { each = is.1 }) none));
+    }
+end_short interface teid (V6 octets) low is =
+    record {
+      few = omega (arith, is.0);
+      octets = and (64 + interface) _ (omega (arith, low)) (joined (bytes_high_first 4 teid) octets (big 4 teid) (record { each = is.1 }));
+    }
 
 -- an address that can be written: of each version it has as many octets as it is to have
 pub record IsWritten (address : PdnAddress) : Type 0 where
@@ -124,8 +136,11 @@ given_v6 node is pdn (Some octets) part =
     let first : length prefix ≡ 8 = refl in
     let rest : length (drop 8 start) ≡ length start - 8 = length-drop 8 start in
     let long = length-append prefix (drop 8 start) in
-    let whole : length (prefix ++ drop 8 start) ≡ 16 = omega (arith, long, first, rest, is.v6.long) in
-    (subst (λ l. length l ≡ 16) (sym part.1.is) whole, subst AreOctets (sym part.1.is) (joined prefix (drop 8 start) (big 8 (prefix_of start + part.1.place)) (record { each = All-drop (λ octet. octet < 256) 8 start is.octets })))
+    let whole : length (prefix ++ drop 8 start) ≡ 16 = omega (arith, long, first, rest, is.v6.long) in (
+      subst (λ l. length l ≡ 16) (sym part.1.is) whole,
+      subst AreOctets (sym part.1.is)
+          (joined prefix (drop 8 start) (big 8 (prefix_of start + part.1.place)) (record { each = All-drop (λ octet. octet < 256) 8 start is.octets })),
+    )
 
 pub given_written : (node : Node) → IsConfigured node.config → (pdn : ℕ) (address : PdnAddress) → IsGiven node pdn address → IsWritten address
 given_written node is pdn address given =
@@ -150,13 +165,18 @@ allocates_both : (prefix : ℕ) (v6 v4 : List ℕ) → prefix < 256 → length v
 unfolding encoding_of
 allocates_both prefix v6 v4 small v6_long v6_are v4_long v4_are =
     let long = length-append v6 v4 in
-    record { short = record { few = omega (arith, long, v6_long, v4_long); octets = and 3 _ (omega arith) (and prefix (v6 ++ v4) small (joined v6 v4 v6_are v4_are)) }; again = v4v6_again prefix v6 v4 v6_long v4_long }
+    record {
+      short =
+          record { few = omega (arith, long, v6_long, v4_long); octets = and 3 _ (omega arith) (and prefix (v6 ++ v4) small (joined v6 v4 v6_are v4_are)) };
+      again = v4v6_again prefix v6 v4 v6_long v4_long;
+    }
 
 -- that of an address
 allocates : (address : PdnAddress) → IsWritten address → IsAllocation (allocation 64 address)
 allocates address written = by address.v4 address.v6 written.is.some_part written.is.v4 written.is.v6 written.v4 written.v6
   where
-    by : (v4 v6 : Option (List ℕ)) → IsTrue (is_some v4 || is_some v6) → IfSome v4 (λ octets. length octets ≡ 4) → IfSome v6 (λ octets. length octets ≡ 16) → IfSome v4 AreOctets → IfSome v6 AreOctets → IsAllocation (allocation_of 64 v4 v6)
+    by : (v4 v6 : Option (List ℕ)) → IsTrue (is_some v4 || is_some v6) → IfSome v4 (λ octets. length octets ≡ 4)
+        → IfSome v6 (λ octets. length octets ≡ 16) → IfSome v4 AreOctets → IfSome v6 AreOctets → IsAllocation (allocation_of 64 v4 v6)
     by (Some v4) None some v4_long v6_long v4_are v6_are = allocates_v4 v4 v4_long v4_are
     by None (Some v6) some v4_long v6_long v4_are v6_are = allocates_v6 64 v6 (omega arith) v6_long v6_are
     by (Some v4) (Some v6) some v4_long v6_long v4_are v6_are = allocates_both 64 v6 v4 (omega arith) v6_long v6_are v4_long v4_are
@@ -208,7 +228,9 @@ imsi_short digits is = let short = packed_short digits in record { few = omega (
 pub headed_octets : (kind teid number : ℕ) (rest : List ℕ) → kind < 256 → AreOctets rest → AreOctets (headed_encoding kind (Some teid) number None rest)
 headed_octets kind teid number rest small are = and 72 _ (omega arith) (and kind _ small (in_two (8 + length rest) _ (in_four teid _ (in_three number _ (and 0 rest (omega arith) are)))))
 
-module _ (node : Node) (spec : Specification) (control user number : ℕ) (configured : IsConfigured node.config) (specified : IsSpecified spec) (identity : IsIdentity spec.subscriber.identity) (known : (spec.pdn ≡ 1) ⊎ ((spec.pdn ≡ 2) ⊎ (spec.pdn ≡ 3))) (counter_small : node.counter < 256) (control_small : control < 2 ^ 32) (user_small : user < 2 ^ 32) (number_small : number < 2 ^ 24) where
+module _ (node : Node) (spec : Specification) (control user number : ℕ) (configured : IsConfigured node.config) (specified : IsSpecified spec)
+    (identity : IsIdentity spec.subscriber.identity) (known : (spec.pdn ≡ 1) ⊎ ((spec.pdn ≡ 2) ⊎ (spec.pdn ≡ 3))) (counter_small : node.counter < 256)
+    (control_small : control < 2 ^ 32) (user_small : user < 2 ^ 32) (number_small : number < 2 ^ 24) where
   abbrev q : CreateSessionRequest
   q = session_request node spec control user number
 
@@ -256,7 +278,9 @@ module _ (node : Node) (spec : Specification) (control user number : ℕ) (confi
           ⊗ pdn_type_again spec.pdn type_small
           ⊗ (asks_allocation spec.pdn).again
           ⊗ spelled_ambr spec.ambr specified.ambr
-          ⊗ alone (RowsHaveKinds session_request_context_rows) _ (ebi_again spec.subscriber.identity (identity_again spec.subscriber.identity identity) ⊗ spelled_qos spec.qos specified.qos ⊗ spelled_end 4 user node.config.own.user configured.user (omega arith) user_small ⊗ tt)
+          ⊗ alone (RowsHaveKinds session_request_context_rows) _
+          (ebi_again spec.subscriber.identity (identity_again spec.subscriber.identity identity) ⊗ spelled_qos spec.qos specified.qos ⊗ spelled_end 4
+          user node.config.own.user configured.user (omega arith) user_small ⊗ tt)
           ⊗ recovery_again node.counter
           ⊗ tt;
       marks = search rules;
@@ -266,7 +290,9 @@ module _ (node : Node) (spec : Specification) (control user number : ℕ) (confi
   }
 
   -- the answer
-  module _ (there : Node) (control_there user_there : ℕ) (address : PdnAddress) (configured_there : IsConfigured there.config) (counter_there_small : there.counter < 256) (control_there_small : control_there < 2 ^ 32) (user_there_small : user_there < 2 ^ 32) (written : IsWritten address) where
+  module _ (there : Node) (control_there user_there : ℕ) (address : PdnAddress) (configured_there : IsConfigured there.config)
+      (counter_there_small : there.counter < 256) (control_there_small : control_there < 2 ^ 32) (user_there_small : user_there < 2 ^ 32)
+      (written : IsWritten address) where
     -- with a cause of this value
     abbrev answer : ℕ → CreateSessionResponse
     answer value = record (session_response there q control_there user_there address) { cause = cause_of value }
@@ -282,7 +308,8 @@ module _ (node : Node) (spec : Specification) (control user number : ℕ) (confi
     created_short =
         with_more 73 0 100 (encoding_of (OfEbi spec.subscriber.identity)) _ 416 (search rules) (octet_short spec.subscriber.identity (omega (arith, identity.high)))
         (with_more 2 0 100 (encoding_of (OfCause (cause_of 16))) _ 312 (search rules) (cause_short 16 (omega arith))
-        (with_more 87 2 100 (encoding_of (OfFTeid (tunnel_end 5 user_there there.config.own.user))) _ 208 (search rules) (end_short 5 user_there there.config.own.user (omega arith) configured_there.user)
+        (with_more 87 2 100 (encoding_of (OfFTeid (tunnel_end 5 user_there there.config.own.user))) _ 208 (search rules)
+        (end_short 5 user_there there.config.own.user (omega arith) configured_there.user)
         (with_more 80 0 100 (encoding_of (OfQos spec.qos)) _ 104 (search rules) (qos_short spec.qos specified.qos)
         (with_more 94 0 100 (encoding_of (OfChargingId user_there)) [] 0 (search rules) (charging_short user_there) nothing))))
 
@@ -300,7 +327,8 @@ module _ (node : Node) (spec : Specification) (control user number : ℕ) (confi
     unfolding encoding_of value_encoding groups_encoding
     response_carried =
         with_more 2 0 100 (encoding_of (OfCause (cause_of (session_cause spec.pdn address)))) _ 841 (search rules) (cause_short (session_cause spec.pdn address) value_small)
-        (with_more 87 1 100 (encoding_of (OfFTeid (tunnel_end 7 control_there there.config.own.control))) _ 737 (search rules) (end_short 7 control_there there.config.own.control (omega arith) configured_there.control)
+        (with_more 87 1 100 (encoding_of (OfFTeid (tunnel_end 7 control_there there.config.own.control))) _ 737 (search rules)
+        (end_short 7 control_there there.config.own.control (omega arith) configured_there.control)
         (with_more 79 0 100 (encoding_of (OfPaa (allocation 64 address))) _ 633 (search rules) (allocates address written).short
         (with_more 72 0 100 (encoding_of (OfAmbr spec.ambr)) _ 529 (search rules) (ambr_short spec.ambr)
         (group_more 93 0 520 (rows_encoding session_response_context_rows (created_rows created)) _ 5 (search rules) created_short
@@ -320,7 +348,10 @@ module _ (node : Node) (spec : Specification) (control user number : ℕ) (confi
             ⊗ spelled_end 7 control_there there.config.own.control configured_there.control (omega arith) control_there_small
             ⊗ (allocates address written).again
             ⊗ spelled_ambr spec.ambr specified.ambr
-            ⊗ alone (RowsHaveKinds session_response_context_rows) _ (ebi_again spec.subscriber.identity (identity_again spec.subscriber.identity identity) ⊗ spelled_cause 16 ⊗ spelled_end 5 user_there there.config.own.user configured_there.user (omega arith) user_there_small ⊗ spelled_qos spec.qos specified.qos ⊗ charging_id_again user_there user_there_small ⊗ tt)
+            ⊗ alone (RowsHaveKinds session_response_context_rows) _
+            (ebi_again spec.subscriber.identity (identity_again spec.subscriber.identity identity) ⊗ spelled_cause 16 ⊗ spelled_end 5 user_there
+            there.config.own.user configured_there.user (omega arith) user_there_small ⊗ spelled_qos spec.qos specified.qos ⊗ charging_id_again
+            user_there user_there_small ⊗ tt)
             ⊗ recovery_again there.counter
             ⊗ tt;
         marks = ⊎_elim

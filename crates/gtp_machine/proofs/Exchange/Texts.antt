@@ -88,11 +88,15 @@ left_short c s short = let long = length-append c s in omega (arith, long, short
 
 -- Requests for a session with one encoding name one TEID.
 module _ (p q : CreateSessionRequest) (short : length (after_request q) < 65536) (small : p.control.teid < 2 ^ 32) (low : q.control.teid < 2 ^ 32) where
-  same_end : (r s : List ℕ) → length (element_encoding 87 0 (encoding_of (OfFTeid q.control)) ++ s) < 65536 → element_encoding 87 0 (encoding_of (OfFTeid p.control)) ++ r ≡ element_encoding 87 0 (encoding_of (OfFTeid q.control)) ++ s → p.control.teid ≡ q.control.teid
+  same_end : (r s : List ℕ) → length (element_encoding 87 0 (encoding_of (OfFTeid q.control)) ++ s) < 65536
+      → element_encoding 87 0 (encoding_of (OfFTeid p.control)) ++ r ≡ element_encoding 87 0 (encoding_of (OfFTeid q.control)) ++ s
+      → p.control.teid ≡ q.control.teid
   same_end r s room is = same_teid p.control q.control small low (same_element 87 0 (encoding_of (OfFTeid p.control)) (encoding_of (OfFTeid q.control)) r s (omega (arith, room)) is).0
 
   after_network : (m n : Option Network) (r s : List ℕ) → length (value_encoding 83 0 (where_there OfPlmn n) ++ (element_encoding 87 0 (encoding_of (OfFTeid q.control)) ++ s)) < 65536
-      → value_encoding 83 0 (where_there OfPlmn m) ++ (element_encoding 87 0 (encoding_of (OfFTeid p.control)) ++ r) ≡ value_encoding 83 0 (where_there OfPlmn n) ++ (element_encoding 87 0 (encoding_of (OfFTeid q.control)) ++ s) → p.control.teid ≡ q.control.teid
+      → value_encoding 83 0 (where_there OfPlmn m) ++ (element_encoding 87 0 (encoding_of (OfFTeid p.control)) ++ r)
+      ≡ value_encoding 83 0 (where_there OfPlmn n) ++ (element_encoding 87 0 (encoding_of (OfFTeid q.control)) ++ s)
+      → p.control.teid ≡ q.control.teid
   unfolding value_encoding
   after_network None None r s room is = same_end r s room is
   after_network None (Some n) r s room is = let kind : 87 ≡ 83 = ap opens_with is in absurd (omega (arith, kind))
@@ -112,10 +116,13 @@ module _ (p q : CreateSessionRequest) (short : length (after_request q) < 65536)
 -- what an answer says after its F-TEID of the control plane
 abbrev after_end : Option Paa → Option Ambr → List CreatedBearer → Option ℕ → List ℕ
 after_end address ambr contexts recovery =
-    value_encoding 79 0 (where_there OfPaa address) ++ (value_encoding 72 0 (where_there OfAmbr ambr) ++ (groups_encoding 93 0 session_response_context_rows (map created_rows contexts) ++ (value_encoding 3 0 (where_there OfRecovery recovery) ++ [])))
+    value_encoding 79 0 (where_there OfPaa address)
+    ++ (value_encoding 72 0 (where_there OfAmbr ambr) ++ (groups_encoding 93 0 session_response_context_rows (map created_rows contexts)
+    ++ (value_encoding 3 0 (where_there OfRecovery recovery) ++ [])))
 
 -- that is no F-TEID
-no_end : (address : Option Paa) (ambr : Option Ambr) (contexts : List CreatedBearer) (recovery : Option ℕ) (body s : List ℕ) → after_end address ambr contexts recovery ≡ element_encoding 87 1 body ++ s → ⊥
+no_end : (address : Option Paa) (ambr : Option Ambr) (contexts : List CreatedBearer) (recovery : Option ℕ) (body s : List ℕ)
+    → after_end address ambr contexts recovery ≡ element_encoding 87 1 body ++ s → ⊥
 unfolding value_encoding groups_encoding
 no_end (Some address) ambr contexts recovery body s is = let kind : 79 ≡ 87 = ap opens_with is in omega (arith, kind)
 no_end None (Some ambr) contexts recovery body s is = let kind : 72 ≡ 87 = ap opens_with is in omega (arith, kind)
@@ -129,14 +136,16 @@ pub record NamesTeid (x : CreateSessionResponse) (teid : ℕ) : Type 0 where
   pub control : x.control ≡ Some end
   pub same : end.teid < 2 ^ 32 → end.teid ≡ teid
 
-pub same_response_teid : (x a : CreateSessionResponse) (f : TunnelEnd) → a.control ≡ Some f → length (after_response a) < 65536 → f.teid < 2 ^ 32 → after_response x ≡ after_response a → NamesTeid x f.teid
+pub same_response_teid : (x a : CreateSessionResponse) (f : TunnelEnd) → a.control ≡ Some f → length (after_response a) < 65536 → f.teid < 2 ^ 32
+    → after_response x ≡ after_response a → NamesTeid x f.teid
 unfolding value_encoding
 same_response_teid x a f names short low is =
     let first = same_element 2 0 (encoding_of (OfCause x.cause)) (encoding_of (OfCause a.cause)) _ _ (omega (arith, short)) is in
     by_ends x.control a.control refl names (left_short (element_encoding 2 0 (encoding_of (OfCause a.cause))) _ short) first.1
   where
     by_ends : (e g : Option TunnelEnd) → x.control ≡ e → g ≡ Some f → length (value_encoding 87 1 (where_there OfFTeid g) ++ after_end a.address a.ambr a.contexts a.recovery) < 65536
-        → value_encoding 87 1 (where_there OfFTeid e) ++ after_end x.address x.ambr x.contexts x.recovery ≡ value_encoding 87 1 (where_there OfFTeid g) ++ after_end a.address a.ambr a.contexts a.recovery → NamesTeid x f.teid
+        → value_encoding 87 1 (where_there OfFTeid e) ++ after_end x.address x.ambr x.contexts x.recovery
+        ≡ value_encoding 87 1 (where_there OfFTeid g) ++ after_end a.address a.ambr a.contexts a.recovery → NamesTeid x f.teid
     by_ends e None at none room same = absurd (cc none)
     by_ends None (Some g) at some room same = absurd (no_end x.address x.ambr x.contexts x.recovery (encoding_of (OfFTeid g)) _ same)
     by_ends (Some e) (Some g) at some room same =

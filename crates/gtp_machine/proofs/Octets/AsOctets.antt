@@ -65,7 +65,8 @@ packed_octets (a ∷ b ∷ digits) are = and (16 * b + a) (packed digits) (omega
 pub imsi_octets : (digits : List ℕ) → IsImsi digits → AreOctets (packed digits)
 imsi_octets digits is = packed_octets digits (recursion_from_All (λ digit. digit < 10) digits is.decimal)
 
-codes_octets : (mcc mnc : List ℕ) → length mcc ≡ 3 → 2 ≤ length mnc → length mnc ≤ 3 → AllByRecursion (λ digit. digit < 10) mcc → AllByRecursion (λ digit. digit < 10) mnc → AreOctets (network_encoding (record { mcc = mcc; mnc = mnc }))
+codes_octets : (mcc mnc : List ℕ) → length mcc ≡ 3 → 2 ≤ length mnc → length mnc ≤ 3 → AllByRecursion (λ digit. digit < 10) mcc
+    → AllByRecursion (λ digit. digit < 10) mnc → AreOctets (network_encoding (record { mcc = mcc; mnc = mnc }))
 codes_octets (a ∷ b ∷ c ∷ []) (d ∷ e ∷ []) three least most country network =
     and _ _ (omega (arith, country.0, country.1.0)) (and _ _ (omega (arith, country.1.1.0)) (and _ [] (omega (arith, network.0, network.1.0)) none))
 codes_octets (a ∷ b ∷ c ∷ []) (d ∷ e ∷ f ∷ []) three least most country network =
@@ -79,7 +80,9 @@ codes_octets (a ∷ b ∷ c ∷ []) (d ∷ []) three least most country network 
 codes_octets (a ∷ b ∷ c ∷ []) (d ∷ e ∷ f ∷ g ∷ mnc) three least most country network = absurd (omega (arith, most))
 
 pub network_octets : (n : Network) → IsNetwork n → AreOctets (network_encoding n)
-network_octets n is = codes_octets n.mcc n.mnc is.country is.least is.most (recursion_from_All (λ digit. digit < 10) n.mcc is.country_digits) (recursion_from_All (λ digit. digit < 10) n.mnc is.network_digits)
+network_octets n is =
+    codes_octets n.mcc n.mnc is.country is.least is.most (recursion_from_All (λ digit. digit < 10) n.mcc is.country_digits)
+    (recursion_from_All (λ digit. digit < 10) n.mnc is.network_digits)
 
 label_octet_small : (octet : ℕ) → is_label_octet octet ≡ true → octet < 256
 label_octet_small octet h =

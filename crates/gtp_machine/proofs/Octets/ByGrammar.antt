@@ -15,7 +15,8 @@ use Rattle.gtp_user.specs.reading.Message as user_octets
 use Rattle.gtp_user.proofs.Messages as user
 use Rattle.gtp_user.proofs.Prefixes.{few_fail, fewer_fail}
 use Rattle.gtp_machine.specs.Input.{Control_fault, User_fault, User_message}
-use Rattle.gtp_machine.specs.Reading.{control_fault, control_reading_of, control_reading, cut_fault, user_reading_of, user_reading, IsReadOf, IsUserReadOf, ControlByGrammar, UserByGrammar, CutsRead, UserCutsRead, DecodedReads, UserDecodedReads}
+use Rattle.gtp_machine.specs.Reading.{control_fault, control_reading_of, control_reading, cut_fault, user_reading_of, user_reading, IsReadOf}
+use Rattle.gtp_machine.specs.Reading.{IsUserReadOf, ControlByGrammar, UserByGrammar, CutsRead, UserCutsRead, DecodedReads, UserDecodedReads}
 use Rattle.gtp_machine.proofs.Octets.ByName.{user_by_name}
 use Rattle.gtp_v2.specs.Body.{message_value}
 

@@ -21,7 +21,8 @@ use Rattle.gtp_v2.specs.DeleteBearerResponse.{removal_response_context_values}
 use Rattle.gtp_user.specs.declared.message.UserBody.{UserBody}
 use Rattle.gtp_user.specs.declared.message.UserBody.TheVariants as user_bodies
 use Rattle.gtp_user.specs.Message as user_messages
-use Rattle.gtp_machine.specs.Message.{Create_session_request, Create_session_response, Delete_session_request, Delete_session_response, Create_bearer_request, Create_bearer_response, Delete_bearer_request, Delete_bearer_response}
+use Rattle.gtp_machine.specs.Message.{Create_session_request, Create_session_response, Delete_session_request, Delete_session_response}
+use Rattle.gtp_machine.specs.Message.{Create_bearer_request, Create_bearer_response, Delete_bearer_request, Delete_bearer_response}
 use Rattle.gtp_machine.specs.Decoded.{number_of, end_in, qos_in, ambr_in, network_in, paa_in, first_in, requested, created, wanted, given, removed, contexts_in, row_in, list_in, message_of}
 use Rattle.gtp_machine.specs.Named.{requested_bearer, created_bearer, wanted_bearer, given_bearer, session_request_with, bearer_request_with, body_message, ControlByName}
 use Rattle.gtp_machine.specs.Reading.{header_in, removed_bearer, user_body_message, user_content_message, UserByName}
@@ -32,7 +33,8 @@ removed_read [] = refl
 removed_read (c ∷ cs) = λ i. removed_bearer c ∷ removed_read cs i
 
 -- what is written of an optional row is what it has
-optional : {A X : Type 0} (of : A → Value) (out : Value → Option X) (f : A → X) → ((a : A) → out (of a) ≡ Some (f a)) → (o : Option A) → first_in out (option_to_list (option_map of o)) ≡ option_map f o
+optional : {A X : Type 0} (of : A → Value) (out : Value → Option X) (f : A → X) → ((a : A) → out (of a) ≡ Some (f a)) → (o : Option A)
+    → first_in out (option_to_list (option_map of o)) ≡ option_map f o
 optional of out f each None = refl
 optional of out f each (Some a) = each a
 
@@ -96,7 +98,8 @@ module _ (m : decoded.Message) where
   body_read (bodies.EchoResponse e) = refl
   body_read (bodies.CreateSessionRequest q) = of_contexts q.contexts
     where
-      of_contexts : (contexts : List SessionRequestContext) → message_of (message_value (with (bodies.CreateSessionRequest (record q { contexts = contexts })))) ≡ session_request_with header m.seq q contexts
+      of_contexts : (contexts : List SessionRequestContext) → message_of (message_value (with (bodies.CreateSessionRequest (record q { contexts = contexts }))))
+          ≡ session_request_with header m.seq q contexts
       of_contexts [] = refl
       of_contexts (first ∷ further) = λ i. Create_session_request (record {
         header = header;
@@ -128,7 +131,8 @@ module _ (m : decoded.Message) where
   body_read (bodies.DeleteSessionResponse d) = λ i. Delete_session_response (record { header = header; number = m.seq; cause = d.cause; recovery = recovered d.recovery i })
   body_read (bodies.CreateBearerRequest r) = of_contexts r.contexts
     where
-      of_contexts : (contexts : List BearerRequestContext) → message_of (message_value (with (bodies.CreateBearerRequest (record r { contexts = contexts })))) ≡ bearer_request_with header m.seq r contexts
+      of_contexts : (contexts : List BearerRequestContext) → message_of (message_value (with (bodies.CreateBearerRequest (record r { contexts = contexts }))))
+          ≡ bearer_request_with header m.seq r contexts
       of_contexts [] = refl
       of_contexts (first ∷ further) = λ i. Create_bearer_request (record {
         header = header;
@@ -138,9 +142,31 @@ module _ (m : decoded.Message) where
         context = wanted_read first i;
         further = each_read bearer_request_context_values wanted wanted_bearer wanted_read further i;
       })
-  body_read (bodies.CreateBearerResponse x) = λ i. Create_bearer_response (record { header = header; number = m.seq; cause = x.cause; contexts = each_read bearer_response_context_values given given_bearer given_read x.contexts i; recovery = recovered x.recovery i })
-  body_read (bodies.DeleteBearerRequest d) = λ i. Delete_bearer_request (record { header = header; number = m.seq; linked = linked d.linked_ebi i; identities = each_read (λ e. OfEbi e.0) (λ v. unwrap_or (number_of v) 0) (λ e. e.0) (λ e. refl) d.ebis i })
-  body_read (bodies.DeleteBearerResponse d) = λ i. Delete_bearer_response (record { header = header; number = m.seq; cause = d.cause; linked = linked d.linked_ebi i; contexts = removed_read d.contexts i; recovery = recovered d.recovery i })
+  body_read (bodies.CreateBearerResponse x) =
+      λ i. Create_bearer_response (record {
+        header = header;
+        number = m.seq;
+        cause = x.cause;
+        contexts = each_read bearer_response_context_values given given_bearer given_read x.contexts i;
+        recovery = recovered x.recovery i;
+      })
+  body_read (bodies.DeleteBearerRequest d) =
+      λ i. Delete_bearer_request (record {
+        header = header;
+        number = m.seq;
+        linked = linked d.linked_ebi i;
+        identities = each_read (λ e. OfEbi e.0) (λ v. unwrap_or (number_of v) 0) (λ e. e.0) (λ e. refl) d.ebis i;
+      })
+  body_read (bodies.DeleteBearerResponse d) =
+      λ i. Delete_bearer_response
+      (record {
+        header = header;
+        number = m.seq;
+        cause = d.cause;
+        linked = linked d.linked_ebi i;
+        contexts = removed_read d.contexts i;
+        recovery = recovered d.recovery i;
+      })
   body_read other = refl
 
 pub control_by_name : ControlByName

@@ -13,7 +13,8 @@ use Rattle.gtp_v2.proofs.Pairs.{opened, few_unannounced, other_unannounced, data
 use Rattle.gtp_v2.proofs.Told as control
 use Rattle.gtp_machine.specs.Decoded.{message_of}
 use Rattle.gtp_machine.specs.Input.{ControlReading, Control_message}
-use Rattle.gtp_machine.specs.Reading.{control_reading, control_reading_of, Alone, announces, messages_read, datagram_fault, pair_reading_of, datagram_reading, IsDatagramReadOf, DatagramByGrammar, MessageReadsAlone, DatagramCutsRead}
+use Rattle.gtp_machine.specs.Reading.{control_reading, control_reading_of, Alone, announces, messages_read, datagram_fault, pair_reading_of}
+use Rattle.gtp_machine.specs.Reading.{datagram_reading, IsDatagramReadOf, DatagramByGrammar, MessageReadsAlone, DatagramCutsRead}
 use Rattle.gtp_machine.proofs.Octets.ByGrammar.{control_by_grammar, cuts_read}
 use Rattle.gtp_machine.proofs.Octets.Faults.{IsFault, fault_is}
 

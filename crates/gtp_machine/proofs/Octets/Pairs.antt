@@ -20,7 +20,10 @@ cut_number : (announced : Bool) (count front back : ℕ) → datagram_fault anno
 cut_number announced count front back = by_few announced (nat_lt count front) (nat_lt count 4) (count == front) (nat_lt (count - front) 4)
   where
     by_few : (announced within few whole more : Bool)
-        → datagram_fault announced (if within then (if few then faults.Short count else faults.Length (front - 4) (count - 4)) else (if whole then faults.BadPiggyback front else (if more then faults.Short (count - front) else faults.Length (back - 4) (count - front - 4)))) ≡ Control_fault (if within then (if few then short_number else length_number) else (if whole then number_of (faults.BadPiggyback front) else (if more then short_number else length_number)))
+        → datagram_fault announced (if within then (if few then faults.Short count else faults.Length (front - 4) (count - 4)) else
+        (if whole then faults.BadPiggyback front else (if more then faults.Short (count - front) else faults.Length (back - 4) (count - front - 4))))
+        ≡ Control_fault (if within then (if few then short_number else length_number) else
+        (if whole then number_of (faults.BadPiggyback front) else (if more then short_number else length_number)))
     by_few true true true whole more = refl
     by_few true true false whole more = refl
     by_few true false few true more = refl
@@ -35,7 +38,11 @@ cut_number announced count front back = by_few announced (nat_lt count front) (n
 pub pair_cuts_read : PairCutsRead
 pair_cuts_read octets front back a b count announced first second less =
     (datagram_by_grammar (take count octets) (Alone (Control_fault (pair_cut_fault count (length front))))).1
-    (inr (pair_prefix_fault count (length front) (length back), pair_prefixes_fail octets front back a b count announced first second less, ap (λ (r : ControlReading). Alone r) (sym (cut_number (reads.announces (take count octets)) count (length front) (length back)))))
+    (inr (
+      pair_prefix_fault count (length front) (length back),
+      pair_prefixes_fail octets front back a b count announced first second less,
+      ap (λ (r : ControlReading). Alone r) (sym (cut_number (reads.announces (take count octets)) count (length front) (length back))),
+    ))
 
 -- ---- what is sent
 
@@ -43,5 +50,9 @@ pub pair_spelled_reads : PairSpelledReads
 pair_spelled_reads a b a_sendable b_sendable a_control b_control =
     let first = spells_control a a_control a_sendable in
     let second = spells_control b b_control b_sendable in
-    let same : Both a b ≡ reads.messages_read (control_value a) (Some (control_value b)) = λ i. Both (sym (control_back a a_control a_sendable.own) i) (sym (control_back b b_control b_sendable.own) i) in
-    (announces (spelled a) (spelled b) (control_value a) first, (datagram_by_grammar (spelled_all (a ∷ b ∷ [])) (Both a b)).1 (inl (both (control_value a) (control_value b), read_again (spelled a) (spelled b) (control_value a) (control_value b) first second, same)))
+    let same : Both a b ≡ reads.messages_read (control_value a) (Some (control_value b)) =
+    λ i. Both (sym (control_back a a_control a_sendable.own) i) (sym (control_back b b_control b_sendable.own) i) in (
+      announces (spelled a) (spelled b) (control_value a) first,
+      (datagram_by_grammar (spelled_all (a ∷ b ∷ [])) (Both a b)).1
+          (inl (both (control_value a) (control_value b), read_again (spelled a) (spelled b) (control_value a) (control_value b) first second, same)),
+    )

@@ -24,7 +24,9 @@ fields_in (Fields fields) = fields
 fields_in (Raw octets) = []
 
 -- the fields of a message whose type has a table are those of its lines
-pub typed_lines : (kind : ℕ) (table : Table) (octets : List ℕ) (m : MessageValue) (fields : List Field) → ((h : Headed) (content : Content) → h.kind ≡ kind → CarriesBy (table_of h.kind) h content → CarriesBy (Some table) h content) → m.kind ≡ kind → m.content ≡ Fields fields → IsMessage octets m → (es : List Element) × LinesAre start table.lines es fields
+pub typed_lines : (kind : ℕ) (table : Table) (octets : List ℕ) (m : MessageValue) (fields : List Field)
+    → ((h : Headed) (content : Content) → h.kind ≡ kind → CarriesBy (table_of h.kind) h content → CarriesBy (Some table) h content) → m.kind ≡ kind
+    → m.content ≡ Fields fields → IsMessage octets m → (es : List Element) × LinesAre start table.lines es fields
 typed_lines kind table octets m fields has of says is =
     let h = is.0 in
     let content = is.2.0 in
@@ -47,13 +49,15 @@ reads_as t octets m is at =
 abbrev pub HasFirst : (MessageValue → List (List Value) → List (List (List Value)) → Message) → MessageValue → Type 0
 HasFirst request m = (first : List (List Value)) × (further : List (List (List Value))) × (message_of m ≡ request m first further) × (contexts_of m ≡ first ∷ further)
 
-pub create_session_request_read : (octets : List ℕ) (m : MessageValue) → IsMessage octets m → type_at m.kind ≡ Some types.CreateSessionRequest → HasFirst (λ m first further. Create_session_request (create_session_request_in m first further)) m
+pub create_session_request_read : (octets : List ℕ) (m : MessageValue) → IsMessage octets m → type_at m.kind ≡ Some types.CreateSessionRequest
+    → HasFirst (λ m first further. Create_session_request (create_session_request_in m first further)) m
 unfolding contexts_in
 create_session_request_read octets m is at =
     let c = has_context octets m is (ap always_has_context (type_kind m.kind types.CreateSessionRequest at)) in
     (c.0, c.1, reads_as types.CreateSessionRequest octets m is at ∙ ap (session_request_in m) c.2, c.2)
 
-pub create_bearer_request_read : (octets : List ℕ) (m : MessageValue) → IsMessage octets m → type_at m.kind ≡ Some types.CreateBearerRequest → HasFirst (λ m first further. Create_bearer_request (create_bearer_request_in m first further)) m
+pub create_bearer_request_read : (octets : List ℕ) (m : MessageValue) → IsMessage octets m → type_at m.kind ≡ Some types.CreateBearerRequest
+    → HasFirst (λ m first further. Create_bearer_request (create_bearer_request_in m first further)) m
 unfolding contexts_in
 create_bearer_request_read octets m is at =
     let c = has_context octets m is (ap always_has_context (type_kind m.kind types.CreateBearerRequest at)) in

@@ -16,11 +16,16 @@ use Rattle.gtp_user.specs.Message as user_messages
 use Rattle.gtp_user.specs.Datagram.{IsUserMessage}
 use Rattle.gtp_user.proofs.Again.{encoding_again}
 use Rattle.gtp_user.proofs.Messages as user
-use Rattle.gtp_machine.specs.Message.{CreatedBearer, WantedBearer, GivenBearer, Message, Echo_request, Echo_response, Create_session_request, Create_session_response, Delete_session_request, Delete_session_response, Create_bearer_request, Create_bearer_response, Delete_bearer_request, Delete_bearer_response, Other_control, Packet_data, End_marker, Error_indication, User_echo_request, User_echo_response, Supported_extensions, Other_user, Plane, Control, User, plane_of}
+use Rattle.gtp_machine.specs.Message.{CreatedBearer, WantedBearer, GivenBearer, Message, Echo_request, Echo_response, Create_session_request}
+use Rattle.gtp_machine.specs.Message.{Create_session_response, Delete_session_request, Delete_session_response, Create_bearer_request}
+use Rattle.gtp_machine.specs.Message.{Create_bearer_response, Delete_bearer_request, Delete_bearer_response, Other_control, Packet_data, End_marker}
+use Rattle.gtp_machine.specs.Message.{Error_indication, User_echo_request, User_echo_response, Supported_extensions, Other_user, Plane, Control, User}
+use Rattle.gtp_machine.specs.Message.{plane_of}
 use Rattle.gtp_machine.specs.Input.{ControlReading, Control_message, UserReading, User_message}
 use Rattle.gtp_machine.specs.Decoded.{row_in, list_in, contexts_in, number_of, end_in, qos_in, ambr_in, network_in, paa_in, first_in, requested, created, wanted, given, removed, message_of}
 use Rattle.gtp_machine.specs.Reading.{control_reading_of, user_message_of, user_reading_of}
-use Rattle.gtp_machine.specs.Spelling.{where_there, requested_rows, created_rows, wanted_rows, given_rows, removed_rows, control_value, user_value, spelled_on, spelled, IsOfOwnKind, MeetsOn, IsSendable, ReadsAs, SpelledReads, SpelledApart}
+use Rattle.gtp_machine.specs.Spelling.{where_there, requested_rows, created_rows, wanted_rows, given_rows, removed_rows, control_value, user_value}
+use Rattle.gtp_machine.specs.Spelling.{spelled_on, spelled, IsOfOwnKind, MeetsOn, IsSendable, ReadsAs, SpelledReads, SpelledApart}
 
 -- a row that may be absent is read again
 back : {X : Type 0} (is : X → Value) (out : Value → Option X) → ((x : X) → out (is x) ≡ Some x) → (o : Option X) → first_in out (where_there is o) ≡ o
@@ -33,7 +38,15 @@ each_back values read each [] = refl
 each_back values read each (x ∷ xs) = λ i. each x i ∷ each_back values read each xs i
 
 created_back : (c : CreatedBearer) → created (created_rows c) ≡ c
-created_back c = λ i. record { identity = c.identity; cause = c.cause; user = back OfFTeid end_in (λ e. refl) c.user i; qos = back OfQos qos_in (λ q. refl) c.qos i; charging = back OfChargingId number_of (λ n. refl) c.charging i }
+created_back c =
+    λ i.
+    record {
+      identity = c.identity;
+      cause = c.cause;
+      user = back OfFTeid end_in (λ e. refl) c.user i;
+      qos = back OfQos qos_in (λ q. refl) c.qos i;
+      charging = back OfChargingId number_of (λ n. refl) c.charging i;
+    }
 
 wanted_back : (c : WantedBearer) → wanted (wanted_rows c) ≡ c
 wanted_back c = λ i. record { identity = c.identity; tft = c.tft; user = c.user; qos = c.qos; charging = back OfChargingId number_of (λ n. refl) c.charging i }
@@ -83,11 +96,40 @@ control_back (Create_session_response a) plane own =
 control_back (Delete_session_request d) plane own = λ i. Delete_session_request (record { header = d.header; number = d.number; linked = linked_back d.linked i })
 control_back (Delete_session_response d) plane own = λ i. Delete_session_response (record { header = d.header; number = d.number; cause = d.cause; recovery = recovery_back d.recovery i })
 control_back (Create_bearer_request r) plane own =
-    λ i. Create_bearer_request (record { header = r.header; number = r.number; transaction = back OfPti number_of (λ n. refl) r.transaction i; linked = r.linked; context = wanted_back r.context i; further = each_back wanted_rows wanted wanted_back r.further i })
-control_back (Create_bearer_response x) plane own = λ i. Create_bearer_response (record { header = x.header; number = x.number; cause = x.cause; contexts = each_back given_rows given given_back x.contexts i; recovery = recovery_back x.recovery i })
-control_back (Delete_bearer_request d) plane own = λ i. Delete_bearer_request (record { header = d.header; number = d.number; linked = linked_back d.linked i; identities = each_back OfEbi (λ v. unwrap_or (number_of v) 0) (λ n. refl) d.identities i })
+    λ i. Create_bearer_request
+    (record {
+      header = r.header;
+      number = r.number;
+      transaction = back OfPti number_of (λ n. refl) r.transaction i;
+      linked = r.linked;
+      context = wanted_back r.context i;
+      further = each_back wanted_rows wanted wanted_back r.further i;
+    })
+control_back (Create_bearer_response x) plane own =
+    λ i. Create_bearer_response
+    (record {
+      header = x.header;
+      number = x.number;
+      cause = x.cause;
+      contexts = each_back given_rows given given_back x.contexts i;
+      recovery = recovery_back x.recovery i;
+    })
+control_back (Delete_bearer_request d) plane own =
+    λ i. Delete_bearer_request (record {
+      header = d.header;
+      number = d.number;
+      linked = linked_back d.linked i;
+      identities = each_back OfEbi (λ v. unwrap_or (number_of v) 0) (λ n. refl) d.identities i;
+    })
 control_back (Delete_bearer_response d) plane own =
-    λ i. Delete_bearer_response (record { header = d.header; number = d.number; cause = d.cause; linked = linked_back d.linked i; contexts = each_back removed_rows removed (λ c. refl) d.contexts i; recovery = recovery_back d.recovery i })
+    λ i. Delete_bearer_response (record {
+      header = d.header;
+      number = d.number;
+      cause = d.cause;
+      linked = linked_back d.linked i;
+      contexts = each_back removed_rows removed (λ c. refl) d.contexts i;
+      recovery = recovery_back d.recovery i;
+    })
 control_back (Other_control kind) plane own = absurd own
 control_back _ plane own = absurd (cc plane)
 
@@ -104,7 +146,8 @@ user_back _ plane own = absurd (cc plane)
 -- the octets of a message of this plane read as it
 reads_on : (p : Plane) (m : Message) → plane_of m ≡ p → IsOfOwnKind m → MeetsOn p m → ReadsAs p (spelled_on p m) m
 reads_on Control m plane own meets =
-    ap (λ k. Control_message k) (sym (control_back m plane own)) ∙ sym (ap control_reading_of ((control.message_decided (spelled_on Control m)).is (control_value m) (marked_again (control_value m) meets)))
+    ap (λ k. Control_message k) (sym (control_back m plane own))
+    ∙ sym (ap control_reading_of ((control.message_decided (spelled_on Control m)).is (control_value m) (marked_again (control_value m) meets)))
 reads_on User m plane own meets =
     ap (λ k. User_message k) (sym (user_back m plane own)) ∙ sym (ap user_reading_of ((user.message_decided (spelled_on User m)).is (user_value m) (encoding_again (user_value m) meets)))
 
@@ -159,8 +202,12 @@ same_plane m n m_sendable n_sendable plane text =
 by_planes : (p q : Plane) (m n : Message) → plane_of m ≡ p → plane_of n ≡ q → IsSendable m → IsSendable n → spelled m ≡ spelled n → m ≡ n
 by_planes Control Control m n m_plane n_plane m_sendable n_sendable text = same_plane m n m_sendable n_sendable (m_plane ∙ sym n_plane) text
 by_planes User User m n m_plane n_plane m_sendable n_sendable text = same_plane m n m_sendable n_sendable (m_plane ∙ sym n_plane) text
-by_planes Control User m n m_plane n_plane m_sendable n_sendable text = absurd (no_plane_twice (spelled m) (control_value m) (user_value n) (spells_control m m_plane m_sendable) (subst (λ octets. IsUserMessage octets (user_value n)) (sym text) (spells_user n n_plane n_sendable)))
-by_planes User Control m n m_plane n_plane m_sendable n_sendable text = absurd (no_plane_twice (spelled n) (control_value n) (user_value m) (spells_control n n_plane n_sendable) (subst (λ octets. IsUserMessage octets (user_value m)) text (spells_user m m_plane m_sendable)))
+by_planes Control User m n m_plane n_plane m_sendable n_sendable text =
+    absurd (no_plane_twice (spelled m) (control_value m) (user_value n) (spells_control m m_plane m_sendable)
+    (subst (λ octets. IsUserMessage octets (user_value n)) (sym text) (spells_user n n_plane n_sendable)))
+by_planes User Control m n m_plane n_plane m_sendable n_sendable text =
+    absurd (no_plane_twice (spelled n) (control_value n) (user_value m) (spells_control n n_plane n_sendable)
+    (subst (λ octets. IsUserMessage octets (user_value m)) text (spells_user m m_plane m_sendable)))
 
 pub spelled_apart : SpelledApart
 spelled_apart m n m_sendable n_sendable text = by_planes (plane_of m) (plane_of n) m n refl refl m_sendable n_sendable text

@@ -3,7 +3,9 @@ use Rattle.std.proofs.Common.{◌≡◌, ◌≢◌, ◌⊎◌, inl, inr, ⊎_eli
 use Rattle.std.specs.FinMap.{get, insert}
 use Rattle.gtp_values.specs.FiniteMap.{FiniteMap, Each}
 use Rattle.gtp_machine.specs.Element.{teid_in, address_of}
-use Rattle.gtp_machine.specs.Message.{CreateSessionRequest, CreateSessionResponse, CreateBearerRequest, CreateBearerResponse, Create_session_request, Create_session_response, Create_bearer_request, Create_bearer_response, subscriber_of, first_created, first_given, first_returned, first_identity}
+use Rattle.gtp_machine.specs.Message.{CreateSessionRequest, CreateSessionResponse, CreateBearerRequest, CreateBearerResponse, Create_session_request}
+use Rattle.gtp_machine.specs.Message.{Create_session_response, Create_bearer_request, Create_bearer_response, subscriber_of, first_created}
+use Rattle.gtp_machine.specs.Message.{first_given, first_returned, first_identity}
 use Rattle.gtp_machine.specs.Node.{Serving, Packet, Pending, Active, Closing, Session, Bearer, Default, Dedicated}
 use Rattle.gtp_machine.specs.World.{Sent, HasSent}
 use Rattle.gtp_machine.specs.Laws.{ClosesWhole}
@@ -131,18 +133,46 @@ pub record PacketContexts (history : List Sent) (sessions : FiniteMap Session) (
   pub bearers_made : Each (IsAtPacket history sessions) bearers
 
 -- what goes back to one goes back to the other
-IsAt-weaker : (First Second : ℕ → Bearer → Session → Type 0) → ((t : ℕ) (b : Bearer) (s : Session) → First t b s → Second t b s) → (sessions : FiniteMap Session) (bearers : FiniteMap Bearer) → Each (IsAt First sessions) bearers → Each (IsAt Second sessions) bearers
+IsAt-weaker : (First Second : ℕ → Bearer → Session → Type 0) → ((t : ℕ) (b : Bearer) (s : Session) → First t b s → Second t b s)
+    → (sessions : FiniteMap Session) (bearers : FiniteMap Bearer) → Each (IsAt First sessions) bearers → Each (IsAt Second sessions) bearers
 IsAt-weaker First Second goes sessions bearers each t b e = let at = each t b e in record { session = at.session; stands = at.stands; origin = goes t b at.session at.origin }
 
 module _ (before after : List Sent) (extends : Extends before after) where
   IsAsked-later : (t : ℕ) (s : Session) → IsAsked before t s → IsAsked after t s
-  IsAsked-later t s a = record { request = a.request; sent = extends.keeps Serving _ a.sent; control = a.control; subscriber = a.subscriber; opened = λ r e. let o = a.opened r e in search (extends.keeps) }
+  IsAsked-later t s a =
+      record {
+        request = a.request;
+        sent = extends.keeps Serving _ a.sent;
+        control = a.control;
+        subscriber = a.subscriber;
+        opened = λ r e. let o = a.opened r e in search (extends.keeps);
+      }
 
   IsAskedWith-later : (t : ℕ) (b : Bearer) (s : Session) → IsAskedWith before t b s → IsAskedWith after t b s
-  IsAskedWith-later t b s a = record { kind = a.kind; request = a.request; sent = extends.keeps Serving _ a.sent; user = a.user; control = a.control; identity = a.identity; opened = λ r e. let o = a.opened r e in search (extends.keeps) }
+  IsAskedWith-later t b s a =
+      record {
+        kind = a.kind;
+        request = a.request;
+        sent = extends.keeps Serving _ a.sent;
+        user = a.user;
+        control = a.control;
+        identity = a.identity;
+        opened = λ r e. let o = a.opened r e in search (extends.keeps);
+      }
 
   IsWanted-later : (t : ℕ) (b : Bearer) → IsWanted before t b → IsWanted after t b
-  IsWanted-later t b w = record { kind = w.kind; request = w.request; asked = extends.keeps Packet _ w.asked; user = w.user; made = w.made; answered = extends.keeps Packet _ w.answered; control = w.control; header = w.header; opened = λ r e. let g = w.opened r e in search (extends.keeps) }
+  IsWanted-later t b w =
+      record {
+        kind = w.kind;
+        request = w.request;
+        asked = extends.keeps Packet _ w.asked;
+        user = w.user;
+        made = w.made;
+        answered = extends.keeps Packet _ w.answered;
+        control = w.control;
+        header = w.header;
+        opened = λ r e. let g = w.opened r e in search (extends.keeps);
+      }
 
   pub ServingContexts-later : (sessions : FiniteMap Session) (bearers : FiniteMap Bearer) → ServingContexts before sessions bearers → ServingContexts after sessions bearers
   ServingContexts-later sessions bearers c = record {
@@ -193,7 +223,8 @@ pub record WasBearer (old : FiniteMap Bearer) (old_sessions new_sessions : Finit
 pub record Shrinks (old_sessions : FiniteMap Session) (old_bearers : FiniteMap Bearer) (new_sessions : FiniteMap Session) (new_bearers : FiniteMap Bearer) : Type 0 where
   pub sessions : (t : ℕ) (s : Session) → get new_sessions t ≡ Some s → WasSession old_sessions t s
   pub bearers : (t : ℕ) (b : Bearer) → get new_bearers t ≡ Some b → WasBearer old_bearers old_sessions new_sessions t b
-  pub closed : (t : ℕ) (b : Bearer) (s : Session) → get new_bearers t ≡ Some b → get new_sessions b.session ≡ Some s → s.state ≡ Closing → (b.state ≡ Closing) ⊎ ((o : Session) × (get old_sessions b.session ≡ Some o) × (o.state ≡ Closing))
+  pub closed : (t : ℕ) (b : Bearer) (s : Session) → get new_bearers t ≡ Some b → get new_sessions b.session ≡ Some s → s.state ≡ Closing
+      → (b.state ≡ Closing) ⊎ ((o : Session) × (get old_sessions b.session ≡ Some o) × (o.state ≡ Closing))
 
 pub IsSame-itself : (s : Session) → IsSame s s
 IsSame-itself s = record { remote = refl; subscriber = refl; address = refl; waits = λ h. h; waited = λ h. h }
@@ -201,7 +232,8 @@ IsSame-itself s = record { remote = refl; subscriber = refl; address = refl; wai
 pub IsSameBearer-itself : (b : Bearer) → IsSameBearer b b
 IsSameBearer-itself b = record { remote = refl; session = refl; identity = refl; kind = refl; active = λ h. h; closing = λ h. h }
 
-module _ (history : List Sent) (old_sessions : FiniteMap Session) (old_bearers : FiniteMap Bearer) (new_sessions : FiniteMap Session) (new_bearers : FiniteMap Bearer) (shrinks : Shrinks old_sessions old_bearers new_sessions new_bearers) where
+module _ (history : List Sent) (old_sessions : FiniteMap Session) (old_bearers : FiniteMap Bearer) (new_sessions : FiniteMap Session)
+    (new_bearers : FiniteMap Bearer) (shrinks : Shrinks old_sessions old_bearers new_sessions new_bearers) where
   asked_same : (t : ℕ) (old new : Session) → IsSame old new → IsAsked history t old → IsAsked history t new
   asked_same t old new same a = record {
     request = a.request;
@@ -215,12 +247,34 @@ module _ (history : List Sent) (old_sessions : FiniteMap Session) (old_bearers :
       opened_same o = record { answer = o.answer; sent = o.sent; header = o.header; remote = same.remote ∙ o.remote; address = same.address ∙ o.address }
 
   asked_with_same : (t : ℕ) (old new : Bearer) (s n : Session) → IsSameBearer old new → IsSame s n → IsAskedWith history t old s → IsAskedWith history t new n
-  asked_with_same t old new s n bearer session a = record { kind = cc; request = a.request; sent = a.sent; user = a.user; control = cc; identity = cc; opened = λ r e. let o = a.opened r (sym bearer.remote ∙ e) in grind arith }
+  asked_with_same t old new s n bearer session a =
+      record {
+        kind = cc;
+        request = a.request;
+        sent = a.sent;
+        user = a.user;
+        control = cc;
+        identity = cc;
+        opened = λ r e. let o = a.opened r (sym bearer.remote ∙ e) in grind arith;
+      }
 
   wanted_same : (t : ℕ) (old new : Bearer) → IsSameBearer old new → IsWanted history t old → IsWanted history t new
-  wanted_same t old new bearer w = record { kind = cc; request = w.request; asked = w.asked; user = w.user; made = w.made; answered = w.answered; control = cc; header = w.header; opened = λ r e. let g = w.opened r (sym bearer.remote ∙ e) in grind arith }
+  wanted_same t old new bearer w =
+      record {
+        kind = cc;
+        request = w.request;
+        asked = w.asked;
+        user = w.user;
+        made = w.made;
+        answered = w.answered;
+        control = cc;
+        header = w.header;
+        opened = λ r e. let g = w.opened r (sym bearer.remote ∙ e) in grind arith;
+      }
 
-  at_same : (Origin : ℕ → Bearer → Session → Type 0) → ((t : ℕ) (old new : Bearer) (s n : Session) → IsSameBearer old new → IsSame s n → Origin t old s → Origin t new n) → Each (IsAt Origin old_sessions) old_bearers → Each (IsAt Origin new_sessions) new_bearers
+  at_same : (Origin : ℕ → Bearer → Session → Type 0)
+      → ((t : ℕ) (old new : Bearer) (s n : Session) → IsSameBearer old new → IsSame s n → Origin t old s → Origin t new n)
+      → Each (IsAt Origin old_sessions) old_bearers → Each (IsAt Origin new_sessions) new_bearers
   at_same Origin goes each t b e =
       let was = shrinks.bearers t b e in
       let at = each t was.before was.stood in
@@ -241,21 +295,25 @@ module _ (history : List Sent) (old_sessions : FiniteMap Session) (old_bearers :
   }
 
 -- what shrinks still closes as a whole
-pub closes-shrinks : (old_sessions : FiniteMap Session) (old_bearers : FiniteMap Bearer) (new_sessions : FiniteMap Session) (new_bearers : FiniteMap Bearer) → Shrinks old_sessions old_bearers new_sessions new_bearers → ClosesWhole old_sessions old_bearers → ClosesWhole new_sessions new_bearers
+pub closes-shrinks : (old_sessions : FiniteMap Session) (old_bearers : FiniteMap Bearer) (new_sessions : FiniteMap Session) (new_bearers : FiniteMap Bearer)
+    → Shrinks old_sessions old_bearers new_sessions new_bearers → ClosesWhole old_sessions old_bearers → ClosesWhole new_sessions new_bearers
 closes-shrinks old_sessions old_bearers new_sessions new_bearers shrinks whole t b s b_at s_at closing = ⊎_elim
     (λ is. is)
     (λ stood. let was = shrinks.bearers t b b_at in was.same.closing (whole t was.before stood.0 was.stood (ap (λ k. get old_sessions k) (sym was.same.session) ∙ stood.1) stood.2))
     (shrinks.closed t b s b_at s_at closing)
 
 -- a session that is not closing comes, or takes the place of another
-pub closes-session : (sessions : FiniteMap Session) (bearers : FiniteMap Bearer) (key : ℕ) (n : Session) → (n.state ≡ Closing → ⊥) → ClosesWhole sessions bearers → ClosesWhole (insert sessions key n) bearers
+pub closes-session : (sessions : FiniteMap Session) (bearers : FiniteMap Bearer) (key : ℕ) (n : Session) → (n.state ≡ Closing → ⊥) → ClosesWhole sessions bearers
+    → ClosesWhole (insert sessions key n) bearers
 closes-session sessions bearers key n unclosed whole t b s b_at s_at closing = ⊎_elim
     (λ same. absurd (unclosed (ap (λ (k : Session). k.state) same.1 ∙ closing)))
     (λ old. whole t b s b_at old.1 closing)
     (found-insert sessions key n b.session s s_at)
 
 -- a bearer comes, or changes, in a session that is not closing
-pub closes-bearer : (sessions : FiniteMap Session) (bearers : FiniteMap Bearer) (key : ℕ) (n : Bearer) → ((s : Session) → get sessions n.session ≡ Some s → s.state ≡ Closing → ⊥) → ClosesWhole sessions bearers → ClosesWhole sessions (insert bearers key n)
+pub closes-bearer : (sessions : FiniteMap Session) (bearers : FiniteMap Bearer) (key : ℕ) (n : Bearer)
+    → ((s : Session) → get sessions n.session ≡ Some s → s.state ≡ Closing → ⊥) → ClosesWhole sessions bearers
+    → ClosesWhole sessions (insert bearers key n)
 closes-bearer sessions bearers key n unclosed whole t b s b_at s_at closing = ⊎_elim
     (λ same. absurd (unclosed s (ap (λ (k : Bearer). get sessions k.session) same.1 ∙ s_at) closing))
     (λ old. whole t b s old.1 s_at closing)

@@ -2,7 +2,9 @@
 use Rattle.std.proofs.Common.{◌≡◌, ◌≢◌, ◌⊎◌, inl, inr, ⊎_elim, ℕ, ◌+◌, ◌%◌, ◌<◌, ◌≤◌, List, [], ◌∷◌, ◌++◌, Some, refl, sym, ◌∙◌, ap, subst, arith}
 use Rattle.gtp_values.specs.FiniteMap.{Among}
 use Rattle.gtp_machine.specs.Element.{IsAccepting, teid_in}
-use Rattle.gtp_machine.specs.Message.{Message, CreateSessionResponse, GivenBearer, CreateBearerResponse, Create_session_request, Create_session_response, Create_bearer_request, Create_bearer_response, Owns, recovery_of, first_created, first_given}
+use Rattle.gtp_machine.specs.Message.{Message, CreateSessionResponse, GivenBearer, CreateBearerResponse, Create_session_request}
+use Rattle.gtp_machine.specs.Message.{Create_session_response, Create_bearer_request, Create_bearer_response, Owns, recovery_of, first_created}
+use Rattle.gtp_machine.specs.Message.{first_given}
 use Rattle.gtp_machine.specs.Node.{Arrival, Role, Serving, Packet, Node}
 use Rattle.gtp_machine.specs.Input.{Effect, messages}
 use Rattle.gtp_machine.specs.Choice.{IsFree, counter_of}
@@ -82,7 +84,8 @@ pub one_more_drawn : (counter user : ℕ) (drawn : List ℕ) → counter_of user
 one_more_drawn counter user drawn counted t (inl is) = inr (ap counter_of is ∙ counted)
 one_more_drawn counter user drawn counted t (inr stood) = inl stood
 
-pub two_more_drawn : (counter user control : ℕ) (drawn : List ℕ) → counter_of user ≡ counter → counter_of control ≡ counter → (t : ℕ) → Among t (user ∷ control ∷ drawn) → Among t drawn ⊎ (counter_of t ≡ counter)
+pub two_more_drawn : (counter user control : ℕ) (drawn : List ℕ) → counter_of user ≡ counter → counter_of control ≡ counter → (t : ℕ)
+    → Among t (user ∷ control ∷ drawn) → Among t drawn ⊎ (counter_of t ≡ counter)
 two_more_drawn counter user control drawn counted both t (inl is) = inr (ap counter_of is ∙ counted)
 two_more_drawn counter user control drawn counted both t (inr others) = one_more_drawn counter control drawn both t others
 
@@ -130,7 +133,9 @@ module _ (side : Side) (role : Role) (history : List Sent) (drawing : Drawing si
     present = λ t among. ⊎_elim (λ was. drawing.present t was ∙ sym draws.counter) (λ now. now ∙ sym draws.counter) (draws.present t among);
     drawn = λ m t has owns. ⊎_elim (λ was. before m t was owns) (λ now. inl (now.1.drawn t owns)) (cases m has);
     once = λ m n t m_has n_has m_owns n_owns. same m n t m_owns n_owns (cases m m_has) (cases n n_has);
-    told = λ m r has tells. ⊎_elim (λ was. at_start r (drawing.told m r was tells)) (λ now. record { start = side.restarts; by_now = omega arith; is = now.1.told r tells ∙ drawing.counter }) (cases m has);
+    told =
+        λ m r has tells. ⊎_elim (λ was. at_start r (drawing.told m r was tells))
+        (λ now. record { start = side.restarts; by_now = omega arith; is = now.1.told r tells ∙ drawing.counter }) (cases m has);
     dated = λ m t has is owns. ⊎_elim (λ was. drawing.dated m t was is owns) (λ now. now.1.tells t is owns ∙ ap (λ c. Some c) (sym (now.1.free t owns).counted)) (cases m has);
     proper = λ m has. ⊎_elim (λ was. drawing.proper m was) (λ now. now.1.proper) (cases m has);
   }
@@ -147,7 +152,9 @@ module _ (side : Side) (role : Role) (history : List Sent) (drawing : Drawing si
         | inr now ↦ ⊎_elim (λ was. inl was) (λ fresh. inr (now.1, fresh)) (draws.each m now.1)
       ]
 
-      same : (m n : Message) (t : ℕ) → Owns m t → Owns n t → HasSent history role m ⊎ (Among m (messages e.out.sent) × IsMadeNow history role side.node e.node m) → HasSent history role n ⊎ (Among n (messages e.out.sent) × IsMadeNow history role side.node e.node n) → m ≡ n
+      same : (m n : Message) (t : ℕ) → Owns m t → Owns n t
+          → HasSent history role m ⊎ (Among m (messages e.out.sent) × IsMadeNow history role side.node e.node m)
+          → HasSent history role n ⊎ (Among n (messages e.out.sent) × IsMadeNow history role side.node e.node n) → m ≡ n
       same m n t m_owns n_owns (inl m_was) (inl n_was) = drawing.once m n t m_was n_was m_owns n_owns
       same m n t m_owns n_owns (inl m_was) (inr n_now) = absurd (unowned m t m_was m_owns (n_now.1.free t n_owns))
       same m n t m_owns n_owns (inr m_now) (inl n_was) = absurd (unowned n t n_was n_owns (m_now.1.free t m_owns))
@@ -170,7 +177,9 @@ module _ (side : Side) (role : Role) (history : List Sent) (drawing : Drawing si
     counter = refl;
     few = omega arith;
     present = λ t none. absurd none;
-    drawn = λ m t has owns. inr (⊎_elim (λ drawn. record { start = side.restarts; before = omega arith; is = drawing.present t drawn ∙ drawing.counter }) (λ earlier. record { start = earlier.start; before = omega (arith, earlier.before); is = earlier.is }) (drawing.drawn m t has owns));
+    drawn =
+        λ m t has owns. inr (⊎_elim (λ drawn. record { start = side.restarts; before = omega arith; is = drawing.present t drawn ∙ drawing.counter })
+        (λ earlier. record { start = earlier.start; before = omega (arith, earlier.before); is = earlier.is }) (drawing.drawn m t has owns));
     once = drawing.once;
     told = λ m r has tells. let s = drawing.told m r has tells in record { start = s.start; by_now = omega (arith, s.by_now); is = s.is };
     dated = drawing.dated;
@@ -196,7 +205,8 @@ only_one m a b (inr none) y = absurd none
 only_one m a b (inl x) (inr none) = absurd none
 
 -- a step that draws nothing, and sends messages again
-pub Draws-again : (history : List Sent) (role : Role) (old new : Node) (sent : List Message) → new.config ≡ old.config → new.counter ≡ old.counter → new.drawn ≡ old.drawn → ((m : Message) → Among m sent → HasSent history role m)
+pub Draws-again : (history : List Sent) (role : Role) (old new : Node) (sent : List Message) → new.config ≡ old.config → new.counter ≡ old.counter
+    → new.drawn ≡ old.drawn → ((m : Message) → Among m sent → HasSent history role m)
     → ((m n : Message) → Among m sent → Among n sent → (m ≡ n) ⊎ AreApart m n) → Draws history role old new sent
 Draws-again history role old new sent config counter same was one = record {
   config = config;
@@ -245,9 +255,18 @@ Draws-new history role old new m config counter extends present is = record {
     only n (inr none) = absurd none
 
 -- a step that draws nothing, and sends one message
-pub Draws-one : (history : List Sent) (role : Role) (old new : Node) (m : Message) → new.config ≡ old.config → new.counter ≡ old.counter → new.drawn ≡ old.drawn → HasSent history role m ⊎ IsMadeNow history role old new m → Draws history role old new (m ∷ [])
+pub Draws-one : (history : List Sent) (role : Role) (old new : Node) (m : Message) → new.config ≡ old.config → new.counter ≡ old.counter → new.drawn ≡ old.drawn
+    → HasSent history role m ⊎ IsMadeNow history role old new m → Draws history role old new (m ∷ [])
 Draws-one history role old new m config counter same = Draws-new history role old new m config counter (λ t was. subst (Among t) (sym same) was) (λ t now. inl (subst (Among t) same now))
 
 -- a message that owns no TEID and tells the present counter, if any
-pub Made-plain : (history : List Sent) (role : Role) (old new : Node) (m : Message) → ((t : ℕ) → Owns m t → ⊥) → ((r : ℕ) → recovery_of m ≡ Some r → r ≡ old.counter) → IsProper role m → IsMadeNow history role old new m
-Made-plain history role old new m none told proper = record { free = λ t owns. absurd (none t owns); drawn = λ t owns. absurd (none t owns); told = told; tells = λ t is owns. absurd (none t owns); proper = proper }
+pub Made-plain : (history : List Sent) (role : Role) (old new : Node) (m : Message) → ((t : ℕ) → Owns m t → ⊥)
+    → ((r : ℕ) → recovery_of m ≡ Some r → r ≡ old.counter) → IsProper role m → IsMadeNow history role old new m
+Made-plain history role old new m none told proper =
+    record {
+      free = λ t owns. absurd (none t owns);
+      drawn = λ t owns. absurd (none t owns);
+      told = told;
+      tells = λ t is owns. absurd (none t owns);
+      proper = proper;
+    }

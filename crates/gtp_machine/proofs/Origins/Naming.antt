@@ -6,9 +6,13 @@ use Rattle.std.specs.FinMap.{get}
 use Rattle.gtp_machine.specs.Choice.{HasPending}
 use Rattle.gtp_machine.specs.Response.{EndsRequest}
 use Rattle.gtp_machine.specs.Step.{Step}
-use Rattle.gtp_machine.specs.Message.{Message, CreateSessionRequest, CreateBearerRequest, DeleteBearerRequest, DeleteSessionRequest, Create_session_request, Create_session_response, Create_bearer_request, Create_bearer_response, Other_control, Packet_data, End_marker, Error_indication, User_echo_request, recovery_of, Plane, Control, User}
+use Rattle.gtp_machine.specs.Message.{Message, CreateSessionRequest, CreateBearerRequest, DeleteBearerRequest, DeleteSessionRequest}
+use Rattle.gtp_machine.specs.Message.{Create_session_request, Create_session_response, Create_bearer_request, Create_bearer_response, Other_control}
+use Rattle.gtp_machine.specs.Message.{Packet_data, End_marker, Error_indication, User_echo_request, recovery_of, Plane, Control, User}
 use Rattle.gtp_machine.specs.Node.{Role, Serving, Packet, Session, Bearer, PendingRequest, Arrival, Held, Node, written}
-use Rattle.gtp_machine.specs.Input.{EventOutcome, Outcome, Command, Create_session, Delete_session, Create_bearer, Delete_bearer, Release_session, Mark_end, Send_echo, Send_user, ControlReading, UserReading, User_message, Extension_needed, User_fault, Move, Resend, Give_up, Forget, Input, Commanded, Control_came, User_came, Moves_on, Effect, messages}
+use Rattle.gtp_machine.specs.Input.{EventOutcome, Outcome, Command, Create_session, Delete_session, Create_bearer, Delete_bearer, Release_session}
+use Rattle.gtp_machine.specs.Input.{Mark_end, Send_echo, Send_user, ControlReading, UserReading, User_message, Extension_needed, User_fault, Move}
+use Rattle.gtp_machine.specs.Input.{Resend, Give_up, Forget, Input, Commanded, Control_came, User_came, Moves_on, Effect, messages}
 use Rattle.gtp_machine.specs.Recovery.{Hears, peer_restarted}
 use Rattle.gtp_machine.specs.User.{UserTaken, UserStep}
 use Rattle.gtp_machine.specs.Command.{CommandStep}
@@ -17,7 +21,10 @@ use Rattle.gtp_machine.specs.Answer.{TakesReading, ControlStep}
 use Rattle.gtp_machine.specs.Move.{MoveStep}
 use Rattle.gtp_machine.specs.Serving.{CreateSessionAnswered, CreateBearerAsked, DeleteBearerTaken, DeleteBearerAsked, ServingTakes}
 use Rattle.gtp_machine.specs.Config.{template_for}
-use Rattle.gtp_machine.proofs.Basics.Finishing.{quietly, on_session_begun, on_session_deleted, on_bearer_begun, on_bearer_deleted, on_session_released, on_end_marked, on_echo_begun, on_packet_sent, on_packet_came, on_end_came, on_error_came, on_user_step, on_finish, on_session_answered, on_bearer_answered, on_session_asked, on_hears, on_control, on_read}
+use Rattle.gtp_machine.proofs.Basics.Finishing.{quietly, on_session_begun, on_session_deleted, on_bearer_begun, on_bearer_deleted}
+use Rattle.gtp_machine.proofs.Basics.Finishing.{on_session_released, on_end_marked, on_echo_begun, on_packet_sent, on_packet_came, on_end_came}
+use Rattle.gtp_machine.proofs.Basics.Finishing.{on_error_came, on_user_step, on_finish, on_session_answered, on_bearer_answered, on_session_asked}
+use Rattle.gtp_machine.proofs.Basics.Finishing.{on_hears, on_control, on_read}
 use Rattle.gtp_machine.proofs.Basics.Templates.{goes}
 use Rattle.gtp_machine.specs.Packet.{session_cause, session_response, made_session, session_made, CreateSessionAsked, DeleteSessionAsked, CreateBearerAnswered, PacketTakes}
 use Rattle.gtp_machine.specs.World.{other, Sent, HasSent, signed}
@@ -126,7 +133,9 @@ module _ (history : List Sent) (role : Role) where
     user_taken by source (User_echo_request number) e named r = at e _ r (one _ none_named)
     user_taken by source _ e named r = at e _ r silent
 
-    user_step : (by : Role) (source : Endpoint) (reading : UserReading) (e : Effect) → ((m : Message) → reading ≡ User_message m → NamedTeidWasDrawn history (other role) m) → UserStep by source reading old e → Told history role e
+    user_step : (by : Role) (source : Endpoint) (reading : UserReading) (e : Effect)
+        → ((m : Message) → reading ≡ User_message m → NamedTeidWasDrawn history (other role) m) → UserStep by source reading old e
+        → Told history role e
     user_step by source reading e named r = on_user_step old e (quiet old e) by source reading (λ m is r. user_taken by source m e (named m is) r) (λ f. at e _ f (one _ none_named)) r
 
     back_known : (known : Option ℕ) → Back history role (record old { known = known })
@@ -161,12 +170,17 @@ module _ (history : List Sent) where
     create_bearer_asked request q e (inl f) = at history Serving e _ f.1 (silent history Serving)
     create_bearer_asked request q e (inr (a, inl f)) = at history Serving e _ f.1 (one history Serving _ (none_named history Serving))
     create_bearer_asked request q e (inr (a, inr (b, inl f))) = at history Serving e _ f.1 (silent history Serving)
-    create_bearer_asked request q e (inr (a, inr (b, inr (c, inl f)))) = at history Serving e _ f.1 (one history Serving _ (there history Serving b.session.remote (back.sessions q.header b.session b.stands)))
-    create_bearer_asked request q e (inr (a, inr (b, inr (c, inr (d, inl f))))) = at history Serving e _ f.1 (one history Serving _ (there history Serving b.session.remote (back.sessions q.header b.session b.stands)))
-    create_bearer_asked request q e (inr (a, inr (b, inr (c, inr (d, inr (g, inl f)))))) = at history Serving e _ f.1 (one history Serving _ (there history Serving b.session.remote (back.sessions q.header b.session b.stands)))
-    create_bearer_asked request q e (inr (a, inr (b, inr (c, inr (d, inr (g, inr (h, r))))))) = at history Serving e _ r.gives (one history Serving _ (there history Serving b.session.remote (back.sessions q.header b.session b.stands)))
+    create_bearer_asked request q e (inr (a, inr (b, inr (c, inl f)))) =
+        at history Serving e _ f.1 (one history Serving _ (there history Serving b.session.remote (back.sessions q.header b.session b.stands)))
+    create_bearer_asked request q e (inr (a, inr (b, inr (c, inr (d, inl f))))) =
+        at history Serving e _ f.1 (one history Serving _ (there history Serving b.session.remote (back.sessions q.header b.session b.stands)))
+    create_bearer_asked request q e (inr (a, inr (b, inr (c, inr (d, inr (g, inl f)))))) =
+        at history Serving e _ f.1 (one history Serving _ (there history Serving b.session.remote (back.sessions q.header b.session b.stands)))
+    create_bearer_asked request q e (inr (a, inr (b, inr (c, inr (d, inr (g, inr (h, r))))))) =
+        at history Serving e _ r.gives (one history Serving _ (there history Serving b.session.remote (back.sessions q.header b.session b.stands)))
 
-    delete_bearer_taken : (request : Arrival) (d : DeleteBearerRequest) (linked : Option ℕ) (s : Session) → IsThere Control history Serving s.remote → (e : Effect) → DeleteBearerTaken request d linked old s e → Told history Serving e
+    delete_bearer_taken : (request : Arrival) (d : DeleteBearerRequest) (linked : Option ℕ) (s : Session) → IsThere Control history Serving s.remote → (e : Effect)
+        → DeleteBearerTaken request d linked old s e → Told history Serving e
     delete_bearer_taken request d (Some identity) s is e (inl f) = at history Serving e _ f.1 (one history Serving _ (there history Serving s.remote is))
     delete_bearer_taken request d (Some identity) s is e (inr (a, r)) = at history Serving e _ r (one history Serving _ (there history Serving s.remote is))
     delete_bearer_taken request d None s is e (inl f) = at history Serving e _ f.1 (one history Serving _ (there history Serving s.remote is))
@@ -190,7 +204,8 @@ module _ (history : List Sent) where
       (λ m drops old back e r. at history Serving e _ (drops.only request old e r) (silent history Serving))
 
   module _ (old : Node) (back : Back history Packet old) where
-    create_session_asked : (request : Arrival) (q : CreateSessionRequest) → HasSent history Serving (Create_session_request q) → (e : Effect) → CreateSessionAsked request q old e → Told history Packet e
+    create_session_asked : (request : Arrival) (q : CreateSessionRequest) → HasSent history Serving (Create_session_request q) → (e : Effect)
+        → CreateSessionAsked request q old e → Told history Packet e
     create_session_asked request q came e r =
         let back : (n : ℕ) → n ≢ 0 → TeidWasDrawn Control history Serving q.control.teid = λ n not. record { message = Create_session_request q; sent = came; owns = refl } in
         on_session_asked old e (quiet history Packet old e) request q
@@ -198,7 +213,8 @@ module _ (history : List Sent) where
         (λ room identity few draws r. ⊎_elim
         (λ alone. at history Packet e _ alone (one history Packet _ (back _)))
         (λ x. at history Packet e _ x.adds.gives (two history Packet _ _ (back _) (back _)))
-        (goes request (session_response old q r.control r.user r.address) (session_cause q.pdn r.address) r.control (made_session q r.address) (session_made old q r.control r.user r.address) e (template_for q.access_point old.config.templates) r.gives))
+        (goes request (session_response old q r.control r.user r.address) (session_cause q.pdn r.address) r.control (made_session q r.address)
+        (session_made old q r.control r.user r.address) e (template_for q.access_point old.config.templates) r.gives))
         r
 
     delete_session_asked : (request : Arrival) (d : DeleteSessionRequest) (e : Effect) → DeleteSessionAsked request d old e → Told history Packet e
@@ -226,8 +242,11 @@ module _ (history : List Sent) where
       (λ m drops came old back e r. at history Packet e _ (drops.only request old e r) (silent history Packet))
 
   -- what was read, at either gateway
-  module _ (role : Role) (Takes : Arrival → Message → Node → Effect → Type 0) (rows : (request : Arrival) (m : Message) → HasSent history (other role) m → (old : Node) → Back history role old → (e : Effect) → Takes request m old e → Told history role e) where
-    control : (reading : ControlReading) (request : Arrival) (old : Node) → Back history role old → (e : Effect) → ControlCarried role history old reading → ControlStep (TakesReading role Takes reading) request old e → Told history role e
+  module _ (role : Role) (Takes : Arrival → Message → Node → Effect → Type 0)
+      (rows : (request : Arrival) (m : Message) → HasSent history (other role) m → (old : Node) → Back history role old → (e : Effect)
+      → Takes request m old e → Told history role e) where
+    control : (reading : ControlReading) (request : Arrival) (old : Node) → Back history role old → (e : Effect) → ControlCarried role history old reading
+        → ControlStep (TakesReading role Takes reading) request old e → Told history role e
     control reading request old back e came =
         on_control old e (quiet history role old e) request
         (λ r. at history role e _ r.gives (λ m among. ⊎_elim (λ has. inl ((back.held r.held r.stands).each m has)) (λ none. absurd none) (Among-cases m r.held.answer [] among))) (λ new.
@@ -238,15 +257,19 @@ module _ (history : List Sent) where
         (subst (ControlCarried role history old) is came))
         (λ f is. absurd (subst (ControlCarried role history old) is came)))
 
-  user_named : EachNamedTeidWasDrawn history → (role : Role) (reading : UserReading) → ((m : Message) → reading ≡ User_message m → HasSent history (other role) m) → (m : Message) → reading ≡ User_message m → NamedTeidWasDrawn history (other role) m
+  user_named : EachNamedTeidWasDrawn history → (role : Role) (reading : UserReading)
+      → ((m : Message) → reading ≡ User_message m → HasSent history (other role) m) → (m : Message) → reading ≡ User_message m
+      → NamedTeidWasDrawn history (other role) m
   user_named named role reading came m is = named (other role) m (came m is)
 
-  user_came : (role : Role) (source : Endpoint) (reading : UserReading) (old : Node) → Carried role history old (User_came source reading) → (m : Message) → reading ≡ User_message m → HasSent history (other role) m
+  user_came : (role : Role) (source : Endpoint) (reading : UserReading) (old : Node) → Carried role history old (User_came source reading) → (m : Message)
+      → reading ≡ User_message m → HasSent history (other role) m
   user_came role source (User_message n) old came m is = let same : n ≡ m = cc is in subst (λ k. HasSent history (other role) k) same came
   user_came role source Extension_needed old came m is = absurd (cc is)
   user_came role source (User_fault fault) old came m is = absurd (cc is)
 
-  pub step_told : EachNamedTeidWasDrawn history → (role : Role) (old : Node) → Back history role old → (input : Input) (e : Effect) → Carried role history old input → Step role old input e → Told history role e
+  pub step_told : EachNamedTeidWasDrawn history → (role : Role) (old : Node) → Back history role old → (input : Input) (e : Effect)
+      → Carried role history old input → Step role old input e → Told history role e
   step_told named role old back (Commanded c) e came r = command history role old back role c e r
   step_told named Serving old back (Control_came request reading) e came r = control Serving ServingTakes (λ request m came. serving_takes request m) reading request old back e came r
   step_told named Packet old back (Control_came request reading) e came r = control Packet PacketTakes packet_takes reading request old back e came r
@@ -254,7 +277,8 @@ module _ (history : List Sent) where
   step_told named role old back (Moves_on move) e came r = moves history role old back move e r
 
 -- the TEIDs of a session go back to messages
-pub session_goes_back : (history : List Sent) (role : Role) (node : Node) → Knows role history node → (t : ℕ) (s : Session) → get node.sessions t ≡ Some s → TeidsWereDrawn Control history role t s.remote
+pub session_goes_back : (history : List Sent) (role : Role) (node : Node) → Knows role history node → (t : ℕ) (s : Session) → get node.sessions t ≡ Some s
+    → TeidsWereDrawn Control history role t s.remote
 session_goes_back history Serving node knows t s stands =
     let asked = knows.contexts.sessions_asked t s stands in
     record {

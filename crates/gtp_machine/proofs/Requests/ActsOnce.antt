@@ -53,7 +53,9 @@ adds request old e is_new a = record {
 
 forgets : (request : Arrival) (old : Node) (e : Effect) → Forgets old request e → HeldStep old e
 forgets request old e r = let l = leaves request old.held r.rest r.left in record {
-  stays = λ h was. ⊎_elim (λ stays. inl (subst (Among h) (sym (ap held_in r.gives)) stays)) (λ same. inr (subst (Among h.request) (sym (ap (λ (f : Effect). f.out.forgot) r.gives)) (inl same))) (l.others h was);
+  stays =
+      λ h was. ⊎_elim (λ stays. inl (subst (Among h) (sym (ap held_in r.gives)) stays))
+      (λ same. inr (subst (Among h.request) (sym (ap (λ (f : Effect). f.out.forgot) r.gives)) (inl same))) (l.others h was);
   once = λ o. record { once = λ g h x y. o.once g h (l.only g (subst (Among g) (ap held_in r.gives) x)) (l.only h (subst (Among h) (ap held_in r.gives) y)) };
 }
 
@@ -70,9 +72,13 @@ reached_once role old [] new o is = subst OneAnswerPerRequest (sym is) o
 reached_once role old (d ∷ log) new o s = reached_once role d.effect.node log new ((step_held role old d.input d.effect s.1).once o) s.2
 
 -- what is held stays until it is given up
-held_through : (role : Role) (request : Arrival) (a : List Message) (old : Node) (log : List Done) (new : Node) → Among (record { request = request; answer = a }) old.held → NeverForgets log request → Steps role old log new → Among (record { request = request; answer = a }) new.held
+held_through : (role : Role) (request : Arrival) (a : List Message) (old : Node) (log : List Done) (new : Node)
+    → Among (record { request = request; answer = a }) old.held → NeverForgets log request → Steps role old log new
+    → Among (record { request = request; answer = a }) new.held
 held_through role request a old [] new held never is = subst (λ (n : Node). Among (record { request = request; answer = a }) n.held) (sym is) held
-held_through role request a old (d ∷ log) new held never s = held_through role request a d.effect.node log new (⊎_elim (λ stays. stays) (λ gone. absurd (never d (inl refl) gone)) ((step_held role old d.input d.effect s.1).stays (record { request = request; answer = a }) held)) (λ x among. never x (inr among)) s.2
+held_through role request a old (d ∷ log) new held never s =
+    held_through role request a d.effect.node log new (⊎_elim (λ stays. stays) (λ gone. absurd (never d (inl refl) gone))
+    ((step_held role old d.input d.effect s.1).stays (record { request = request; answer = a }) held)) (λ x among. never x (inr among)) s.2
 
 -- the last of some steps
 pub record Last (role : Role) (old : Node) (log : List Done) (done : Done) : Type 0 where
@@ -102,13 +108,29 @@ abbrev Responds : Arrival → Node → Effect → Type 0
 Responds request old e = IsQuiet old e ⊎ IsAnswered request e
 
 quiet : (request : Arrival) (old : Node) (e : Effect) (outcome : EventOutcome) → e ≡ quietly old outcome → Responds request old e
-quiet request old e outcome gives = inl (record { silent = ap (λ (f : Effect). datagrams f.out.sent) gives; none_comes = λ key b is. (b, ap (λ (f : Effect). get f.node.bearers key) (sym gives) ∙ is) })
+quiet request old e outcome gives =
+    inl (record {
+      silent = ap (λ (f : Effect). datagrams f.out.sent) gives;
+      none_comes = λ key b is. (b, ap (λ (f : Effect). get f.node.bearers key) (sym gives) ∙ is);
+    })
 
 made : (request : Arrival) (old : Node) (e : Effect) (m : List Message) (cause : ℕ) (new : Node) → e ≡ making request m cause new → Responds request old e
-made request old e m cause new gives = inr (record { answer = m; sends = ap (λ (f : Effect). datagrams f.out.sent) gives; held = subst (λ (f : Effect). Among (record { request = request; answer = m }) f.node.held) (sym gives) (Among-last {X = Held} (record { request = request; answer = m }) new.held) })
+made request old e m cause new gives =
+    inr (record {
+      answer = m;
+      sends = ap (λ (f : Effect). datagrams f.out.sent) gives;
+      held = subst (λ (f : Effect). Among (record { request = request; answer = m }) f.node.held) (sym gives)
+          (Among-last {X = Held} (record { request = request; answer = m }) new.held);
+    })
 
 gave : (request : Arrival) (old : Node) (e : Effect) (m : Message) (cause : ℕ) (new : Node) → e ≡ answered request m cause new → Responds request old e
-gave request old e m cause new gives = inr (record { answer = m ∷ []; sends = ap (λ (f : Effect). datagrams f.out.sent) gives; held = subst (λ (f : Effect). Among (record { request = request; answer = m ∷ [] }) f.node.held) (sym gives) (Among-last {X = Held} (record { request = request; answer = m ∷ [] }) new.held) })
+gave request old e m cause new gives =
+    inr (record {
+      answer = m ∷ [];
+      sends = ap (λ (f : Effect). datagrams f.out.sent) gives;
+      held = subst (λ (f : Effect). Among (record { request = request; answer = m ∷ [] }) f.node.held) (sym gives)
+          (Among-last {X = Held} (record { request = request; answer = m ∷ [] }) new.held);
+    })
 
 create_bearer_asked : (request : Arrival) (q : CreateBearerRequest) (old : Node) (e : Effect) → CreateBearerAsked request q old e → Responds request old e
 create_bearer_asked request q old e r = on_bearer_asked old e (quiet request old e) request q (λ room x cause f. gave request old e _ _ _ f) (λ room at draws r. made request old e _ _ _ r.gives) r
@@ -120,13 +142,18 @@ create_session_asked request q old e r =
     (λ room identity few draws r. ⊎_elim
     (λ alone. made request old e _ _ _ alone)
     (λ x. made request old e _ _ _ x.adds.gives)
-    (goes request (session_response old q r.control r.user r.address) (session_cause q.pdn r.address) r.control (made_session q r.address) (session_made old q r.control r.user r.address) e (template_for q.access_point old.config.templates) r.gives))
+    (goes request (session_response old q r.control r.user r.address) (session_cause q.pdn r.address) r.control (made_session q r.address)
+    (session_made old q r.control r.user r.address) e (template_for q.access_point old.config.templates) r.gives))
     r
 
 -- hearing the counter first makes no bearer
 module _ (request : Arrival) (Takes : Node → Effect → Type 0) (takes : (old : Node) (e : Effect) → Takes old e → Responds request old e) where
   from_restart : (old : Node) (c : ℕ) (e : Effect) → Responds request (peer_restarted old c) e → Responds request old e
-  from_restart old c e (inl q) = inl (record { silent = q.silent; none_comes = λ key b is. (let x = q.none_comes key b is in let was = (Shrinks-restart old c).bearers key x.0 x.1 in (was.before, was.stood)) })
+  from_restart old c e (inl q) =
+      inl (record {
+        silent = q.silent;
+        none_comes = λ key b is. (let x = q.none_comes key b is in let was = (Shrinks-restart old c).bearers key x.0 x.1 in (was.before, was.stood));
+      })
   from_restart old c e (inr a) = inr a
 
   from_first : (old : Node) (c : ℕ) (e : Effect) → Responds request (record old { known = Some c }) e → Responds request old e
@@ -156,8 +183,12 @@ repeated request old e r = inr (record {
 
 -- what a step on a create request does
 on_request : (role : Role) (request : Arrival) (m : Message) → Makes role m → (old : Node) (e : Effect) → Step role old (Control_came request (Control_message m)) e → Responds request old e
-on_request Serving request (Create_bearer_request q) makes old e r = on_control old e (quiet request old e) request (repeated request old e) (λ new. by_rule (quiet request old e _) (λ takes. heard request (ServingTakes request (Create_bearer_request q)) (create_bearer_asked request q) old None e)) r
-on_request Packet request (Create_session_request q) makes old e r = on_control old e (quiet request old e) request (repeated request old e) (λ new. by_rule (quiet request old e _) (λ takes. heard request (PacketTakes request (Create_session_request q)) (create_session_asked request q) old q.recovery e)) r
+on_request Serving request (Create_bearer_request q) makes old e r =
+    on_control old e (quiet request old e) request (repeated request old e) (λ new. by_rule (quiet request old e _)
+    (λ takes. heard request (ServingTakes request (Create_bearer_request q)) (create_bearer_asked request q) old None e)) r
+on_request Packet request (Create_session_request q) makes old e r =
+    on_control old e (quiet request old e) request (repeated request old e) (λ new. by_rule (quiet request old e _)
+    (λ takes. heard request (PacketTakes request (Create_session_request q)) (create_session_asked request q) old q.recovery e)) r
 on_request Serving request _ makes old e r = absurd makes
 on_request Packet request _ makes old e r = absurd makes
 
@@ -169,15 +200,19 @@ pub record IsAgain (old : Node) (e : Effect) (a : List Message) : Type 0 where
   pub same : e.node ≡ old
   pub sends : (b : List Message) → Among b (datagrams e.out.sent) → b ≡ a
 
-again : (Reads : Arrival → Node → Effect → Type 0) (request : Arrival) (a : List Message) (old : Node) (e : Effect) → OneAnswerPerRequest old → Among (record { request = request; answer = a }) old.held → ControlStep Reads request old e → IsAgain old e a
+again : (Reads : Arrival → Node → Effect → Type 0) (request : Arrival) (a : List Message) (old : Node) (e : Effect) → OneAnswerPerRequest old
+    → Among (record { request = request; answer = a }) old.held → ControlStep Reads request old e → IsAgain old e a
 again Reads request a old e o held (inl f) = record { same = ap (λ (x : Effect). x.node) f.1; sends = λ b among. absurd (subst (Among b) (ap (λ (x : Effect). datagrams x.out.sent) f.1) among) }
 again Reads request a old e o held (inr (peer, inl r)) = record {
   same = ap (λ (x : Effect). x.node) r.gives;
-  sends = λ b among. only b r.held.answer (datagrams e.out.sent) (ap (λ (x : Effect). datagrams x.out.sent) r.gives) among ∙ o.once r.held (record { request = request; answer = a }) r.stands held r.same;
+  sends =
+      λ b among. only b r.held.answer (datagrams e.out.sent) (ap (λ (x : Effect). datagrams x.out.sent) r.gives) among
+      ∙ o.once r.held (record { request = request; answer = a }) r.stands held r.same;
 }
 again Reads request a old e o held (inr (peer, inr r)) = absurd (r.0 (record { request = request; answer = a }) held refl)
 
-step_again : (role : Role) (request : Arrival) (m : Message) (a : List Message) (old : Node) (e : Effect) → OneAnswerPerRequest old → Among (record { request = request; answer = a }) old.held → Step role old (Control_came request (Control_message m)) e → IsAgain old e a
+step_again : (role : Role) (request : Arrival) (m : Message) (a : List Message) (old : Node) (e : Effect) → OneAnswerPerRequest old
+    → Among (record { request = request; answer = a }) old.held → Step role old (Control_came request (Control_message m)) e → IsAgain old e a
 step_again role request m = again (TakesReading role (TakesBy role) (Control_message m)) request
 
 fresh_once : (config : Config) (counter : ℕ) → OneAnswerPerRequest (fresh_node config counter)
@@ -241,7 +276,9 @@ steps_until role old (x ∷ xs) d ys new s =
     (r.0, (s.0, s.1, r.1))
 
 -- two steps of one start, with no giving up between them
-pub acts_once_from : (role : Role) (request : Arrival) (message : Message) (first second : Done) (config : Config) (counter : ℕ) (before between after : List Done) (finish : Node) → Makes role message → Steps role (fresh_node config counter) (before ++ (first ∷ (between ++ (second ∷ after)))) finish → TookRequest first request message → TookRequest second request message → NeverForgets between request → SecondAddsNothing first second
+pub acts_once_from : (role : Role) (request : Arrival) (message : Message) (first second : Done) (config : Config) (counter : ℕ) (before between after : List Done)
+    (finish : Node) → Makes role message → Steps role (fresh_node config counter) (before ++ (first ∷ (between ++ (second ∷ after)))) finish
+    → TookRequest first request message → TookRequest second request message → NeverForgets between request → SecondAddsNothing first second
 acts_once_from role request message first second config counter before between after finish makes steps first_takes second_takes kept =
     let from = steps_after role (fresh_node config counter) before (first ∷ (between ++ (second ∷ after))) finish steps in
     let until = steps_until role first.effect.node between second after finish from.2.2 in
@@ -263,7 +300,8 @@ acts_once_from role request message first second config counter before between a
 pub acts_once_in_time : ActsOnceInTime
 acts_once_in_time role request message first second t =
     let never = t.in_time (t.before ++ (first ∷ t.between)) t.after second message t.makes (sym (append_assoc t.before (first ∷ t.between) (second ∷ t.after))) t.second_takes in
-    acts_once_from role request message first second t.config t.counter t.before t.between t.after t.finish t.makes t.steps t.first_takes t.second_takes (λ done among. never done (Among-right done t.before (first ∷ t.between) (inr among)))
+    acts_once_from role request message first second t.config t.counter t.before t.between t.after t.finish t.makes t.steps t.first_takes
+    t.second_takes (λ done among. never done (Among-right done t.before (first ∷ t.between) (inr among)))
 
 pub held_until_forgotten : HeldUntilForgotten
 held_until_forgotten role old input e r = (step_held role old input e r).stays

@@ -5,7 +5,9 @@ use Rattle.gtp_machine.specs.Choice.{HasPending}
 use Rattle.gtp_machine.specs.Element.{cause_of}
 use Rattle.gtp_machine.specs.Message.{Message, DeleteBearerRequest, Delete_bearer_response, Packet_data, End_marker, Error_indication, recovery_of}
 use Rattle.gtp_machine.specs.Node.{Role, Serving, Packet, Session, PendingRequest, Arrival, Held, Node, written}
-use Rattle.gtp_machine.specs.Input.{Command, Create_session, Delete_session, Create_bearer, Delete_bearer, Release_session, Mark_end, Send_echo, Send_user, ControlReading, Control_came, UserReading, Outcome, Effect, messages, datagrams, Move, Resend, Give_up, Forget, Out}
+use Rattle.gtp_machine.specs.Input.{Command, Create_session, Delete_session, Create_bearer, Delete_bearer, Release_session, Mark_end, Send_echo}
+use Rattle.gtp_machine.specs.Input.{Send_user, ControlReading, Control_came, UserReading, Outcome, Effect, messages, datagrams, Move, Resend, Give_up}
+use Rattle.gtp_machine.specs.Input.{Forget, Out}
 use Rattle.gtp_machine.specs.Recovery.{peer_restarted, Hears}
 use Rattle.gtp_machine.specs.Response.{finishing, EndsRequest}
 use Rattle.gtp_machine.specs.User.{UserTaken, UserStep}
@@ -14,7 +16,10 @@ use Rattle.gtp_machine.specs.Answer.{IsNew, TakesReading, ControlStep}
 use Rattle.gtp_machine.specs.Command.{CommandStep}
 use Rattle.gtp_machine.specs.Serving.{CreateSessionAnswered, CreateBearerAsked, DeleteBearerTaken, DeleteBearerAsked, delete_bearer_cause, ServingTakes}
 use Rattle.gtp_machine.specs.Config.{template_for}
-use Rattle.gtp_machine.proofs.Basics.Finishing.{on_session_begun, on_session_deleted, on_bearer_begun, on_bearer_deleted, on_session_released, on_end_marked, on_echo_begun, on_packet_sent, on_packet_came, on_end_came, on_error_came, on_user_step, on_finish, on_session_answered, on_bearer_answered, on_bearer_asked, on_session_asked, on_hears, on_control, on_read}
+use Rattle.gtp_machine.proofs.Basics.Finishing.{on_session_begun, on_session_deleted, on_bearer_begun, on_bearer_deleted, on_session_released}
+use Rattle.gtp_machine.proofs.Basics.Finishing.{on_end_marked, on_echo_begun, on_packet_sent, on_packet_came, on_end_came, on_error_came}
+use Rattle.gtp_machine.proofs.Basics.Finishing.{on_user_step, on_finish, on_session_answered, on_bearer_answered, on_bearer_asked, on_session_asked}
+use Rattle.gtp_machine.proofs.Basics.Finishing.{on_hears, on_control, on_read}
 use Rattle.gtp_machine.proofs.Basics.Templates.{goes}
 use Rattle.gtp_machine.specs.Packet.{session_cause, session_response, made_session, session_made, CreateSessionAsked, DeleteSessionAsked, CreateBearerAnswered, PacketTakes}
 use Rattle.gtp_machine.proofs.Changes.Shrinking.{Shrunk-finished, removes_each}
@@ -106,7 +111,8 @@ module _ (request : Arrival) (old : Node) (e : Effect) where
   ends : {create : Bool} (number : ℕ) (p : PendingRequest) (outcome : Outcome) → e ≡ finishing old number p outcome → Answers request create old e
   ends number p outcome gives = inl (ap seen_in gives ∙ ap (λ (hs : List Held). (hs, true)) (Shrunk-finished old number p.session p.bearer).held)
 
-  answers : {create : Bool} (m : Message) (f : Effect) → e ≡ f → f.node.held ≡ old.held ++ (record { request = request; answer = m ∷ [] } ∷ []) → is_create_answer m ≡ create → datagrams f.out.sent ≡ (m ∷ []) ∷ [] → Answers request create old e
+  answers : {create : Bool} (m : Message) (f : Effect) → e ≡ f → f.node.held ≡ old.held ++ (record { request = request; answer = m ∷ [] } ∷ [])
+      → is_create_answer m ≡ create → datagrams f.out.sent ≡ (m ∷ []) ∷ [] → Answers request create old e
   answers m f gives same is sends = inr (record { answer = m; more = []; is = is; plain = refl; held = ap held_in gives ∙ same; sends = ap (λ (f : Effect). datagrams f.out.sent) gives ∙ sends })
 
   finished_answers : {number : ℕ} {Fits : HasPending old number → Type 0} {outcome : Outcome} → EndsRequest old number Fits outcome e → Answers request false old e
@@ -123,8 +129,25 @@ module _ (request : Arrival) (old : Node) (e : Effect) where
   delete_bearer_taken_answers d (Some identity) s (inr (a, r)) = answers _ _ r refl refl refl
   delete_bearer_taken_answers d None s (inl f) = answers _ _ f.1 refl refl refl
   delete_bearer_taken_answers d None s (inr (a, r)) =
-      let m = Delete_bearer_response (record { header = written s.remote; number = d.number; cause = cause_of (delete_bearer_cause r.contexts); linked = None; contexts = r.contexts; recovery = Some old.counter }) in
-      inr (record { answer = m; more = []; is = refl; plain = refl; sends = ap (λ (f : Effect). datagrams f.out.sent) r.gives; held = ap held_in r.gives ∙ ap (λ (hs : List Held). hs ++ (record { request = request; answer = m ∷ [] } ∷ [])) (removes_each d.header d.identities old r.contexts r.left r.removes).held })
+      let m =
+      Delete_bearer_response
+      (record {
+        header = written s.remote;
+        number = d.number;
+        cause = cause_of (delete_bearer_cause r.contexts);
+        linked = None;
+        contexts = r.contexts;
+        recovery = Some old.counter;
+      }) in
+      inr (record {
+        answer = m;
+        more = [];
+        is = refl;
+        plain = refl;
+        sends = ap (λ (f : Effect). datagrams f.out.sent) r.gives;
+        held = ap held_in r.gives ∙ ap (λ (hs : List Held). hs ++ (record { request = request; answer = m ∷ [] } ∷ []))
+            (removes_each d.header d.identities old r.contexts r.left r.removes).held;
+      })
 
   delete_bearer_asked_answers : (d : DeleteBearerRequest) → DeleteBearerAsked request d old e → Answers request false old e
   delete_bearer_asked_answers d (inl f) = drops _ f.1 refl
@@ -139,7 +162,8 @@ module _ (request : Arrival) (old : Node) (e : Effect) where
       (λ room identity few draws r. ⊎_elim
       (λ alone. answers _ _ alone refl refl refl)
       (λ x. inr (record { answer = _; more = _; is = refl; plain = refl; held = ap held_in x.adds.gives; sends = ap (λ (f : Effect). datagrams f.out.sent) x.adds.gives }))
-      (goes request (session_response old q r.control r.user r.address) (session_cause q.pdn r.address) r.control (made_session q r.address) (session_made old q r.control r.user r.address) e (template_for q.access_point old.config.templates) r.gives))
+      (goes request (session_response old q r.control r.user r.address) (session_cause q.pdn r.address) r.control (made_session q r.address)
+      (session_made old q r.control r.user r.address) e (template_for q.access_point old.config.templates) r.gives))
       r
 
   delete_session_asked_answers : (d : _) → DeleteSessionAsked request d old e → Answers request false old e
@@ -177,7 +201,15 @@ module _ (request : Arrival) (old : Node) (e : Effect) where
 module _ (request : Arrival) (create : Bool) (Takes : Node → Effect → Type 0) (takes : (old : Node) (e : Effect) → Takes old e → Answers request create old e) where
   from : (old mid : Node) (e : Effect) → mid.held ≡ old.held → Answers request create mid e → Answers request create old e
   from old mid e same (inl calm) = inl (calm ∙ ap (λ (hs : List Held). (hs, true)) same)
-  from old mid e same (inr g) = inr (record { answer = g.answer; more = g.more; is = g.is; plain = g.plain; held = g.held ∙ ap (λ (hs : List Held). hs ++ (record { request = request; answer = g.answer ∷ g.more } ∷ [])) same; sends = g.sends })
+  from old mid e same (inr g) =
+      inr (record {
+        answer = g.answer;
+        more = g.more;
+        is = g.is;
+        plain = g.plain;
+        held = g.held ∙ ap (λ (hs : List Held). hs ++ (record { request = request; answer = g.answer ∷ g.more } ∷ [])) same;
+        sends = g.sends;
+      })
 
   heard_answers : (old : Node) (o : Option ℕ) (e : Effect) → Hears Takes old o e → Answers request create old e
   heard_answers old =
@@ -188,7 +220,9 @@ module _ (request : Arrival) (create : Bool) (Takes : Node → Effect → Type 0
       (λ taken heard learned. ⊎_elim (λ calm. inl calm) (λ g. inr (record { answer = g.answer; more = g.more; is = g.is; plain = g.plain; held = g.held; sends = g.sends })))
 
 -- what comes on the control plane, at either gateway
-module _ (role : Role) (Takes : Arrival → Message → Node → Effect → Type 0) (rows : (request : Arrival) (old : Node) (e : Effect) (m : Message) → Takes request m old e → Answers request (creates role m) old e) (request : Arrival) (old : Node) (e : Effect) where
+module _ (role : Role) (Takes : Arrival → Message → Node → Effect → Type 0)
+    (rows : (request : Arrival) (old : Node) (e : Effect) (m : Message) → Takes request m old e → Answers request (creates role m) old e)
+    (request : Arrival) (old : Node) (e : Effect) where
   pub heard : (m : Message) → Hears (Takes request m) old (recovery_of m) e → Answers request (creates role m) old e
   heard m r = heard_answers request (creates role m) (Takes request m) (λ mid f. rows request mid f m) old (recovery_of m) e r
 
@@ -199,7 +233,8 @@ module _ (role : Role) (Takes : Arrival → Message → Node → Effect → Type
       (λ m is kind r. ⊎_elim (λ same. inl same) (λ a. inr (new, a)) (holds request (creates role m) old e (heard m r)))
       (λ f is gives. inl (ap held_in gives)))
 
-pub control_held : (role : Role) (request : Arrival) (reading : ControlReading) (old : Node) (e : Effect) → Step role old (Control_came request reading) e → Keeps old e ⊎ (IsNew old request × Adds request old e)
+pub control_held : (role : Role) (request : Arrival) (reading : ControlReading) (old : Node) (e : Effect) → Step role old (Control_came request reading) e
+    → Keeps old e ⊎ (IsNew old request × Adds request old e)
 control_held Serving request reading old e r = control Serving ServingTakes serving_answers request old e reading r
 control_held Packet request reading old e r = control Packet PacketTakes packet_answers request old e reading r
 

@@ -28,7 +28,9 @@ abbrev pub IsMute : Node → Effect → Type 0
 IsMute old e = trace_of e ≡ record { sent = []; forgot = []; made = []; held = old.held; drawn = old.drawn }
 
 finished_mute : (old : Node) (number : ℕ) (p : PendingRequest) (outcome : Outcome) (e : Effect) → e ≡ finishing old number p outcome → IsMute old e
-finished_mute old number p outcome e gives = let s = Shrunk-finished old number p.session p.bearer in ap trace_of gives ∙ (λ i. record { sent = []; forgot = []; made = []; held = s.held i; drawn = s.drawn i })
+finished_mute old number p outcome e gives =
+    let s = Shrunk-finished old number p.session p.bearer in
+    ap trace_of gives ∙ (λ i. record { sent = []; forgot = []; made = []; held = s.held i; drawn = s.drawn i })
 
 answered_mute : (a : CreateSessionResponse) (old : Node) (e : Effect) → CreateSessionAnswered a old e → IsMute old e
 answered_mute a old e r =
@@ -49,11 +51,14 @@ module _ (Takes : Node → Effect → Type 0) (takes : (old : Node) (e : Effect)
       (λ e outcome gives. ap trace_of gives)
       (λ taken heard learned mute. mute)
 
-pub opening : (request : Arrival) (a : CreateSessionResponse) (old : Node) (e : Effect) → Step Serving old (Control_came request (Control_message (Create_session_response a))) e → IsMute old e ⊎ Repeats old request e
+pub opening : (request : Arrival) (a : CreateSessionResponse) (old : Node) (e : Effect)
+    → Step Serving old (Control_came request (Control_message (Create_session_response a))) e → IsMute old e ⊎ Repeats old request e
 opening request a old e =
-    on_control old e (λ _ f. inl (ap trace_of f)) request (λ r. inr r) (λ new. by_rule (λ f. inl (ap trace_of f)) (λ kind r. inl (heard (ServingTakes request (Create_session_response a)) (λ mid f s. answered_mute a mid f s) old a.recovery e r)))
+    on_control old e (λ _ f. inl (ap trace_of f)) request (λ r. inr r) (λ new. by_rule (λ f. inl (ap trace_of f))
+    (λ kind r. inl (heard (ServingTakes request (Create_session_response a)) (λ mid f s. answered_mute a mid f s) old a.recovery e r)))
 
-pub foreign : (role : Role) (request : Arrival) (kind : ℕ) (old : Node) (e : Effect) → Step role old (Control_came request (Control_message (Other_control kind))) e → IsMute old e ⊎ Repeats old request e
+pub foreign : (role : Role) (request : Arrival) (kind : ℕ) (old : Node) (e : Effect)
+    → Step role old (Control_came request (Control_message (Other_control kind))) e → IsMute old e ⊎ Repeats old request e
 foreign role request kind old e = on_control old e (λ _ f. inl (ap trace_of f)) request (λ r. inr r) (λ new. by_rule (λ f. inl (ap trace_of f)) (λ takes r. absurd (cc takes)))
 
 module _ (old : Node) (request : Arrival) (e : Effect) where

@@ -55,10 +55,14 @@ lesser_calm old e calm = record {
 lesser_given : (request : Arrival) (old : Node) (e : Effect) → Gives request false old e → IsLesser old e
 lesser_given request old e g = record {
   plain = ap are_plain (of_one e.out.sent (g.answer ∷ g.more) g.sends) ∙ (ap (λ (b : Bool). not b && are_plain g.more) g.is ∙ g.plain);
-  held = λ h among. ⊎_elim (λ was. inl was) (λ is. inr (ap (λ (k : Held). are_plain k.answer) is ∙ (ap (λ (b : Bool). not b && are_plain g.more) g.is ∙ g.plain))) (Among-one_more h (record { request = request; answer = g.answer ∷ g.more }) old.held (subst (Among h) g.held among));
+  held =
+      λ h among.
+      ⊎_elim (λ was. inl was) (λ is. inr (ap (λ (k : Held). are_plain k.answer) is ∙ (ap (λ (b : Bool). not b && are_plain g.more) g.is ∙ g.plain)))
+      (Among-one_more h (record { request = request; answer = g.answer ∷ g.more }) old.held (subst (Among h) g.held among));
 }
 
-answered : (role : Role) (m : Message) (request : Arrival) (old : Node) (e : Effect) (create : Bool) → (create ≡ true → CreateAsked role m request old e) → Answers request create old e → Replies role m request old e
+answered : (role : Role) (m : Message) (request : Arrival) (old : Node) (e : Effect) (create : Bool) → (create ≡ true → CreateAsked role m request old e)
+    → Answers request create old e → Replies role m request old e
 answered role m request old e create asked (inl calm) = inl (lesser_calm old e calm)
 answered role m request old e true asked (inr g) = inr (inr (record { answer = g.answer; more = g.more; plain = g.plain; asked = asked refl; says = g.sends; held = g.held }))
 answered role m request old e false asked (inr g) = inl (lesser_given request old e g)
@@ -86,11 +90,16 @@ module _ (Reads : Arrival → Node → Effect → Type 0) (request : Arrival) (o
 
 -- a message of the control plane comes
 pub message_replies : (role : Role) (m : Message) (request : Arrival) (old : Node) (e : Effect) → Step role old (Control_came request (Control_message m)) e → Replies role m request old e
-message_replies Serving m request old e r = control (TakesReading Serving ServingTakes (Control_message m)) request old e (IsReplied Serving m request old e) (replies Serving ServingTakes serving_answers serving_asked m request old e) r
-message_replies Packet m request old e r = control (TakesReading Packet PacketTakes (Control_message m)) request old e (IsReplied Packet m request old e) (replies Packet PacketTakes packet_answers packet_asked m request old e) r
+message_replies Serving m request old e r =
+    control (TakesReading Serving ServingTakes (Control_message m)) request old e (IsReplied Serving m request old e)
+    (replies Serving ServingTakes serving_answers serving_asked m request old e) r
+message_replies Packet m request old e r =
+    control (TakesReading Packet PacketTakes (Control_message m)) request old e (IsReplied Packet m request old e)
+    (replies Packet PacketTakes packet_answers packet_asked m request old e) r
 
 -- what reads as no message comes
-pub fault_replies : (role : Role) (fault : ℕ) (request : Arrival) (old : Node) (e : Effect) → Step role old (Control_came request (Control_fault fault)) e → IsLesser old e ⊎ (IsRepeated request old e ⊎ ⊥)
+pub fault_replies : (role : Role) (fault : ℕ) (request : Arrival) (old : Node) (e : Effect) → Step role old (Control_came request (Control_fault fault)) e
+    → IsLesser old e ⊎ (IsRepeated request old e ⊎ ⊥)
 fault_replies role fault request old e = control (TakesReading role (TakesBy role) (Control_fault fault)) request old e ⊥ (λ f. inl (lesser_calm old e (ap seen_in f)))
 
 -- no pending request is such a response
@@ -104,7 +113,9 @@ move_plain old asks (Forget request) e r = ap (λ (f : Effect). are_plain (messa
 
 move_asks : (old : Node) → AllAsk old.pending → (move : Move) (e : Effect) → MoveStep old move e → AllAsk e.node.pending
 move_asks old asks (Resend number) e r = subst (λ (f : Effect). AllAsk f.node.pending) (sym r.gives) asks
-move_asks old asks (Give_up number) e r = subst (λ (f : Effect). AllAsk f.node.pending) (sym r.gives) (λ k p stands. asks k p ((Shrunk-finished old number r.at.pending.session r.at.pending.bearer).pending k p stands))
+move_asks old asks (Give_up number) e r =
+    subst (λ (f : Effect). AllAsk f.node.pending) (sym r.gives)
+    (λ k p stands. asks k p ((Shrunk-finished old number r.at.pending.session r.at.pending.bearer).pending k p stands))
 move_asks old asks (Forget request) e r = subst (λ (f : Effect). AllAsk f.node.pending) (sym r.gives) asks
 
 plain_both : (first rest : List Message) → are_plain first ≡ true → are_plain rest ≡ true → are_plain (first ++ rest) ≡ true

@@ -24,10 +24,14 @@ ControlCarried role history old (Control_message m) = (HasSent history (other ro
 ControlCarried role history old (Faulty f) = ⊥
 ControlCarried role history old (Control_fault fault) = Unit {0}
 
-module _ (role : Role) (history : List Sent) (taken : Arrival → Message → Type 0) (serving_once : Once history Serving) (packet_once : Once history Packet) (old : Node) (knows : Knows role history old)
+module _ (role : Role) (history : List Sent) (taken : Arrival → Message → Type 0) (serving_once : Once history Serving)
+    (packet_once : Once history Packet) (old : Node) (knows : Knows role history old)
     (Takes : Arrival → Message → Node → Effect → Type 0) (request : Arrival)
-    (rows : (m : Message) → HasSent history (other role) m → taken request m → (mid : Node) → IsHeardFrom old mid → Knows role history mid → ((c : ℕ) → recovery_of m ≡ Some c → mid.known ≡ Some c) → (e : Effect) → Takes request m mid e → Took role history taken mid e) where
-  pub control_came : (reading : ControlReading) (e : Effect) → ControlCarried role history old reading → (IsNew old request → (m : Message) → reading ≡ Control_message m → taken request m) → ControlStep (TakesReading role Takes reading) request old e → After role history taken old e
+    (rows : (m : Message) → HasSent history (other role) m → taken request m → (mid : Node) → IsHeardFrom old mid → Knows role history mid
+    → ((c : ℕ) → recovery_of m ≡ Some c → mid.known ≡ Some c) → (e : Effect) → Takes request m mid e → Took role history taken mid e) where
+  pub control_came : (reading : ControlReading) (e : Effect) → ControlCarried role history old reading
+      → (IsNew old request → (m : Message) → reading ≡ Control_message m → taken request m)
+      → ControlStep (TakesReading role Takes reading) request old e → After role history taken old e
   control_came reading e came is =
       on_control old e (λ outcome. unchanged role history taken serving_once packet_once old knows outcome e) request (repeats role history taken serving_once packet_once old knows request e) (λ new.
       on_read old e (λ outcome. unchanged role history taken serving_once packet_once old knows outcome e) role Takes request reading

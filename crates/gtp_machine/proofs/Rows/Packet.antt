@@ -6,7 +6,9 @@ use Rattle.gtp_values.specs.declared.cause.Cause.{Cause}
 use Rattle.gtp_values.specs.declared.qos.Qos.{Qos}
 use Rattle.gtp_values.specs.FiniteMap.{FiniteMap, Each, Among}
 use Rattle.gtp_machine.specs.Element.{IsAccepting, teid_in}
-use Rattle.gtp_machine.specs.Message.{CreateSessionRequest, CreateSessionResponse, DeleteSessionRequest, DeleteSessionResponse, CreateBearerRequest, CreateBearerResponse, Message, Create_session_request, Create_session_response, Delete_session_response, Create_bearer_request, Create_bearer_response, Packet_data, Owns, recovery_of, first_returned}
+use Rattle.gtp_machine.specs.Message.{CreateSessionRequest, CreateSessionResponse, DeleteSessionRequest, DeleteSessionResponse, CreateBearerRequest}
+use Rattle.gtp_machine.specs.Message.{CreateBearerResponse, Message, Create_session_request, Create_session_response, Delete_session_response}
+use Rattle.gtp_machine.specs.Message.{Create_bearer_request, Create_bearer_response, Packet_data, Owns, recovery_of, first_returned}
 use Rattle.gtp_machine.specs.Node.{Serving, Packet, Active, Closing, Session, Bearer, PendingRequest, Arrival, Node, holding, written}
 use Rattle.gtp_machine.specs.Input.{Came_to, Begun, Opened, Effect}
 use Rattle.gtp_machine.specs.Choice.{IsFree, HasPending, counter_of}
@@ -15,11 +17,14 @@ use Rattle.gtp_machine.specs.Config.{template_for}
 use Rattle.gtp_machine.specs.Command.{bearer_request, create_bearer_asked, pending_dedicated, BeginsBearer, BearerBegun}
 use Rattle.gtp_machine.specs.Answer.{answered, making}
 use Rattle.gtp_values.proofs.Allocations.{address_back}
-use Rattle.gtp_machine.specs.Packet.{session_cause, session_response, made_session, made_bearer, session_made, MakesSession, session_refused, CreateSessionAsked, DeleteSessionAsked, FitsCreateBearer, DescribesBearer, CanOpen, opened_dedicated, OpensBearer, CreateBearerAnswered, PacketTakes}
+use Rattle.gtp_machine.specs.Packet.{session_cause, session_response, made_session, made_bearer, session_made, MakesSession, session_refused}
+use Rattle.gtp_machine.specs.Packet.{CreateSessionAsked, DeleteSessionAsked, FitsCreateBearer, DescribesBearer, CanOpen, opened_dedicated}
+use Rattle.gtp_machine.specs.Packet.{OpensBearer, CreateBearerAnswered, PacketTakes}
 use Rattle.gtp_machine.specs.World.{Sent, HasSent, signed}
 use Rattle.gtp_machine.proofs.Basics.Finishing.{on_bearer_begun, on_session_asked, on_bearer_answered}
 use Rattle.gtp_machine.proofs.Basics.FiniteMaps.{Each-insert, Each-remove, found-remove, get-insert_same, Among-left, Among-right, Among-cases, Among-only}
-use Rattle.gtp_machine.proofs.Origins.Drawing.{Extends, Extends-signed, Draws-nothing, Draws-new, pair_apart, one_more_drawn, two_more_drawn, TellsStart, IsProper, IsMadeNow, by_before, by_now, by_cases}
+use Rattle.gtp_machine.proofs.Origins.Drawing.{Extends, Extends-signed, Draws-nothing, Draws-new, pair_apart, one_more_drawn, two_more_drawn}
+use Rattle.gtp_machine.proofs.Origins.Drawing.{TellsStart, IsProper, IsMadeNow, by_before, by_now, by_cases}
 use Rattle.gtp_machine.proofs.Origins.Contexts.{IsMade, IsWanted, IsAtPacket, closes-session, closes-bearer}
 use Rattle.gtp_machine.proofs.Changes.Shrinking.{Shrunk, Shrunk-itself, Shrunk-without}
 use Rattle.gtp_machine.proofs.Changes.Matching.{IsMatched, IsMatched-bearer}
@@ -42,11 +47,21 @@ stands_active sessions key at at_stands active s s_stands closing =
     active_not_closing at.state active (ap (λ (k : Session). k.state) is ∙ closing)
 
 -- the request for a bearer that is begun is made now
-begun_now : (history : List Sent) (old new : Node) (session : ℕ) (at : Session) (tft : List ℕ) (qos : Qos) (user number : ℕ) → IsFree old user → Among user new.drawn → IsMadeNow history Packet old new (Create_bearer_request (bearer_request old at tft qos user number))
-begun_now history old new session at tft qos user number free drawn = record { free = λ t is. subst (IsFree old) (sym is) free; drawn = λ t is. subst (λ k. Among k new.drawn) (sym is) drawn; told = λ c e. absurd (none_some c e); tells = λ t none. absurd none; proper = tt }
+begun_now : (history : List Sent) (old new : Node) (session : ℕ) (at : Session) (tft : List ℕ) (qos : Qos) (user number : ℕ) → IsFree old user
+    → Among user new.drawn → IsMadeNow history Packet old new (Create_bearer_request (bearer_request old at tft qos user number))
+begun_now history old new session at tft qos user number free drawn =
+    record {
+      free = λ t is. subst (IsFree old) (sym is) free;
+      drawn = λ t is. subst (λ k. Among k new.drawn) (sym is) drawn;
+      told = λ c e. absurd (none_some c e);
+      tells = λ t none. absurd none;
+      proper = tt;
+    }
 
 -- what is known once a bearer was begun and its request was sent
-begun_known : (history after : List Sent) → Extends history after → (old : Node) → Knows Packet history old → NothingOwns history Packet old → (session : ℕ) (at : Session) (tft : List ℕ) (qos : Qos) (user number : ℕ) → IsFree old user → get old.sessions session ≡ Some at → at.state ≡ Active
+begun_known : (history after : List Sent) → Extends history after → (old : Node) → Knows Packet history old → NothingOwns history Packet old
+    → (session : ℕ) (at : Session) (tft : List ℕ) (qos : Qos) (user number : ℕ) → IsFree old user → get old.sessions session ≡ Some at
+    → at.state ≡ Active
     → HasSent after Packet (Create_bearer_request (bearer_request old at tft qos user number)) → Knows Packet after (create_bearer_asked old session (bearer_request old at tft qos user number) user)
 begun_known history after extends old knows unowned session at tft qos user number free stands active now =
     let q = bearer_request old at tft qos user number in
@@ -60,12 +75,29 @@ begun_known history after extends old knows unowned session at tft qos user numb
             (record {
               session = at;
               stands = stands;
-              origin = inr (record { kind = refl; request = q; asked = now; user = refl; made = made.answer; answered = made.answered; control = made.control; header = ap written made.remote ∙ sym made.header; opened = λ x none. absurd (none_some x none) });
+              origin =
+                  inr
+                  (record {
+                    kind = refl;
+                    request = q;
+                    asked = now;
+                    user = refl;
+                    made = made.answer;
+                    answered = made.answered;
+                    control = made.control;
+                    header = ap written made.remote ∙ sym made.header;
+                    opened = λ x none. absurd (none_some x none);
+                  });
             })
             was.contexts.bearers_made;
       };
       matched = Each-insert (IsMatched old.sessions (insert old.bearers user (pending_dedicated session))) old.pending number p
-          (record { waits = λ k e. absurd (cc e); numbered = λ k e. absurd (cc e); names_bearer = λ k e. let same : q ≡ k = cc e in ap (λ (k : CreateBearerRequest). Some k.context.user.teid) same; of_session = of_session q })
+          (record {
+            waits = λ k e. absurd (cc e);
+            numbered = λ k e. absurd (cc e);
+            names_bearer = λ k e. let same : q ≡ k = cc e in ap (λ (k : CreateBearerRequest). Some k.context.user.teid) same;
+            of_session = of_session q;
+          })
           (matched_bearer history Packet old unowned knows.pending old.sessions user (pending_dedicated session) free knows.matched);
       drawn = λ t s e. inr (knows.drawn t s e);
       standing = knows.standing;
@@ -75,24 +107,32 @@ begun_known history after extends old knows unowned session at tft qos user numb
       held = was.held;
     }
   where
-    of_session : (q k : CreateBearerRequest) → Create_bearer_request q ≡ Create_bearer_request k → (b : Bearer) → get (insert old.bearers q.context.user.teid (pending_dedicated session)) k.context.user.teid ≡ Some b → Some session ≡ Some b.session
+    of_session : (q k : CreateBearerRequest) → Create_bearer_request q ≡ Create_bearer_request k → (b : Bearer)
+        → get (insert old.bearers q.context.user.teid (pending_dedicated session)) k.context.user.teid ≡ Some b → Some session ≡ Some b.session
     of_session q k e b stands =
         let same : q ≡ k = cc e in
-        let here : get (insert old.bearers q.context.user.teid (pending_dedicated session)) k.context.user.teid ≡ Some (pending_dedicated session) = ap (λ (k : CreateBearerRequest). get (insert old.bearers q.context.user.teid (pending_dedicated session)) k.context.user.teid) (sym same) ∙ get-insert_same old.bearers q.context.user.teid (pending_dedicated session) in
+        let here : get (insert old.bearers q.context.user.teid (pending_dedicated session)) k.context.user.teid ≡ Some (pending_dedicated session) =
+        ap (λ (k : CreateBearerRequest). get (insert old.bearers q.context.user.teid (pending_dedicated session)) k.context.user.teid) (sym same)
+        ∙ get-insert_same old.bearers q.context.user.teid (pending_dedicated session) in
         let is : pending_dedicated session ≡ b = cc (here, stands) in
         ap (λ (k : Bearer). Some k.session) is
 
 module _ (history : List Sent) (taken : Arrival → Message → Type 0) (serving_once : Once history Serving) (packet_once : Once history Packet) (old : Node) (knows : Knows Packet history old) where
-  begins : (unowned : NothingOwns history Packet old) (session : ℕ) (at : Session) (tft : List ℕ) (qos : Qos) (e : Effect) → get old.sessions session ≡ Some at → at.state ≡ Active → BeginsBearer old session at tft qos e → After Packet history taken old e
+  begins : (unowned : NothingOwns history Packet old) (session : ℕ) (at : Session) (tft : List ℕ) (qos : Qos) (e : Effect)
+      → get old.sessions session ≡ Some at → at.state ≡ Active → BeginsBearer old session at tft qos e → After Packet history taken old e
   begins unowned session at tft qos e stands active r =
       let q = bearer_request old at tft qos r.user r.number in
       let m = Create_bearer_request q in
       let new_node : Node = create_bearer_asked old session q r.user in
       at_result (After Packet history taken old) e _ r.gives (record {
-        knows = begun_known history (history ++ signed Packet (m ∷ [])) (Extends-signed history Packet (m ∷ [])) old knows unowned session at tft qos r.user r.number r.user_free stands active (by_now history Packet (m ∷ []) m (inl refl));
+        knows =
+            begun_known history (history ++ signed Packet (m ∷ [])) (Extends-signed history Packet (m ∷ [])) old knows unowned session at tft qos
+            r.user r.number r.user_free stands active (by_now history Packet (m ∷ []) m (inl refl));
         known = refl;
         told = nothing_told history Serving;
-        draws = Draws-new history Packet old new_node m refl refl (λ t stood. inr stood) (one_more_drawn old.counter r.user old.drawn r.user_free.counted) (inr (begun_now history old new_node session at tft qos r.user r.number r.user_free (inl refl)));
+        draws =
+            Draws-new history Packet old new_node m refl refl (λ t stood. inr stood) (one_more_drawn old.counter r.user old.drawn r.user_free.counted)
+            (inr (begun_now history old new_node session at tft qos r.user r.number r.user_free (inl refl)));
         logs = Logs-plain history Packet taken old new_node (Came_to (Begun (Some r.user))) (λ h stood. stood) _ m tt;
         few = (tt, tt);
       })
@@ -103,8 +143,11 @@ module _ (history : List Sent) (taken : Arrival → Message → Type 0) (serving
       (λ at active draws few r. begins unowned session at.session tft qos e at.stands active r)
       r
 
-  module _ (dated : (m : Message) (t : ℕ) → HasSent history Serving m → TellsStart m → Owns m t → recovery_of m ≡ Some (counter_of t)) (proper : (m : Message) → HasSent history Serving m → IsProper Serving m) where
-    module _ (unowned : NothingOwns history Packet old) (request : Arrival) (q : CreateSessionRequest) (e : Effect) (came : HasSent history Serving (Create_session_request q)) (is_taken : taken request (Create_session_request q)) (told : (c : ℕ) → q.recovery ≡ Some c → old.known ≡ Some c) (r : MakesSession request old q e) where
+  module _ (dated : (m : Message) (t : ℕ) → HasSent history Serving m → TellsStart m → Owns m t → recovery_of m ≡ Some (counter_of t))
+      (proper : (m : Message) → HasSent history Serving m → IsProper Serving m) where
+    module _ (unowned : NothingOwns history Packet old) (request : Arrival) (q : CreateSessionRequest) (e : Effect)
+        (came : HasSent history Serving (Create_session_request q)) (is_taken : taken request (Create_session_request q))
+        (told : (c : ℕ) → q.recovery ≡ Some c → old.known ≡ Some c) (r : MakesSession request old q e) where
       abbrev answer : CreateSessionResponse
       answer = session_response old q r.control r.user r.address
 
@@ -125,16 +168,54 @@ module _ (history : List Sent) (taken : Arrival → Message → Type 0) (serving
           let b = made_bearer q r.control in
           record {
             contexts = record {
-              sessions_made = Each-insert (IsMade after) old.sessions r.control session (record { request = q; asked = asked; answer = answer; answered = now; control = refl; header = refl; remote = refl; subscriber = refl; address = sym (address_back 64 r.address r.given.some_part) }) was.contexts.sessions_made;
+              sessions_made =
+                  Each-insert (IsMade after) old.sessions r.control session (record {
+                    request = q;
+                    asked = asked;
+                    answer = answer;
+                    answered = now;
+                    control = refl;
+                    header = refl;
+                    remote = refl;
+                    subscriber = refl;
+                    address = sym (address_back 64 r.address r.given.some_part);
+                  }) was.contexts.sessions_made;
               bearers_made = Each-insert (IsAtPacket after (insert old.sessions r.control session)) old.bearers r.user b
-                  (record { session = session; stands = session_stands; origin = inl (record { kind = refl; request = q; asked = asked; answer = answer; answered = now; user = refl; control = refl; header = refl; remote = refl; identity = refl }) })
+                  (record {
+                    session = session;
+                    stands = session_stands;
+                    origin = inl
+                        (record {
+                          kind = refl;
+                          request = q;
+                          asked = asked;
+                          answer = answer;
+                          answered = now;
+                          user = refl;
+                          control = refl;
+                          header = refl;
+                          remote = refl;
+                          identity = refl;
+                        });
+                  })
                   (with_new_session history Packet old knows _ r.control session r.control_free.undrawn was.contexts.bearers_made);
             };
-            matched = matched_bearer history Packet old unowned knows.pending (insert old.sessions r.control session) r.user b r.user_free (matched_session history Packet old unowned knows.pending r.control session r.control_free knows.matched);
+            matched =
+                matched_bearer history Packet old unowned knows.pending (insert old.sessions r.control session) r.user b r.user_free
+                (matched_session history Packet old unowned knows.pending r.control session r.control_free knows.matched);
             drawn = Each-insert (λ t (x : Session). Among t (r.user ∷ r.control ∷ old.drawn)) old.sessions r.control session (inr (inl refl)) (λ t x e. inr (inr (knows.drawn t x e)));
-            standing = Each-insert (IsStanding old.known) old.sessions r.control session (record { current = λ x is. told (counter_of x) (dated (Create_session_request q) x came tt (inl (let same : x ≡ q.control.teid = cc is in same))); blank = λ w. absurd (active_not_pending w); named = λ h. (q.control.teid, refl) }) knows.standing;
+            standing =
+                Each-insert (IsStanding old.known) old.sessions r.control session (record {
+                  current =
+                      λ x is. told (counter_of x) (dated (Create_session_request q) x came tt (inl (let same : x ≡ q.control.teid = cc is in same)));
+                  blank = λ w. absurd (active_not_pending w);
+                  named = λ h. (q.control.teid, refl);
+                }) knows.standing;
             ready = Each-insert IsReady old.bearers r.user b (λ active. (q.context.user.teid, refl)) knows.ready;
-            closed = closes-bearer (insert old.sessions r.control session) old.bearers r.user b (stands_active (insert old.sessions r.control session) r.control session session_stands refl) (closes-session old.sessions old.bearers r.control session (active_not_closing Active refl) knows.closed);
+            closed =
+                closes-bearer (insert old.sessions r.control session) old.bearers r.user b
+                (stands_active (insert old.sessions r.control session) r.control session session_stands refl)
+                (closes-session old.sessions old.bearers r.control session (active_not_closing Active refl) knows.closed);
             pending = was.pending;
             held = was.held;
           }
@@ -150,7 +231,14 @@ module _ (history : List Sent) (taken : Arrival → Message → Type 0) (serving
         drawn = owned (λ t. Among t new.drawn) control user;
         told = λ c e. cc e;
         tells = λ t is owns. refl;
-        proper = (refl, record { control = λ accepts. (r.control, refl); user = λ accepts. (r.user, refl); apart = λ t control user. r.apart (same_Some r.control t control ∙ sym (same_Some r.user t user)) });
+        proper = (
+          refl,
+          record {
+            control = λ accepts. (r.control, refl);
+            user = λ accepts. (r.user, refl);
+            apart = λ t control user. r.apart (same_Some r.control t control ∙ sym (same_Some r.user t user));
+          },
+        );
       }
 
       -- the answer goes alone
@@ -158,10 +246,15 @@ module _ (history : List Sent) (taken : Arrival → Message → Type 0) (serving
       makes_alone gives =
           let m = Create_session_response answer in
           took Packet history taken old knows e _ gives refl (record {
-            knows = held_now Packet history taken old knows request (m ∷ []) made tt (made_known (history ++ signed Packet (m ∷ [])) (Extends-signed history Packet (m ∷ [])) (by_now history Packet (m ∷ []) m (inl refl)));
+            knows =
+                held_now Packet history taken old knows request (m ∷ []) made tt
+                (made_known (history ++ signed Packet (m ∷ [])) (Extends-signed history Packet (m ∷ [])) (by_now history Packet (m ∷ []) m (inl refl)));
             known = refl;
             told = nothing_told history Serving;
-            draws = Draws-new history Packet old (holding request (m ∷ []) made) m refl refl (λ t stood. inr (inr stood)) (two_more_drawn old.counter r.user r.control old.drawn r.user_free.counted r.control_free.counted) (inr (answer_now (holding request (m ∷ []) made) (inr (inl refl)) (inl refl)));
+            draws =
+                Draws-new history Packet old (holding request (m ∷ []) made) m refl refl (λ t stood. inr (inr stood))
+                (two_more_drawn old.counter r.user r.control old.drawn r.user_free.counted r.control_free.counted)
+                (inr (answer_now (holding request (m ∷ []) made) (inr (inl refl)) (inl refl)));
             logs = Logs-made history Packet taken old request (m ∷ []) (session_cause q.pdn r.address) made (Create_session_request q) refl is_taken refl
                 (λ t p among. absurd (subst IsPlain (sym (Among-only _ m among)) tt))
                 (λ y t among gives. absurd (none_some t (sym (subst IsPlain (sym (Among-only _ m among)) tt) ∙ gives)));
@@ -201,7 +294,15 @@ module _ (history : List Sent) (taken : Arrival → Message → Type 0) (serving
 
         each : (m : Message) → Among m sent_together → HasSent history Packet m ⊎ IsMadeNow history Packet old left m
         each m (inl is) = inr (subst (IsMadeNow history Packet old left) (sym is) (answer_now left (inr (inr (inl refl))) (inr (inl refl))))
-        each m (inr (inl is)) = inr (subst (IsMadeNow history Packet old left) (sym is) (record { free = λ t is. subst (IsFree old) (sym is) free_before; drawn = λ t is. inl is; told = λ c e. absurd (none_some c e); tells = λ t none. absurd none; proper = tt }))
+        each m (inr (inl is)) =
+            inr (subst (IsMadeNow history Packet old left) (sym is)
+            (record {
+              free = λ t is. subst (IsFree old) (sym is) free_before;
+              drawn = λ t is. inl is;
+              told = λ c e. absurd (none_some c e);
+              tells = λ t none. absurd none;
+              proper = tt;
+            }))
         each m (inr (inr none)) = absurd none
 
         plain : (m : Message) → Among m sent_together → IsPlain m
@@ -222,12 +323,25 @@ module _ (history : List Sent) (taken : Arrival → Message → Type 0) (serving
             let alone = Create_session_response answer ∷ [] in
             took Packet history taken old knows e _ x.adds.gives refl (record {
               knows = held_now Packet history taken old knows request sent_together (create_bearer_asked made r.control wanted x.adds.user) pair
-                  (begun_known (history ++ signed Packet alone) (history ++ signed Packet sent_together) longer made (made_known (history ++ signed Packet alone) (Extends-signed history Packet alone) (by_now history Packet alone (Create_session_response answer) (inl refl))) unowned_made r.control session x.template.tft x.template.qos x.adds.user x.adds.number x.adds.user_free session_stands refl
+                  (begun_known (history ++ signed Packet alone) (history ++ signed Packet sent_together) longer made
+                  (made_known (history ++ signed Packet alone) (Extends-signed history Packet alone)
+                  (by_now history Packet alone (Create_session_response answer) (inl refl))) unowned_made r.control session x.template.tft
+                  x.template.qos x.adds.user x.adds.number x.adds.user_free session_stands refl
                   (by_now history Packet sent_together (Create_bearer_request wanted) (inr (inl refl))));
               known = refl;
               told = nothing_told history Serving;
-              draws = record { config = refl; counter = refl; extends = λ t stood. inr (inr (inr stood)); present = present; each = each; one = pair_apart (Create_session_response answer) (Create_bearer_request wanted) pair none_shared };
-              logs = Logs-made history Packet taken old request sent_together (session_cause q.pdn r.address) (create_bearer_asked made r.control wanted x.adds.user) (Create_session_request q) refl is_taken refl
+              draws =
+                  record {
+                    config = refl;
+                    counter = refl;
+                    extends = λ t stood. inr (inr (inr stood));
+                    present = present;
+                    each = each;
+                    one = pair_apart (Create_session_response answer) (Create_bearer_request wanted) pair none_shared;
+                  };
+              logs =
+                  Logs-made history Packet taken old request sent_together (session_cause q.pdn r.address)
+                  (create_bearer_asked made r.control wanted x.adds.user) (Create_session_request q) refl is_taken refl
                   (λ t p among. absurd (plain (Packet_data t p) among))
                   (λ y t among gives. absurd (none_some t (sym (plain (Create_bearer_response y) among) ∙ gives)));
               few = (pair, tt);
@@ -244,7 +358,9 @@ module _ (history : List Sent) (taken : Arrival → Message → Type 0) (serving
         none t (inl e) = none_some t e
         none t (inr e) = none_some t e
 
-    create_session_asked : (unowned : NothingOwns history Packet old) (request : Arrival) (q : CreateSessionRequest) (e : Effect) → HasSent history Serving (Create_session_request q) → taken request (Create_session_request q) → ((c : ℕ) → q.recovery ≡ Some c → old.known ≡ Some c) → CreateSessionAsked request q old e → Took Packet history taken old e
+    create_session_asked : (unowned : NothingOwns history Packet old) (request : Arrival) (q : CreateSessionRequest) (e : Effect)
+        → HasSent history Serving (Create_session_request q) → taken request (Create_session_request q)
+        → ((c : ℕ) → q.recovery ≡ Some c → old.known ≡ Some c) → CreateSessionAsked request q old e → Took Packet history taken old e
     create_session_asked unowned request q e came is told r =
         on_session_asked old e (λ outcome f. drops Packet history taken old knows outcome e f) request q
         (λ room cause high f. refuses request q cause e high f)
@@ -252,16 +368,21 @@ module _ (history : List Sent) (taken : Arrival → Message → Type 0) (serving
         r
 
     -- an answer to a Delete Session Request
-    says_deleted : (request : Arrival) (cause : ℕ) (new : Node) (d : DeleteSessionResponse) (e : Effect) → e ≡ answered request (Delete_session_response d) cause new → Shrunk old new → ((r : ℕ) → d.recovery ≡ Some r → r ≡ old.counter) → Took Packet history taken old e
+    says_deleted : (request : Arrival) (cause : ℕ) (new : Node) (d : DeleteSessionResponse) (e : Effect)
+        → e ≡ answered request (Delete_session_response d) cause new → Shrunk old new → ((r : ℕ) → d.recovery ≡ Some r → r ≡ old.counter)
+        → Took Packet history taken old e
     says_deleted request cause new d e gives s told = gives_answer Packet history taken old knows request (Delete_session_response d) cause new e gives s tt (λ t none. none) told tt
 
     delete_session_asked : (request : Arrival) (d : DeleteSessionRequest) (e : Effect) → DeleteSessionAsked request d old e → Took Packet history taken old e
     delete_session_asked request d e (inl f) = drops Packet history taken old knows _ e f.1
     delete_session_asked request d e (inr (room, inl f)) = says_deleted request 64 old _ e f.1 (Shrunk-itself old) (λ c e. cc e)
     delete_session_asked request d e (inr (room, inr (at, inl f))) = says_deleted request 64 old _ e f.1 (Shrunk-itself old) (λ c e. cc e)
-    delete_session_asked request d e (inr (room, inr (at, inr (linked, gives)))) = says_deleted request 16 (without_session old d.header) _ e gives (Shrunk-without (λ t. eqb t d.header) (λ t. false) old) (λ c e. cc e)
+    delete_session_asked request d e (inr (room, inr (at, inr (linked, gives)))) =
+        says_deleted request 16 (without_session old d.header) _ e gives (Shrunk-without (λ t. eqb t d.header) (λ t. false) old) (λ c e. cc e)
 
-    module _ (x : CreateBearerResponse) (came : HasSent history Serving (Create_bearer_response x)) (at : HasPending old x.number) (fits : FitsCreateBearer at.pending x) (accepts : IsAccepting x.cause) (new : DescribesBearer x) (both : IsAccepting new.context.cause) (returned : teid_in new.context.packet_user ≡ Some fits.bearer) (can : CanOpen old fits.session new.context.identity) where
+    module _ (x : CreateBearerResponse) (came : HasSent history Serving (Create_bearer_response x)) (at : HasPending old x.number)
+        (fits : FitsCreateBearer at.pending x) (accepts : IsAccepting x.cause) (new : DescribesBearer x) (both : IsAccepting new.context.cause)
+        (returned : teid_in new.context.packet_user ≡ Some fits.bearer) (can : CanOpen old fits.session new.context.identity) where
       pending : IsPending history Packet x.number at.pending
       pending = knows.pending x.number at.pending at.waits
 
@@ -293,7 +414,12 @@ module _ (history : List Sent) (taken : Arrival → Message → Type 0) (serving
               contexts = record {
                 sessions_made = was.contexts.sessions_made;
                 bearers_made = Each-insert (IsAtPacket after old.sessions) old.bearers fits.bearer opened
-                    (record { session = stood.session; stands = stood.stands; origin = ⊎_elim (λ o. absurd (answer_not_request (history ++ []) later_once o.answer fits.request o.answered request_sent (o.user ∙ ap (λ k. Some k) (sym user_is)))) (λ w. inr (opened_origin w)) stood.origin })
+                    (record {
+                      session = stood.session;
+                      stands = stood.stands;
+                      origin = ⊎_elim (λ o. absurd (answer_not_request (history ++ []) later_once o.answer fits.request o.answered request_sent
+                          (o.user ∙ ap (λ k. Some k) (sym user_is)))) (λ w. inr (opened_origin w)) stood.origin;
+                    })
                     was.contexts.bearers_made;
               };
               drawn = knows.drawn;
@@ -312,11 +438,16 @@ module _ (history : List Sent) (taken : Arrival → Message → Type 0) (serving
           })
         where
           session_is : x.header ≡ r.at.bearer.session
-          session_is = ⊎_elim (λ is. one_value at.pending.session x.header r.at.bearer.session is (matched_now.of_session fits.request fits.asked r.at.bearer (ap (λ k. get old.bearers k) user_is ∙ r.at.stands))) (λ zero. absurd (not_below zero.1 accepts.high)) fits.named
+          session_is =
+              ⊎_elim (λ is. one_value at.pending.session x.header r.at.bearer.session is
+              (matched_now.of_session fits.request fits.asked r.at.bearer (ap (λ k. get old.bearers k) user_is ∙ r.at.stands)))
+              (λ zero. absurd (not_below zero.1 accepts.high)) fits.named
 
           -- the bearer is of the session that the request is about
           of_session : r.at.bearer.session ≡ fits.session
-          of_session = one_value at.pending.session r.at.bearer.session fits.session (matched_now.of_session fits.request fits.asked r.at.bearer (ap (λ k. get old.bearers k) user_is ∙ r.at.stands)) fits.about
+          of_session =
+              one_value at.pending.session r.at.bearer.session fits.session
+              (matched_now.of_session fits.request fits.asked r.at.bearer (ap (λ k. get old.bearers k) user_is ∙ r.at.stands)) fits.about
 
           not_closing : (s : Session) → get old.sessions r.at.bearer.session ≡ Some s → s.state ≡ Closing → ⊥
           not_closing s stands closing =
@@ -327,7 +458,8 @@ module _ (history : List Sent) (taken : Arrival → Message → Type 0) (serving
           matched number p e =
               let found = found-remove old.pending x.number number p e in
               let was = knows.matched number p found.1 in
-              IsMatched-bearer old.sessions old.bearers fits.bearer (opened_dedicated r.at.bearer x) number p (λ b is same. was.of_session b is r.at.bearer (ap (λ k. get old.bearers k) same ∙ r.at.stands)) was
+              IsMatched-bearer old.sessions old.bearers fits.bearer (opened_dedicated r.at.bearer x) number p
+              (λ b is same. was.of_session b is r.at.bearer (ap (λ k. get old.bearers k) same ∙ r.at.stands)) was
 
           opened_origin : IsWanted (history ++ []) fits.bearer r.at.bearer → IsWanted (history ++ []) fits.bearer (opened_dedicated r.at.bearer x)
           opened_origin w = record {
@@ -339,7 +471,15 @@ module _ (history : List Sent) (taken : Arrival → Message → Type 0) (serving
             answered = w.answered;
             control = w.control;
             header = w.header;
-            opened = λ t is. record { answer = x; sent = by_before history Serving Packet [] (Create_bearer_response x) came; header = session_is; echoed = ap first_returned new.alone ∙ returned; remote = refl; identity = refl };
+            opened =
+                λ t is. record {
+                  answer = x;
+                  sent = by_before history Serving Packet [] (Create_bearer_response x) came;
+                  header = session_is;
+                  echoed = ap first_returned new.alone ∙ returned;
+                  remote = refl;
+                  identity = refl;
+                };
           }
 
     create_bearer_answered : (x : CreateBearerResponse) (e : Effect) → HasSent history Serving (Create_bearer_response x) → CreateBearerAnswered x old e → Took Packet history taken old e
@@ -349,9 +489,11 @@ module _ (history : List Sent) (taken : Arrival → Message → Type 0) (serving
         (λ at fits accepts new both returned can r. opens x came at fits accepts new both returned can e r)
         r
 
-    pub packet_taken : (unowned : NothingOwns history Packet old) (request : Arrival) (m : Message) (e : Effect) → HasSent history Serving m → taken request m → ((c : ℕ) → recovery_of m ≡ Some c → old.known ≡ Some c) → PacketTakes request m old e → Took Packet history taken old e
+    pub packet_taken : (unowned : NothingOwns history Packet old) (request : Arrival) (m : Message) (e : Effect) → HasSent history Serving m → taken request m
+        → ((c : ℕ) → recovery_of m ≡ Some c → old.known ≡ Some c) → PacketTakes request m old e → Took Packet history taken old e
     packet_taken unowned request =
-        by_packet (λ m. (e : Effect) → HasSent history Serving m → taken request m → ((c : ℕ) → recovery_of m ≡ Some c → old.known ≡ Some c) → PacketTakes request m old e → Took Packet history taken old e)
+        by_packet (λ m. (e : Effect) → HasSent history Serving m → taken request m → ((c : ℕ) → recovery_of m ≡ Some c → old.known ≡ Some c)
+        → PacketTakes request m old e → Took Packet history taken old e)
         (λ q e came is told r. takes_echo Packet history taken old knows request q e r)
         (λ a e came is told r. takes_response Packet history taken old knows e r)
         (λ q e came is told r. create_session_asked unowned request q e came is told r)

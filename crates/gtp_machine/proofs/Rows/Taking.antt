@@ -35,11 +35,18 @@ module _ (role : Role) (history : List Sent) (taken : Arrival → Message → Ty
   pub ends : (number : ℕ) (p : PendingRequest) (outcome : Outcome) (e : Effect) → e ≡ finishing old number p outcome → Took role history taken old e
   ends number p outcome e gives = took e _ gives refl (shrunk role history taken old knows (finished old number p) (Shrunk-finished old number p.session p.bearer) [] (Came_to outcome))
 
-  pub gives_answer : (request : Arrival) (m : Message) (cause : ℕ) (new : Node) (e : Effect) → e ≡ answered request m cause new → Shrunk old new → IsPlain m → ((t : ℕ) → Owns m t → ⊥) → ((r : ℕ) → recovery_of m ≡ Some r → r ≡ old.counter) → IsProper role m → Took role history taken old e
-  gives_answer request m cause new e gives s plain none told proper = took e _ gives refl (answers role history taken old knows request m cause new s plain (Made-plain history role old (holding request (m ∷ []) new) m none told proper))
+  pub gives_answer : (request : Arrival) (m : Message) (cause : ℕ) (new : Node) (e : Effect) → e ≡ answered request m cause new → Shrunk old new → IsPlain m
+      → ((t : ℕ) → Owns m t → ⊥) → ((r : ℕ) → recovery_of m ≡ Some r → r ≡ old.counter) → IsProper role m → Took role history taken old e
+  gives_answer request m cause new e gives s plain none told proper =
+      took e _ gives refl (answers role history taken old knows request m cause new s plain
+      (Made-plain history role old (holding request (m ∷ []) new) m none told proper))
 
   pub takes_echo : (request : Arrival) (q : Echo) (e : Effect) → e ≡ echoed request q old → Took role history taken old e
-  takes_echo request q e gives = took e _ gives refl (speaks role history taken old knows request.source (Echo_response (record { number = q.number; recovery = old.counter })) (Came_to Echoed) old (Shrunk-itself old) tt (Made-plain history role old old (Echo_response (record { number = q.number; recovery = old.counter })) (λ t none. none) (λ c e. cc e) tt))
+  takes_echo request q e gives =
+      took e _ gives refl
+      (speaks role history taken old knows request.source (Echo_response (record { number = q.number; recovery = old.counter })) (Came_to Echoed) old
+      (Shrunk-itself old) tt
+      (Made-plain history role old old (Echo_response (record { number = q.number; recovery = old.counter })) (λ t none. none) (λ c e. cc e) tt))
 
   pub takes_response : {number : ℕ} {Fits : HasPending old number → Type 0} {outcome : Outcome} (e : Effect) → EndsRequest old number Fits outcome e → Took role history taken old e
   takes_response e r = on_finish old e (λ outcome f. drops outcome e f) (λ at f. ends _ at.pending _ e f) r

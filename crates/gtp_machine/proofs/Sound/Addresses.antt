@@ -36,7 +36,8 @@ apart_session sessions key new unused apart version s t a b address x y has_a ha
     (found-insert sessions key new s a x)
 
 -- a session changes, and keeps its address
-pub apart_same : (sessions : FiniteMap Session) (key : ℕ) (was new : Session) → get sessions key ≡ Some was → new.address ≡ was.address → AreAddressesApart sessions → AreAddressesApart (insert sessions key new)
+pub apart_same : (sessions : FiniteMap Session) (key : ℕ) (was new : Session) → get sessions key ≡ Some was → new.address ≡ was.address
+    → AreAddressesApart sessions → AreAddressesApart (insert sessions key new)
 apart_same sessions key was new stands same apart version s t a b address x y has_a has_b =
     let first = before s a x in
     let second = before t b y in

@@ -1,5 +1,6 @@
 -- What may be chosen is there, where few are taken.
-use Rattle.std.proofs.Common.{◌≡◌, ◌≢◌, ◌⊎◌, inl, inr, ⊎_elim, ℕ, zero, suc, ◌+◌, ◌*◌, ◌/◌, ◌%◌, ◌^◌, ◌≤◌, ◌<◌, eqb, Bool, true, false, not, cond, ◌||◌, List, [], ◌∷◌, length, Option, Some, None, is_some, refl, sym, ◌∙◌, ap, subst, arith}
+use Rattle.std.proofs.Common.{◌≡◌, ◌≢◌, ◌⊎◌, inl, inr, ⊎_elim, ℕ, zero, suc, ◌+◌, ◌*◌, ◌/◌, ◌%◌, ◌^◌, ◌≤◌, ◌<◌, eqb, Bool, true, false, not, cond}
+use Rattle.std.proofs.Common.{◌||◌, List, [], ◌∷◌, length, Option, Some, None, is_some, refl, sym, ◌∙◌, ap, subst, arith}
 use Rattle.std.specs.Prelude.{filter}
 use Rattle.std.specs.List.{list_any}
 use Rattle.std.specs.FinMap.{get, len, entries, len-entries, keys, contains_key-keys}
@@ -19,7 +20,9 @@ others x xs = filter (λ y. not (eqb y x)) xs
 
 fewer_others : (x : ℕ) (xs : List ℕ) → Among x xs → length (others x xs) < length xs
 fewer_others x [] none = absurd none
-fewer_others x (y ∷ ys) (inl here) = subst (λ b. length (cond b (y ∷ others x ys) (others x ys)) < length (y ∷ ys)) (sym (ap not (eq-eqb y x (sym here)))) (omega (arith, length-filter (λ y. not (eqb y x)) ys, count_by-le-length (λ y. not (eqb y x)) ys))
+fewer_others x (y ∷ ys) (inl here) =
+    subst (λ b. length (cond b (y ∷ others x ys) (others x ys)) < length (y ∷ ys)) (sym (ap not (eq-eqb y x (sym here))))
+    (omega (arith, length-filter (λ y. not (eqb y x)) ys, count_by-le-length (λ y. not (eqb y x)) ys))
 fewer_others x (y ∷ ys) (inr there) = by_test (not (eqb y x)) (fewer_others x ys there)
   where
     by_test : (b : Bool) → length (others x ys) < length ys → length (cond b (y ∷ others x ys) (others x ys)) < length (y ∷ ys)

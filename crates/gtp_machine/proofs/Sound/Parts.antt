@@ -5,7 +5,8 @@ use Rattle.std.specs.FinMap.{get, insert}
 use Rattle.gtp_values.specs.FiniteMap.{FiniteMap, Among}
 use Rattle.gtp_machine.specs.Message.{Message}
 use Rattle.gtp_machine.specs.Node.{Role, Serving, Packet, State, Pending, Active, Closing, Kind, Default, Dedicated, Session, Bearer, PendingRequest}
-use Rattle.gtp_machine.specs.Sound.{At, IsInState, IsBearerOf, IsSoundSession, IsSoundBearer, AreApart, IsWanted, DeletesSession, AsksSession, AsksBearer, IsAbout, opened_by, AreLone, AreSoundContexts, AreSoundRequests}
+use Rattle.gtp_machine.specs.Sound.{At, IsInState, IsBearerOf, IsSoundSession, IsSoundBearer, AreApart, IsWanted, DeletesSession, AsksSession}
+use Rattle.gtp_machine.specs.Sound.{AsksBearer, IsAbout, opened_by, AreLone, AreSoundContexts, AreSoundRequests}
 use Rattle.gtp_machine.proofs.Basics.FiniteMaps.{found-insert, get-insert_same, get-insert_other, Each-insert}
 
 pub default_dedicated : (k : Kind) → k ≡ Default → k ≡ Dedicated → ⊥
@@ -29,12 +30,15 @@ module _ {X : Type 0} (table : FiniteMap X) (key : ℕ) (x : X) where
 pub record Follows (old_sessions new_sessions : FiniteMap Session) (old_bearers new_bearers : FiniteMap Bearer) (p : PendingRequest) : Type 0 where
   pub waits : (t : ℕ) → opened_by p.request ≡ Some t → p.session ≡ Some t → At old_sessions t (IsInState Pending) → At new_sessions t (IsInState Pending)
   pub closes : (t : ℕ) → p.session ≡ Some t → At old_sessions t (IsInState Closing) → At new_sessions t (IsInState Closing)
-  pub default : (s u : ℕ) → opened_by p.request ≡ Some s → p.session ≡ Some s → At old_sessions s (IsInState Pending) → At old_bearers u (IsBearerOf s Default Pending) → At new_bearers u (IsBearerOf s Default Pending)
+  pub default : (s u : ℕ) → opened_by p.request ≡ Some s → p.session ≡ Some s → At old_sessions s (IsInState Pending)
+      → At old_bearers u (IsBearerOf s Default Pending) → At new_bearers u (IsBearerOf s Default Pending)
   pub wanted : (s u : ℕ) → opened_by p.request ≡ Some u → p.session ≡ Some s → p.bearer ≡ Some u → At old_bearers u (IsBearerOf s Dedicated Pending) → IsWanted new_sessions new_bearers s u
   pub ends : (s u : ℕ) → p.session ≡ Some s → p.bearer ≡ Some u → At old_bearers u (IsBearerOf s Dedicated Closing) → At new_bearers u (IsBearerOf s Dedicated Closing)
 
 -- each session and bearer that is not active is still so
-pub follows_all : (S S' : FiniteMap Session) (B B' : FiniteMap Bearer) (p : PendingRequest) → ((t : ℕ) (s : State) → s ≢ Active → At S t (IsInState s) → At S' t (IsInState s)) → ((t c : ℕ) (k : Kind) (s : State) → s ≢ Active → At B t (IsBearerOf c k s) → At B' t (IsBearerOf c k s)) → Follows S S' B B' p
+pub follows_all : (S S' : FiniteMap Session) (B B' : FiniteMap Bearer) (p : PendingRequest)
+    → ((t : ℕ) (s : State) → s ≢ Active → At S t (IsInState s) → At S' t (IsInState s))
+    → ((t c : ℕ) (k : Kind) (s : State) → s ≢ Active → At B t (IsBearerOf c k s) → At B' t (IsBearerOf c k s)) → Follows S S' B B' p
 follows_all S S' B B' p sessions bearers = record {
   waits = λ t o e at. sessions t Pending (λ h. cc h) at;
   closes = λ t e at. sessions t Closing (λ h. cc h) at;
@@ -50,8 +54,20 @@ no_delete_session Packet number m t d o = let e = sym (ap opened_by d.1) ∙ o i
 module _ (role : Role) where
   pub about_follows : (S S' : FiniteMap Session) (B B' : FiniteMap Bearer) (number : ℕ) (p : PendingRequest) → Follows S S' B B' p → IsAbout role S B number p → IsAbout role S' B' number p
   about_follows S S' B B' number p f (inl e) = inl e
-  about_follows S S' B B' number p f (inr (inl a)) = inr (inl (record { by = a.by; request = a.request; asked = a.asked; numbered = a.numbered; session = a.session; bearer = a.bearer; waits = f.waits a.request.control.teid (ap opened_by a.asked) a.session a.waits; default = f.default a.request.control.teid a.request.context.user.teid (ap opened_by a.asked) a.session a.waits a.default }))
-  about_follows S S' B B' number p f (inr (inr (inl d))) = inr (inr (inl (record { asked = d.asked; about = d.about; session = d.session; bearer = d.bearer; closes = f.closes d.about d.session d.closes })))
+  about_follows S S' B B' number p f (inr (inl a)) =
+      inr (inl (record {
+        by = a.by;
+        request = a.request;
+        asked = a.asked;
+        numbered = a.numbered;
+        session = a.session;
+        bearer = a.bearer;
+        waits = f.waits a.request.control.teid (ap opened_by a.asked) a.session a.waits;
+        default = f.default a.request.control.teid a.request.context.user.teid (ap opened_by a.asked) a.session a.waits a.default;
+      }))
+  about_follows S S' B B' number p f (inr (inr (inl d))) =
+      inr
+      (inr (inl (record { asked = d.asked; about = d.about; session = d.session; bearer = d.bearer; closes = f.closes d.about d.session d.closes })))
   about_follows S S' B B' number p f (inr (inr (inr (inl a)))) = inr (inr (inr (inl (record {
     by = a.by;
     request = a.request;
@@ -60,17 +76,37 @@ module _ (role : Role) where
     about = a.about;
     session = a.session;
     bearer = a.bearer;
-    wanted = ⊎_elim (λ w. f.wanted a.about a.request.context.user.teid (ap opened_by a.asked) a.session a.bearer w) (λ c. inr (f.ends a.about a.request.context.user.teid a.session a.bearer c.0, f.closes a.about a.session c.1)) a.wanted;
+    wanted =
+        ⊎_elim (λ w. f.wanted a.about a.request.context.user.teid (ap opened_by a.asked) a.session a.bearer w)
+        (λ c. inr (f.ends a.about a.request.context.user.teid a.session a.bearer c.0, f.closes a.about a.session c.1)) a.wanted;
   }))))
-  about_follows S S' B B' number p f (inr (inr (inr (inr d)))) = inr (inr (inr (inr (record { by = d.by; request = d.request; asked = d.asked; numbered = d.numbered; unlinked = d.unlinked; about = d.about; session = d.session; key = d.key; bearer = d.bearer; closes = f.ends d.about d.key d.session d.bearer d.closes }))))
+  about_follows S S' B B' number p f (inr (inr (inr (inr d)))) =
+      inr (inr (inr (inr (record {
+        by = d.by;
+        request = d.request;
+        asked = d.asked;
+        numbered = d.numbered;
+        unlinked = d.unlinked;
+        about = d.about;
+        session = d.session;
+        key = d.key;
+        bearer = d.bearer;
+        closes = f.ends d.about d.key d.session d.bearer d.closes;
+      }))))
 
-  pub requests_follow : (S S' : FiniteMap Session) (B B' : FiniteMap Bearer) (pending : FiniteMap PendingRequest) → ((m : ℕ) (q : PendingRequest) → get pending m ≡ Some q → Follows S S' B B' q) → AreSoundRequests role S B pending → AreSoundRequests role S' B' pending
+  pub requests_follow : (S S' : FiniteMap Session) (B B' : FiniteMap Bearer) (pending : FiniteMap PendingRequest)
+      → ((m : ℕ) (q : PendingRequest) → get pending m ≡ Some q → Follows S S' B B' q) → AreSoundRequests role S B pending
+      → AreSoundRequests role S' B' pending
   requests_follow S S' B B' pending f r = record { each = λ m q e. about_follows S S' B B' m q (f m q e) (r.each m q e); lone = r.lone }
 
-  pub requests_fewer : (S : FiniteMap Session) (B : FiniteMap Bearer) (old new : FiniteMap PendingRequest) → ((m : ℕ) (q : PendingRequest) → get new m ≡ Some q → get old m ≡ Some q) → AreSoundRequests role S B old → AreSoundRequests role S B new
+  pub requests_fewer : (S : FiniteMap Session) (B : FiniteMap Bearer) (old new : FiniteMap PendingRequest)
+      → ((m : ℕ) (q : PendingRequest) → get new m ≡ Some q → get old m ≡ Some q) → AreSoundRequests role S B old → AreSoundRequests role S B new
   requests_fewer S B old new stood r = record { each = λ m q e. r.each m q (stood m q e); lone = λ m n p q t a b. r.lone m n p q t (stood m p a) (stood n q b) }
 
-  pub requests_add : (S : FiniteMap Session) (B : FiniteMap Bearer) (pending : FiniteMap PendingRequest) (number : ℕ) (p : PendingRequest) → IsAbout role S B number p → ((m : ℕ) (q : PendingRequest) (t : ℕ) → get pending m ≡ Some q → opened_by q.request ≡ Some t → opened_by p.request ≡ Some t → ⊥) → AreSoundRequests role S B pending → AreSoundRequests role S B (insert pending number p)
+  pub requests_add : (S : FiniteMap Session) (B : FiniteMap Bearer) (pending : FiniteMap PendingRequest) (number : ℕ) (p : PendingRequest)
+      → IsAbout role S B number p
+      → ((m : ℕ) (q : PendingRequest) (t : ℕ) → get pending m ≡ Some q → opened_by q.request ≡ Some t → opened_by p.request ≡ Some t → ⊥)
+      → AreSoundRequests role S B pending → AreSoundRequests role S B (insert pending number p)
   requests_add S B pending number p about new r = record { each = Each-insert (IsAbout role S B) pending number p about r.each; lone = lone }
     where
       opens : (x : PendingRequest) (t : ℕ) → p ≡ x → opened_by x.request ≡ Some t → opened_by p.request ≡ Some t
@@ -98,7 +134,8 @@ module _ (role : Role) where
   about_opening S B number p t o (inr (inr (inr (inr d)))) = let n = sym (ap opened_by d.asked) ∙ o in absurd (cc n)
 
   -- what a pending request opens was drawn
-  pub opened_drawn : (drawn : List ℕ) (S : FiniteMap Session) (B : FiniteMap Bearer) (number : ℕ) (p : PendingRequest) (t : ℕ) → AreSoundContexts drawn S B → IsAbout role S B number p → opened_by p.request ≡ Some t → Among t drawn
+  pub opened_drawn : (drawn : List ℕ) (S : FiniteMap Session) (B : FiniteMap Bearer) (number : ℕ) (p : PendingRequest) (t : ℕ) → AreSoundContexts drawn S B
+      → IsAbout role S B number p → opened_by p.request ≡ Some t → Among t drawn
   opened_drawn drawn S B number p t c is o = ⊎_elim
       (λ a. let same : a.request.control.teid ≡ t = cc (sym (ap opened_by a.asked) ∙ o) in subst (λ k. Among k drawn) same (c.each_session a.request.control.teid a.waits.0 a.waits.1).own)
       (λ a.
@@ -115,7 +152,8 @@ contexts_drawn drawn more S B extends c = record {
 }
 
 -- a session comes or is replaced
-pub contexts_session : (drawn : List ℕ) (S : FiniteMap Session) (B : FiniteMap Bearer) (key : ℕ) (s : Session) → IsSoundSession drawn key s → AreSoundContexts drawn S B → AreSoundContexts drawn (insert S key s) B
+pub contexts_session : (drawn : List ℕ) (S : FiniteMap Session) (B : FiniteMap Bearer) (key : ℕ) (s : Session) → IsSoundSession drawn key s → AreSoundContexts drawn S B
+    → AreSoundContexts drawn (insert S key s) B
 contexts_session drawn S B key s is c = record {
   each_session = Each-insert (IsSoundSession drawn) S key s is c.each_session;
   each_bearer = λ t b e. let at = c.each_bearer t b e in record { own = at.own; of = there_insert S key s b.session at.of; named = at.named; blank = at.blank; range = at.range };
@@ -123,7 +161,9 @@ contexts_session drawn S B key s is c = record {
 }
 
 -- a bearer comes or is replaced
-pub contexts_bearer : (drawn : List ℕ) (S : FiniteMap Session) (B : FiniteMap Bearer) (key : ℕ) (b : Bearer) → IsSoundBearer drawn S key b → ((t : ℕ) (a : Bearer) (identity : ℕ) → get B t ≡ Some a → t ≢ key → a.session ≡ b.session → a.identity ≡ Some identity → b.identity ≡ Some identity → ⊥) → AreSoundContexts drawn S B → AreSoundContexts drawn S (insert B key b)
+pub contexts_bearer : (drawn : List ℕ) (S : FiniteMap Session) (B : FiniteMap Bearer) (key : ℕ) (b : Bearer) → IsSoundBearer drawn S key b
+    → ((t : ℕ) (a : Bearer) (identity : ℕ) → get B t ≡ Some a → t ≢ key → a.session ≡ b.session → a.identity ≡ Some identity
+    → b.identity ≡ Some identity → ⊥) → AreSoundContexts drawn S B → AreSoundContexts drawn S (insert B key b)
 contexts_bearer drawn S B key b is unused c = record { each_session = c.each_session; each_bearer = Each-insert (IsSoundBearer drawn S) B key b is c.each_bearer; apart = apart }
   where
     apart : AreApart (insert B key b)
@@ -139,5 +179,7 @@ contexts_bearer drawn S B key b is unused c = record { each_session = c.each_ses
     ]
 
 -- a bearer is replaced by one of its session with its identity
-pub contexts_same : (drawn : List ℕ) (S : FiniteMap Session) (B : FiniteMap Bearer) (key : ℕ) (b n : Bearer) → get B key ≡ Some b → n.session ≡ b.session → n.identity ≡ b.identity → IsSoundBearer drawn S key n → AreSoundContexts drawn S B → AreSoundContexts drawn S (insert B key n)
-contexts_same drawn S B key b n stands session identity is c = contexts_bearer drawn S B key n is (λ t a i e other same ia ib. other (c.apart t key a b i e stands (same ∙ session) ia (sym identity ∙ ib))) c
+pub contexts_same : (drawn : List ℕ) (S : FiniteMap Session) (B : FiniteMap Bearer) (key : ℕ) (b n : Bearer) → get B key ≡ Some b → n.session ≡ b.session
+    → n.identity ≡ b.identity → IsSoundBearer drawn S key n → AreSoundContexts drawn S B → AreSoundContexts drawn S (insert B key n)
+contexts_same drawn S B key b n stands session identity is c =
+    contexts_bearer drawn S B key n is (λ t a i e other same ia ib. other (c.apart t key a b i e stands (same ∙ session) ia (sym identity ∙ ib))) c

@@ -33,7 +33,8 @@ use Rattle.gtp_machine.specs.Message.{CreatedBearer, GivenBearer}
 use Rattle.gtp_machine.specs.Node.{Arrival}
 use Rattle.gtp_machine.specs.Input.{Control_came, MessageType, Defect, Too_short, Out_of_range}
 use Rattle.gtp_machine.specs.Decoded.{row_in, contexts_in, end_in, first_in, cause_at, row, values_in, groups_in, created, given, session_request_in, bearer_request_in, message_by, message_of}
-use Rattle.gtp_machine.specs.Reading.{control_fault, control_reading_of, control_reading, element_fault, defect_in, request_type, missing_in, DatagramReading, Alone, Both, announces, messages_read, pair_reading_of, IsDatagramReadOf, taken_as}
+use Rattle.gtp_machine.specs.Reading.{control_fault, control_reading_of, control_reading, element_fault, defect_in, request_type, missing_in}
+use Rattle.gtp_machine.specs.Reading.{DatagramReading, Alone, Both, announces, messages_read, pair_reading_of, IsDatagramReadOf, taken_as}
 use Rattle.gtp_machine.specs.Sound.{NamesItsEnds, IsWellFormed, ReadsWhole, PairReadsWhole, TakenWhole}
 use Rattle.gtp_machine.proofs.Octets.Datagrams.{datagram_by_grammar}
 use Rattle.gtp_machine.proofs.Octets.Readings.{typed_lines}
@@ -78,10 +79,12 @@ unfolding Says
 ambr_accepts body v says = ap (λ k. accepts (k ∷ [])) says
 
 -- rows of a type that is no cause change nothing
-one_neutral : (kind instance : ℕ) (es : List Element) (values : List Value) → ((body : List ℕ) (v : Value) → Says kind body v → accepts (v ∷ []) ≡ true) → One kind instance es values → accepts values ≡ true
+one_neutral : (kind instance : ℕ) (es : List Element) (values : List Value) → ((body : List ℕ) (v : Value) → Says kind body v → accepts (v ∷ []) ≡ true)
+    → One kind instance es values → accepts values ≡ true
 one_neutral kind instance es values neutral one = ap accepts one.2 ∙ neutral one.1.0.body one.0 one.1.2.says
 
-most_neutral : (kind instance : ℕ) (es : List Element) (values : List Value) → ((body : List ℕ) (v : Value) → Says kind body v → accepts (v ∷ []) ≡ true) → AtMostOne kind instance es values → accepts values ≡ true
+most_neutral : (kind instance : ℕ) (es : List Element) (values : List Value) → ((body : List ℕ) (v : Value) → Says kind body v → accepts (v ∷ []) ≡ true)
+    → AtMostOne kind instance es values → accepts values ≡ true
 most_neutral kind instance es [] neutral most = refl
 most_neutral kind instance es (v ∷ []) neutral most = neutral most.0.body v most.2.says
 most_neutral kind instance es (v ∷ w ∷ values) neutral most = absurd most
@@ -108,7 +111,9 @@ each_from Is to (e ∷ es) (x ∷ xs) each c (inl here) = record { element = e; 
 each_from Is to (e ∷ es) (x ∷ xs) each c (inr there) = each_from Is to es xs each.1 c there
 
 -- a bearer context of a Create Session or Create Bearer Response that accepts, where what stands before it does: its first F-TEID
-context_end : (others : List Row) (b : Bool) (es : List Element) (rows : List (List Value)) → b ≡ true → RowsAre b (Mandatory 73 0 ∷ Mandatory 2 0 ∷ Accepted 87 2 ∷ others) es rows → IsAccepting (cause_at (row 1 rows)) → (t : ℕ) × (teid_in (first_in end_in (row 2 rows)) ≡ Some t)
+context_end : (others : List Row) (b : Bool) (es : List Element) (rows : List (List Value)) → b ≡ true
+    → RowsAre b (Mandatory 73 0 ∷ Mandatory 2 0 ∷ Accepted 87 2 ∷ others) es rows → IsAccepting (cause_at (row 1 rows))
+    → (t : ℕ) × (teid_in (first_in end_in (row 2 rows)) ≡ Some t)
 context_end others b es [] is are a = absurd (none_accepts a)
 context_end others b es (ebi ∷ []) is are a = absurd (none_accepts a)
 context_end others b es (ebi ∷ cause ∷ []) is are a = absurd are.1.1
@@ -159,7 +164,9 @@ session_whole m es (Plain cause ∷ Plain control ∷ Plain paa ∷ Plain ambr �
         let line = lines.1.1.1.1.0 in
         let there = subst (λ (k : List (List (List Value))). Among c (map created k)) (ap groups_in line.2) among in
         let found = each_from (GroupIs (((accepts cause && accepts control) && accepts paa) && accepts ambr) session_response_context_rows) created _ line.0 line.1.0 c there in
-        let its = context_end (drop 3 session_response_context_rows) (((accepts cause && accepts control) && accepts paa) && accepts ambr) found.is.0 found.x fourth found.is.2 (subst (λ (k : CreatedBearer). IsAccepting k.cause) found.same accepting) in
+        let its =
+        context_end (drop 3 session_response_context_rows) (((accepts cause && accepts control) && accepts paa) && accepts ambr) found.is.0 found.x
+        fourth found.is.2 (subst (λ (k : CreatedBearer). IsAccepting k.cause) found.same accepting) in
         (its.0, ap (λ (k : CreatedBearer). teid_in k.user) found.same ∙ its.1)
 
 -- a Create Bearer Response
@@ -176,7 +183,9 @@ bearer_whole m es (Plain cause ∷ Groups contexts ∷ rest) lines a = each
         let line = lines.1.0 in
         let there = subst (λ (k : List (List (List Value))). Among c (map given k)) (ap groups_in line.2) among in
         let found = each_from (GroupIs (accepts cause) bearer_response_context_rows) given _ line.0 line.1.0 c there in
-        let its = context_end (drop 3 bearer_response_context_rows) (accepts cause) found.is.0 found.x (accepted cause a) found.is.2 (subst (λ (k : GivenBearer). IsAccepting k.cause) found.same accepting) in
+        let its =
+        context_end (drop 3 bearer_response_context_rows) (accepts cause) found.is.0 found.x (accepted cause a) found.is.2
+        (subst (λ (k : GivenBearer). IsAccepting k.cause) found.same accepting) in
         (its.0, ap (λ (k : GivenBearer). teid_in k.serving_user) found.same ∙ its.1)
 
 create_session_request_whole : (m : MessageValue) (contexts : List (List (List Value))) → NamesItsEnds (session_request_in m contexts)
@@ -249,7 +258,8 @@ pair_whole request (Ok d) e = by_messages ((datagram_decided request.octets).ok 
   where
     by_messages : IsDatagram request.octets d → IsWellFormed (Control_came request (taken_as (messages_read d.first d.second)))
     by_messages (inl (m, is, same)) = subst (λ (v : DatagramValue). IsWellFormed (Control_came request (taken_as (messages_read v.first v.second)))) (sym same) (message_whole request.octets m is)
-    by_messages (inr (front, back, announces, (a, first, (b, second, same)))) = subst (λ (v : DatagramValue). IsWellFormed (Control_came request (taken_as (messages_read v.first v.second)))) (sym same) tt
+    by_messages (inr (front, back, announces, (a, first, (b, second, same)))) =
+        subst (λ (v : DatagramValue). IsWellFormed (Control_came request (taken_as (messages_read v.first v.second)))) (sym same) tt
 
 pub pair_reads_whole : PairReadsWhole
 pair_reads_whole octets first second reads = by ((datagram_by_grammar octets (Both first second)).0 reads)

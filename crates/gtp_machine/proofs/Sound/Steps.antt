@@ -7,9 +7,13 @@ use Rattle.gtp_values.specs.declared.counter.Age.{Age}
 use Rattle.gtp_values.specs.declared.counter.Age.TheVariants.{Same, Later, Earlier}
 use Rattle.gtp_values.specs.declared.address.Endpoint.{Endpoint}
 use Rattle.gtp_machine.specs.Ordered.{Unless}
-use Rattle.gtp_machine.specs.Message.{Echo, CreateSessionRequest, CreateSessionResponse, CreateBearerRequest, CreateBearerResponse, DeleteBearerRequest, RemovedBearer, Message, Packet_data, End_marker, Error_indication, recovery_of}
+use Rattle.gtp_machine.specs.Message.{Echo, CreateSessionRequest, CreateSessionResponse, CreateBearerRequest, CreateBearerResponse}
+use Rattle.gtp_machine.specs.Message.{DeleteBearerRequest, RemovedBearer, Message, Packet_data, End_marker, Error_indication, recovery_of}
 use Rattle.gtp_machine.specs.Node.{Role, Serving, Packet, Session, Arrival, Held, Node}
-use Rattle.gtp_machine.specs.Input.{ControlReading, Control_message, Faulty, Control_fault, FaultyRequest, UserReading, User_message, Extension_needed, User_fault, Command, Create_session, Delete_session, Create_bearer, Delete_bearer, Release_session, Mark_end, Send_echo, Send_user, Move, Resend, Give_up, Forget, Commanded, Control_came, User_came, Moves_on, Effect}
+use Rattle.gtp_machine.specs.Input.{ControlReading, Control_message, Faulty, Control_fault, FaultyRequest, UserReading, User_message}
+use Rattle.gtp_machine.specs.Input.{Extension_needed, User_fault, Command, Create_session, Delete_session, Create_bearer, Delete_bearer}
+use Rattle.gtp_machine.specs.Input.{Release_session, Mark_end, Send_echo, Send_user, Move, Resend, Give_up, Forget, Commanded, Control_came}
+use Rattle.gtp_machine.specs.Input.{User_came, Moves_on, Effect}
 use Rattle.gtp_tables.specs.declared.pool.IpVersion.{IpVersion}
 use Rattle.gtp_tables.specs.declared.pool.IpVersion.TheVariants.{V4, V6}
 use Rattle.gtp_machine.specs.Choice.{IsFree, IsFreeNumber, HasFreeAddress, AsksFor, IsPart, CanGive, HasBearer}
@@ -110,11 +114,20 @@ module _ (old : Node) where
   create_session_answered sound a =
       tries _ _ _ (gives _) (λ at. tries _ _ _ (gives _) (λ fits. tries _ _ _ (gives _) (λ accepts. tries _ _ _ (gives _) (λ new. tries _ _ _ (gives _) (λ both none.
       let ask = is_session Serving old sound a.number at.pending fits.request at.waits fits.asked in
-      none _ (record { default = record { bearer = ask.0.default.0; stands = ap (λ (k : CreateSessionRequest). get old.bearers k.context.user.teid) (sym ask.1) ∙ ask.0.default.1 }; gives = refl }))))))
+      none _ (record {
+        default = record {
+          bearer = ask.0.default.0;
+          stands = ap (λ (k : CreateSessionRequest). get old.bearers k.context.user.teid)
+              (sym ask.1) ∙ ask.0.default.1;
+        };
+        gives = refl;
+      }))))))
 
   create_bearer_answered : IsSound Packet old → (x : CreateBearerResponse) → IsNotEmpty (λ e. CreateBearerAnswered x old e)
   create_bearer_answered sound x =
-      tries _ _ _ (gives _) (λ at. tries _ _ _ (gives _) (λ fits. tries _ _ _ (gives _) (λ accepts. tries _ _ _ (gives _) (λ new. tries _ _ _ (gives _) (λ both. tries _ _ _ (gives _) (λ returned. tries _ _ _ (gives _) (λ can none.
+      tries _ _ _ (gives _) (λ at. tries _ _ _ (gives _)
+      (λ fits. tries _ _ _ (gives _) (λ accepts. tries _ _ _ (gives _)
+      (λ new. tries _ _ _ (gives _) (λ both. tries _ _ _ (gives _) (λ returned. tries _ _ _ (gives _) (λ can none.
       let ask = (is_bearer Packet old sound x.number at.pending fits.request at.waits fits.asked).0 in
       let key : fits.bearer ≡ ask.request.context.user.teid = some_is fits.bearer ask.request.context.user.teid (sym fits.about_bearer ∙ ask.bearer) in
       let there : HasBearer old ask.request.context.user.teid = ⊎_elim (λ w. record { bearer = w.0; stands = w.1 }) (λ w. record { bearer = w.0.0; stands = w.0.1 }) ask.wanted in
@@ -140,7 +153,8 @@ module _ (old : Node) where
       by V4 asked free = r (asked, free)
       by V6 asked free = s (asked, free)
 
-  answers_with : (found : Option Template) (request : Arrival) (a : CreateSessionResponse) (cause session : ℕ) (s : Session) (made : Node) → IsNotEmpty (λ e. AnswersWith found request a cause session s made e)
+  answers_with : (found : Option Template) (request : Arrival) (a : CreateSessionResponse) (cause session : ℕ) (s : Session) (made : Node)
+      → IsNotEmpty (λ e. AnswersWith found request a cause session s made e)
   answers_with None request a cause session s made = gives _
   answers_with (Some t) request a cause session s made =
       tries _ _ _ (gives _) (λ can none.
@@ -150,11 +164,23 @@ module _ (old : Node) where
 
   create_session_asked : (request : Arrival) (q : CreateSessionRequest) → IsNotEmpty (λ e. CreateSessionAsked request q old e)
   create_session_asked request q =
-      tries _ _ _ (gives _) (λ room. tries _ _ _ (gives _) (λ one. tries _ _ _ (gives _) (λ identity. tries _ _ _ (gives _) (λ configured. tries _ _ _ (gives _) (λ served. tries _ _ _ (gives _) (λ few. tries _ _ _ (gives _) (λ can none.
+      tries _ _ _ (gives _) (λ room. tries _ _ _ (gives _)
+      (λ one. tries _ _ _ (gives _) (λ identity. tries _ _ _ (gives _)
+      (λ configured. tries _ _ _ (gives _) (λ served. tries _ _ _ (gives _) (λ few. tries _ _ _ (gives _) (λ can none.
       let t = two_free old few.1.left in
       part_given q.pdn V4 (λ v4 v4_given. part_given q.pdn V6 (λ v6 v6_given.
       answers_with (template_for q.access_point old.config.templates) request _ _ _ _ _ (λ e answer.
-      none e (record { control = t.0; user = t.1; address = record { v4 = v4; v6 = v6 }; control_free = t.2; user_free = t.3; apart = t.4; given = record { v4 = v4_given; v6 = v6_given; some_part = some_given q.pdn v4 v6 v4_given v6_given can }; gives = answer })))))))))))
+      none e (record {
+        control = t.0;
+        user = t.1;
+        address = record { v4 = v4; v6 = v6 };
+        control_free = t.2;
+        user_free = t.3;
+        apart = t.4;
+        given =
+            record { v4 = v4_given; v6 = v6_given; some_part = some_given q.pdn v4 v6 v4_given v6_given can };
+        gives = answer;
+      })))))))))))
 
 removes_each : (session : ℕ) (identities : List ℕ) (from : Node) → ((contexts : List RemovedBearer) (new : Node) → RemovesEach session identities from contexts new → ⊥) → ⊥
 removes_each session [] from none = none [] from (refl, refl)
@@ -165,7 +191,9 @@ removes_each session (identity ∷ rest) from none =
 module _ (old : Node) where
   delete_bearer_taken : (request : Arrival) (d : DeleteBearerRequest) (linked : Option ℕ) (s : Session) → IsNotEmpty (λ e. DeleteBearerTaken request d linked old s e)
   delete_bearer_taken request d (Some identity) s = tries _ _ _ (gives _) (λ linked. gives _)
-  delete_bearer_taken request d None s = tries _ _ _ (gives _) (λ few none. removes_each d.header d.identities old (λ contexts left r. none _ (record { contexts = contexts; left = left; removes = r; gives = refl })))
+  delete_bearer_taken request d None s =
+      tries _ _ _ (gives _) (λ few none.
+      removes_each d.header d.identities old (λ contexts left r. none _ (record { contexts = contexts; left = left; removes = r; gives = refl })))
 
   delete_bearer_asked : (request : Arrival) (d : DeleteBearerRequest) → IsNotEmpty (λ e. DeleteBearerAsked request d old e)
   delete_bearer_asked request d = tries _ _ _ (gives _) (λ room. tries _ _ _ (gives _) (λ at. tries _ _ _ (gives _) (λ opened. delete_bearer_taken request d d.linked at.session)))

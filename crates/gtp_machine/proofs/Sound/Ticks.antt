@@ -30,19 +30,25 @@ resends : (numbers : List ℕ) (node : Node) (moves : List Move) → ((number : 
 resends [] node moves waits rest = rest
 resends (number ∷ numbers) node moves waits rest =
     let at = waits number (inl refl) in
-    goes node (Resend number) (map Resend numbers ++ moves) (record { out = says (control_end node.config.peer.control) at.pending.request; outcome = Ticked; node = node }) (record { at = at; gives = refl })
+    goes node (Resend number) (map Resend numbers ++ moves)
+    (record { out = says (control_end node.config.peer.control) at.pending.request; outcome = Ticked; node = node })
+    (record { at = at; gives = refl })
     (resends numbers node moves (λ k among. waits k (inr among)) rest)
 
 -- each in turn that still waits is given up, and what is held stays
-gives_up : (numbers : List ℕ) (node : Node) (moves : List Move) → ((later : Node) → later.held ≡ node.held → CanGo later moves) → IsNotEmpty (λ (given_up : List Move). AreGiveUps node numbers given_up × CanGo node (given_up ++ moves))
+gives_up : (numbers : List ℕ) (node : Node) (moves : List Move) → ((later : Node) → later.held ≡ node.held → CanGo later moves)
+    → IsNotEmpty (λ (given_up : List Move). AreGiveUps node numbers given_up × CanGo node (given_up ++ moves))
 gives_up [] node moves rest none = none [] (refl, rest node refl)
 gives_up (number ∷ numbers) node moves rest none = gives_up numbers node moves rest (λ g found. none g (inl (absent (λ later back. gives_up numbers later moves back), found.0), found.1))
   where
-    absent : ((later : Node) → ((last : Node) → last.held ≡ later.held → CanGo last moves) → IsNotEmpty (λ (given_up : List Move). AreGiveUps later numbers given_up × CanGo later (given_up ++ moves))) → HasPending node number → ⊥
+    absent : ((later : Node) → ((last : Node) → last.held ≡ later.held → CanGo last moves)
+        → IsNotEmpty (λ (given_up : List Move). AreGiveUps later numbers given_up × CanGo later (given_up ++ moves))) → HasPending node number → ⊥
     absent others at = others (finished node number at.pending) (λ later same. rest later (same ∙ (Shrunk-finished node number at.pending.session at.pending.bearer).held))
         (λ g found. none (Give_up number ∷ g) (
           inr (at, (g, found.0, refl)),
-          goes node (Give_up number) (g ++ moves) (record { out = record nothing { gave_up = number ∷ [] }; outcome = Ticked; node = finished node number at.pending }) (record { at = at; gives = refl }) found.1,
+          goes node (Give_up number) (g ++ moves)
+              (record { out = record nothing { gave_up = number ∷ [] }; outcome = Ticked; node = finished node number at.pending })
+              (record { at = at; gives = refl }) found.1,
         ))
 
 forgets : (requests : List Arrival) (node : Node) → ((request : Arrival) → Among request requests → CanMove node (Forget request)) → AreDistinct requests → CanGo node (map Forget requests)
@@ -60,7 +66,8 @@ forgets (request ∷ requests) node held once none =
 
 pub always_ticks : AlwaysTicks
 always_ticks node due can none =
-    gives_up due.give_ups node (map Forget due.forgets) (λ later same. forgets due.forgets later (λ r among. let h = can.held r among in (h.0, subst (λ (hs : List Held). Among h.0 hs) (sym same) h.1, h.2)) can.once)
+    gives_up due.give_ups node (map Forget due.forgets) (λ later same.
+    forgets due.forgets later (λ r among. let h = can.held r among in (h.0, subst (λ (hs : List Held). Among h.0 hs) (sym same) h.1, h.2)) can.once)
     (λ g found. resends due.resends node (g ++ map Forget due.forgets) can.waits found.1 (λ e step. none e (record {
       moves = map Resend due.resends ++ (g ++ map Forget due.forgets);
       are = record { given_up = g; gives_up = found.0; all = sym (append_assoc (map Resend due.resends) g (map Forget due.forgets)) };
@@ -77,9 +84,13 @@ given_up_in (Forget request ∷ moves) = given_up_in moves
 -- the moves tell what they give up
 told_up : (moves : List Move) (old : Node) (out : Out) (new : Node) → TickStep old moves out new → out.gave_up ≡ given_up_in moves
 told_up [] old out new tick = ap (λ (o : Out). o.gave_up) tick.0
-told_up (Resend number ∷ moves) old out new (e, rest, step, others, is) = ap (λ (o : Out). o.gave_up) is ∙ ap (λ (f : Effect). f.out.gave_up ++ rest.gave_up) step.gives ∙ told_up moves e.node rest new others
-told_up (Give_up number ∷ moves) old out new (e, rest, step, others, is) = ap (λ (o : Out). o.gave_up) is ∙ ap (λ (f : Effect). f.out.gave_up ++ rest.gave_up) step.gives ∙ ap (λ k. number ∷ k) (told_up moves e.node rest new others)
-told_up (Forget request ∷ moves) old out new (e, rest, step, others, is) = ap (λ (o : Out). o.gave_up) is ∙ ap (λ (f : Effect). f.out.gave_up ++ rest.gave_up) step.gives ∙ told_up moves e.node rest new others
+told_up (Resend number ∷ moves) old out new (e, rest, step, others, is) =
+    ap (λ (o : Out). o.gave_up) is ∙ ap (λ (f : Effect). f.out.gave_up ++ rest.gave_up) step.gives ∙ told_up moves e.node rest new others
+told_up (Give_up number ∷ moves) old out new (e, rest, step, others, is) =
+    ap (λ (o : Out). o.gave_up) is ∙ ap (λ (f : Effect). f.out.gave_up ++ rest.gave_up) step.gives
+    ∙ ap (λ k. number ∷ k) (told_up moves e.node rest new others)
+told_up (Forget request ∷ moves) old out new (e, rest, step, others, is) =
+    ap (λ (o : Out). o.gave_up) is ∙ ap (λ (f : Effect). f.out.gave_up ++ rest.gave_up) step.gives ∙ told_up moves e.node rest new others
 
 after_resends : (numbers : List ℕ) (moves : List Move) → given_up_in (map Resend numbers ++ moves) ≡ given_up_in moves
 after_resends [] moves = refl
@@ -90,7 +101,8 @@ none_forgotten [] = refl
 none_forgotten (request ∷ requests) = none_forgotten requests
 
 -- each that is given up is due and waits
-each_due : (numbers : List ℕ) (node : Node) (given_up : List Move) (requests : List Arrival) → AreGiveUps node numbers given_up → (number : ℕ) → Among number (given_up_in (given_up ++ map Forget requests)) → Among number numbers × HasPending node number
+each_due : (numbers : List ℕ) (node : Node) (given_up : List Move) (requests : List Arrival) → AreGiveUps node numbers given_up → (number : ℕ)
+    → Among number (given_up_in (given_up ++ map Forget requests)) → Among number numbers × HasPending node number
 each_due [] node given_up requests are number among = absurd (subst (λ k. Among number k) (ap (λ g. given_up_in (g ++ map Forget requests)) are ∙ none_forgotten requests) among)
 each_due (first ∷ numbers) node given_up requests (inl (absent, are)) number among =
     let later = each_due numbers node given_up requests are number among in

@@ -35,11 +35,25 @@ abbrev pub packet_ip : Ip
 packet_ip = V4 (10 ∷ 0 ∷ 0 ∷ 2 ∷ [])
 
 abbrev pub serving_config : Config
-serving_config = record { own = record { control = serving_ip; user = serving_ip }; peer = record { control = packet_ip; user = packet_ip }; access_points = []; pools = record { v4 = record { start = 0; count = 0 }; v6 = no_prefixes }; templates = [] }
+serving_config =
+    record {
+      own = record { control = serving_ip; user = serving_ip };
+      peer = record { control = packet_ip; user = packet_ip };
+      access_points = [];
+      pools = record { v4 = record { start = 0; count = 0 }; v6 = no_prefixes };
+      templates = [];
+    }
 
 -- a packet gateway with one address of version 4, and so many of version 6
 abbrev pub packet_config : ℕ → Config
-packet_config count = record { own = record { control = packet_ip; user = packet_ip }; peer = record { control = serving_ip; user = serving_ip }; access_points = (1 ∷ 97 ∷ []) ∷ []; pools = record { v4 = record { start = 7; count = 1 }; v6 = record { start = replicate 16 0; count = count } }; templates = [] }
+packet_config count =
+    record {
+      own = record { control = packet_ip; user = packet_ip };
+      peer = record { control = serving_ip; user = serving_ip };
+      access_points = (1 ∷ 97 ∷ []) ∷ [];
+      pools = record { v4 = record { start = 7; count = 1 }; v6 = record { start = replicate 16 0; count = count } };
+      templates = [];
+    }
 
 -- its addresses
 abbrev pub first_v4 : List ℕ
@@ -119,7 +133,16 @@ pub gives_one_of_both : IsGiven (at_start 0 []) 3 only_v4
 gives_one_of_both = record { v4 = (refl, free_v4 0 []); v6 = λ h. no_v6 h.1; some_part = refl }
 
 abbrev pub spec : ℕ → Specification
-spec pdn = record { subscriber = record { imsi = 0 ∷ 0 ∷ 1 ∷ 0 ∷ 1 ∷ 1 ∷ []; access_point = 1 ∷ 97 ∷ []; identity = 5 }; rat = 6; network = record { mcc = 0 ∷ 0 ∷ 1 ∷ []; mnc = 0 ∷ 1 ∷ [] }; selection = 0; pdn = pdn; ambr = record { up = 1000; down = 1000 }; qos = plain_qos }
+spec pdn =
+    record {
+      subscriber = record { imsi = 0 ∷ 0 ∷ 1 ∷ 0 ∷ 1 ∷ 1 ∷ []; access_point = 1 ∷ 97 ∷ []; identity = 5 };
+      rat = 6;
+      network = record { mcc = 0 ∷ 0 ∷ 1 ∷ []; mnc = 0 ∷ 1 ∷ [] };
+      selection = 0;
+      pdn = pdn;
+      ambr = record { up = 1000; down = 1000 };
+      qos = plain_qos;
+    }
 
 module _ (pdn count : ℕ) (address : PdnAddress) where
   -- create_session
@@ -156,7 +179,16 @@ module _ (pdn count : ℕ) (address : PdnAddress) where
   at_serving = opened_session (pending_session q) a address
 
   abbrev pub opened : Effect
-  opened = record { out = nothing; outcome = Came_to Opened; node = record serving_heard { sessions = insert serving_heard.sessions control at_serving; bearers = insert serving_heard.bearers user (opened_bearer (pending_bearer control q) a); pending = remove serving_heard.pending 0 } }
+  opened =
+      record {
+        out = nothing;
+        outcome = Came_to Opened;
+        node = record serving_heard {
+          sessions = insert serving_heard.sessions control at_serving;
+          bearers = insert serving_heard.bearers user (opened_bearer (pending_bearer control q) a);
+          pending = remove serving_heard.pending 0;
+        };
+      }
 
   abbrev pub w3 : World
   w3 = after w2 Serving (from_packet (Create_session_response a)) (heard opened)
@@ -182,7 +214,9 @@ module _ (pdn count : ℕ) (address : PdnAddress) where
 
   -- a packet gateway makes the session, whatever its templates
   abbrev GrantsWith : List Template → Effect → Type 0
-  GrantsWith templates e = AnswersWith (template_for q.access_point templates) asked a (session_cause pdn address) control (made_session q address) (session_made (at_start count templates) q control user address) e
+  GrantsWith templates e =
+      AnswersWith (template_for q.access_point templates) asked a (session_cause pdn address) control (made_session q address)
+      (session_made (at_start count templates) q control user address) e
 
   pub session_granted : (templates : List Template) (e : Effect) → IsGiven (at_start count templates) pdn address → GrantsWith templates e → CreateSessionAsked asked q (at_start count templates) e
   session_granted templates e given gives =
@@ -216,7 +250,14 @@ module _ (pdn count : ℕ) (address : PdnAddress) where
         record { pending = record { session = Some control; bearer = None; request = Create_session_request q }; waits = get-insert_same empty 0 _ }
         ⨾ record { request = q; asked = refl; session = control; about = refl; named = inl refl }
         ⨾ accepts_cause pdn address
-        ⨾ record { at = record { session = pending_session q; stands = get-insert_same empty control (pending_session q) }; context = record { identity = 5; cause = cause_of 16; user = Some (tunnel_end 5 user packet_ip); qos = Some plain_qos; charging = Some user }; alone = refl; default = refl; address = address; given = address_back 64 address given.some_part }
+        ⨾ record {
+          at = record { session = pending_session q; stands = get-insert_same empty control (pending_session q) };
+          context = record { identity = 5; cause = cause_of 16; user = Some (tunnel_end 5 user packet_ip); qos = Some plain_qos; charging = Some user };
+          alone = refl;
+          default = refl;
+          address = address;
+          given = address_back 64 address given.some_part;
+        }
         ⨾ record { low = omega arith; high = omega arith }
         ⨾ record {
           default = record { bearer = pending_bearer control q; stands = get-insert_same empty user (pending_bearer control q) };

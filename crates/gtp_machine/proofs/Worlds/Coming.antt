@@ -10,13 +10,17 @@ use Rattle.gtp_machine.specs.Tick.{ticked}
 use Rattle.gtp_machine.specs.Exchange.{CameTo}
 use Rattle.gtp_machine.specs.Reading.{Alone, Both}
 use Rattle.gtp_machine.specs.Spelling.{spelled_all, datagram_plane}
-use Rattle.gtp_machine.specs.World.{World, signed, Note, SentDatagram, HasSent, Event, Does, Tick, Deliver, Cut, Restart, Happens, Run, TicksOn, with_side, with_steps, restarted, marked_late, arrival, cut_on, Moves, MovesTwice, ComesTo, Delivers, IsLateOn, other, side_of, come_from, delivered_on, first_came, second_came, logged, noted, moved, note_of}
+use Rattle.gtp_machine.specs.World.{World, signed, Note, SentDatagram, HasSent, Event, Does, Tick, Deliver, Cut, Restart, Happens, Run, TicksOn}
+use Rattle.gtp_machine.specs.World.{with_side, with_steps, restarted, marked_late, arrival, cut_on, Moves, MovesTwice, ComesTo, Delivers, IsLateOn}
+use Rattle.gtp_machine.specs.World.{other, side_of, come_from, delivered_on, first_came, second_came, logged, noted, moved, note_of}
 use Rattle.gtp_machine.specs.Ordered.{Unless}
 use Rattle.gtp_machine.proofs.Basics.Datagrams.{IsFew, IsSentWhole}
 use Rattle.gtp_machine.proofs.Basics.Facts.{one_more}
 
 -- what holds of each datagram of one message and of each pair holds of those that are sent
-pub by_few : (P : List Message → Type 0) → ((m : Message) → P (m ∷ [])) → ((a : CreateSessionResponse) (r : CreateBearerRequest) → P (Create_session_response a ∷ Create_bearer_request r ∷ [])) → (datagram : List Message) → IsFew datagram → P datagram
+pub by_few : (P : List Message → Type 0) → ((m : Message) → P (m ∷ []))
+    → ((a : CreateSessionResponse) (r : CreateBearerRequest) → P (Create_session_response a ∷ Create_bearer_request r ∷ []))
+    → (datagram : List Message) → IsFew datagram → P datagram
 by_few P one two [] few = absurd few
 by_few P one two (m ∷ []) few = one m
 by_few P one two (m ∷ n ∷ []) few = subst P (λ i. sym few.first i ∷ sym few.second i ∷ []) (two few.answer few.request)
@@ -38,14 +42,22 @@ module _ (old : World) (role : Role) (from : Addresses) (new : World) where
   alone_comes m (inr d) = absurd (cc d.0.is)
 
   module _ (a : CreateSessionResponse) (r : CreateBearerRequest) where
-    taken_apart : (pair : TakesPair role (side_of old role).node.config (come_from from (spelled_all (Create_session_response a ∷ Create_bearer_request r ∷ []))) (Both (Create_session_response a) (Create_bearer_request r))) → MovesTwice old role (first_came from (Create_session_response pair.answer)) (second_came from (Create_bearer_request pair.asked)) new → ComesApart old role from a r new
+    taken_apart : (pair : TakesPair role (side_of old role).node.config
+        (come_from from (spelled_all (Create_session_response a ∷ Create_bearer_request r ∷ [])))
+        (Both (Create_session_response a) (Create_bearer_request r)))
+        → MovesTwice old role (first_came from (Create_session_response pair.answer)) (second_came from (Create_bearer_request pair.asked)) new
+        → ComesApart old role from a r new
     taken_apart pair moves =
         let answer : pair.answer ≡ a = cc pair.is in
         let asked : pair.asked ≡ r = cc pair.is in
         record {
           by = pair.by;
           peer = pair.peer;
-          moves = subst (λ k. MovesTwice old role (first_came from (Create_session_response a)) (second_came from (Create_bearer_request k)) new) asked (subst (λ k. MovesTwice old role (first_came from (Create_session_response k)) (second_came from (Create_bearer_request pair.asked)) new) answer moves);
+          moves =
+              subst (λ k. MovesTwice old role (first_came from (Create_session_response a)) (second_came from (Create_bearer_request k)) new) asked
+              (subst
+              (λ k. MovesTwice old role (first_came from (Create_session_response k)) (second_came from (Create_bearer_request pair.asked)) new)
+              answer moves);
         }
 
     pub pair_comes : ComesTo old role from (Create_session_response a ∷ Create_bearer_request r ∷ []) new → ComesWhole old role from a r new ⊎ ComesApart old role from a r new
@@ -53,7 +65,8 @@ module _ (old : World) (role : Role) (from : Addresses) (new : World) where
     pair_comes (inr d) = inr (taken_apart d.0 d.1)
 
     -- from the peer it comes so to the serving gateway
-    pub peer_comes : role ≡ Serving → from.control ≡ (side_of old role).node.config.peer.control → ComesTo old role from (Create_session_response a ∷ Create_bearer_request r ∷ []) new → ComesApart old role from a r new
+    pub peer_comes : role ≡ Serving → from.control ≡ (side_of old role).node.config.peer.control
+        → ComesTo old role from (Create_session_response a ∷ Create_bearer_request r ∷ []) new → ComesApart old role from a r new
     peer_comes by peer (inl d) = absurd (d.0 (record { by = by; peer = peer; answer = a; asked = r; is = refl }))
     peer_comes by peer (inr d) = taken_apart d.0 d.1
 
@@ -87,12 +100,40 @@ pub record IsMoved (old : World) (role : Role) (e : Effect) (new : World) : Type
   pub note : CameTo new e.outcome
 
 moved_on_time : (old : World) (role : Role) (e : Effect) (steps : List Done) → IsMoved old role e (logged (noted (moved old role e) (note_of e.outcome e.out)) role steps)
-moved_on_time old Serving e steps = record { grown = record { listed = refl; node = refl; elsewhere = refl }; history = refl; handed = refl; accepted = refl; note = record { note = _; before = _; notes = refl; is = refl } }
-moved_on_time old Packet e steps = record { grown = record { listed = refl; node = refl; elsewhere = refl }; history = refl; handed = refl; accepted = refl; note = record { note = _; before = _; notes = refl; is = refl } }
+moved_on_time old Serving e steps =
+    record {
+      grown = record { listed = refl; node = refl; elsewhere = refl };
+      history = refl;
+      handed = refl;
+      accepted = refl;
+      note = record { note = _; before = _; notes = refl; is = refl };
+    }
+moved_on_time old Packet e steps =
+    record {
+      grown = record { listed = refl; node = refl; elsewhere = refl };
+      history = refl;
+      handed = refl;
+      accepted = refl;
+      note = record { note = _; before = _; notes = refl; is = refl };
+    }
 
 moved_late : (old : World) (role : Role) (request : Arrival) (e : Effect) (new : World) → IsMoved (marked_late old role request) role e new → IsMoved old role e new
-moved_late old Serving request e new m = record { grown = record { listed = m.grown.listed; node = m.grown.node; elsewhere = m.grown.elsewhere }; history = m.history; handed = m.handed; accepted = m.accepted; note = m.note }
-moved_late old Packet request e new m = record { grown = record { listed = m.grown.listed; node = m.grown.node; elsewhere = m.grown.elsewhere }; history = m.history; handed = m.handed; accepted = m.accepted; note = m.note }
+moved_late old Serving request e new m =
+    record {
+      grown = record { listed = m.grown.listed; node = m.grown.node; elsewhere = m.grown.elsewhere };
+      history = m.history;
+      handed = m.handed;
+      accepted = m.accepted;
+      note = m.note;
+    }
+moved_late old Packet request e new m =
+    record {
+      grown = record { listed = m.grown.listed; node = m.grown.node; elsewhere = m.grown.elsewhere };
+      history = m.history;
+      handed = m.handed;
+      accepted = m.accepted;
+      note = m.note;
+    }
 
 pub ticks_moved : (old : World) (role : Role) (new : World) (t : TicksOn old role new) → IsMoved old role (ticked t.out t.after) new
 ticks_moved old role new t = subst (IsMoved old role (ticked t.out t.after)) (sym t.becomes) (moved_on_time old role (ticked t.out t.after) _)
@@ -110,8 +151,12 @@ pub took : (old : World) (role : Role) (input : Input) (new : World) → Moves o
 took old role input new m = record { effect = m.effect; step = m.step; moved = moved_so old role input new m }
 
 pub took_late : (old : World) (role : Role) (request : Arrival) (input : Input) (new : World) → Moves (marked_late old role request) role input new → Took old role input new
-took_late old Serving request input new m = let t = took (marked_late old Serving request) Serving input new m in record { effect = t.effect; step = t.step; moved = moved_late old Serving request t.effect new t.moved }
-took_late old Packet request input new m = let t = took (marked_late old Packet request) Packet input new m in record { effect = t.effect; step = t.step; moved = moved_late old Packet request t.effect new t.moved }
+took_late old Serving request input new m =
+    let t = took (marked_late old Serving request) Serving input new m in
+    record { effect = t.effect; step = t.step; moved = moved_late old Serving request t.effect new t.moved }
+took_late old Packet request input new m =
+    let t = took (marked_late old Packet request) Packet input new m in
+    record { effect = t.effect; step = t.step; moved = moved_late old Packet request t.effect new t.moved }
 
 -- a datagram of one message comes
 pub took_datagram : (old : World) (sender : Role) (m : Message) (new : World) → Delivers old sender (m ∷ []) new
@@ -147,8 +192,21 @@ took_both old a r new m = record {
 }
 
 pub took_both_late : (old : World) (request : Arrival) (a : CreateSessionResponse) (r : CreateBearerRequest) (new : World)
-    → MovesTwice (marked_late old Serving request) Serving (first_came old.packet.node.config.own (Create_session_response a)) (second_came old.packet.node.config.own (Create_bearer_request r)) new → TookBoth old a r new
-took_both_late old request a r new m = let t = took_both (marked_late old Serving request) a r new m in record { effect = t.effect; step = t.step; next = t.next; follows = t.follows; listed = t.listed; history = t.history; node = t.node; elsewhere = t.elsewhere; note = t.note }
+    → MovesTwice (marked_late old Serving request) Serving (first_came old.packet.node.config.own (Create_session_response a))
+    (second_came old.packet.node.config.own (Create_bearer_request r)) new → TookBoth old a r new
+took_both_late old request a r new m =
+    let t = took_both (marked_late old Serving request) a r new m in
+    record {
+      effect = t.effect;
+      step = t.step;
+      next = t.next;
+      follows = t.follows;
+      listed = t.listed;
+      history = t.history;
+      node = t.node;
+      elsewhere = t.elsewhere;
+      note = t.note;
+    }
 
 -- the world after a step, with its note and the step
 abbrev pub after : World → Role → Input → Effect → World
@@ -159,9 +217,14 @@ module _ (old : World) (sender : Role) (m : Message) (e : Effect) where
   abbrev arriving : Input
   arriving = delivered_on (plane_of m) (side_of old sender).node.config.own (m ∷ [])
 
-  pub arrives : (number : ℕ) → slice_get old.datagrams number ≡ Some (record { role = sender; what = m ∷ [] }) → (IsLateOn (plane_of m) (side_of old sender).node.config.own (side_of old (other sender)) (m ∷ []) → ⊥)
+  pub arrives : (number : ℕ) → slice_get old.datagrams number ≡ Some (record { role = sender; what = m ∷ [] })
+      → (IsLateOn (plane_of m) (side_of old sender).node.config.own (side_of old (other sender)) (m ∷ []) → ⊥)
       → Step (other sender) (side_of old (other sender)).node arriving e → Happens old (Deliver number) (after old (other sender) arriving e)
-  arrives number stands timely step = inr (record { sent = _; is = stands }, inl (timely, inl (no_pair (other sender) (side_of old (other sender)).node.config _ m, record { effect = e; step = step; becomes = refl })))
+  arrives number stands timely step =
+      inr (
+        record { sent = _; is = stands },
+        inl (timely, inl (no_pair (other sender) (side_of old (other sender)).node.config _ m, record { effect = e; step = step; becomes = refl })),
+      )
 
 infixr 10 ◌⨾◌
 -- a rule applies, and then the next one
@@ -204,19 +267,23 @@ lately : (w : World) (role : Role) (request : Arrival) → IsTimely (marked_late
 lately w Serving request = record { on_time = λ z. absurd (one_more w.late z); marked = λ gone. inl refl }
 lately w Packet request = record { on_time = λ z. absurd (one_more w.late z); marked = λ gone. inl refl }
 
-module _ (I P : World → Type 0) (late : (w : World) (role : Role) (request : Arrival) → I w → I (marked_late w role request)) (found : (w : World) → I w → (number : ℕ) (s : SentDatagram) → slice_get w.datagrams number ≡ Some s → IsSentWhole w.history s.role s.what) (k : Walks I P) where
+module _ (I P : World → Type 0) (late : (w : World) (role : Role) (request : Arrival) → I w → I (marked_late w role request))
+    (found : (w : World) → I w → (number : ℕ) (s : SentDatagram) → slice_get w.datagrams number ≡ Some s → IsSentWhole w.history s.role s.what)
+    (k : Walks I P) where
   delivers : (w : World) → I w → P w → (sender : Role) (m : Message) → HasSent w.history sender m → (new : World) → Delivers w sender (m ∷ []) new → P new
   delivers w i p Packet m sent new (inl d) = k.moves w Serving _ new i p (Sends m sent (timely w Serving _ m d.0)) (alone_comes w Serving _ new m d.1)
   delivers w i p Packet m sent new (inr d) =
       let a = arrival w.packet.node.config.own m in
-      k.moves (marked_late w Serving a) Serving _ new (late w Serving a i) (k.late w Serving a i p) (Sends m sent (λ control. lately w Serving a)) (alone_comes (marked_late w Serving a) Serving _ new m d.1)
+      k.moves (marked_late w Serving a) Serving _ new (late w Serving a i) (k.late w Serving a i p) (Sends m sent (λ control. lately w Serving a))
+      (alone_comes (marked_late w Serving a) Serving _ new m d.1)
   delivers w i p Serving m sent new (inl d) = k.moves w Packet _ new i p (Sends m sent (timely w Packet _ m d.0)) (alone_comes w Packet _ new m d.1)
   delivers w i p Serving m sent new (inr d) =
       let a = arrival w.serving.node.config.own m in
       k.moves (marked_late w Packet a) Packet _ new (late w Packet a i) (k.late w Packet a i p) (Sends m sent (λ control. lately w Packet a)) (alone_comes (marked_late w Packet a) Packet _ new m d.1)
 
   pair_to_serving : (w : World) → I w → P w → (a : CreateSessionResponse) (r : CreateBearerRequest) → HasSent w.history Packet (Create_session_response a)
-      → HasSent w.history Packet (Create_bearer_request r) → IsTimely w Serving (arrival w.packet.node.config.own (Create_bearer_request r)) → (new : World) → ComesTo w Serving w.packet.node.config.own (Create_session_response a ∷ Create_bearer_request r ∷ []) new → P new
+      → HasSent w.history Packet (Create_bearer_request r) → IsTimely w Serving (arrival w.packet.node.config.own (Create_bearer_request r))
+      → (new : World) → ComesTo w Serving w.packet.node.config.own (Create_session_response a ∷ Create_bearer_request r ∷ []) new → P new
   pair_to_serving w i p a r a_sent r_sent is_timely new c =
       ⊎_elim
       (λ whole. k.moves w Serving _ new i p (Joins _) whole)

@@ -53,15 +53,20 @@ walks own first = record {
   late = λ w role request inv same by. same_late w role request by ∙ same by;
   restarts = λ w role note inv same few by. same_restarted w role note by ∙ same by;
   ticks = λ w role new inv same t. to_new first w _ new t.becomes same (stepped w role (ticked t.out t.after) _ _ (tick_config (side_of w role).node t.moves t.out t.after t.tick));
-  moves = λ w role input new inv same b m. to_new first w _ new m.becomes same (stepped w role m.effect _ _ (run.config_stays own w inv role input m.effect (run.brings_carried own w inv role input b) m.step));
+  moves =
+      λ w role input new inv same b m. to_new first w _ new m.becomes same
+      (stepped w role m.effect _ _ (run.config_stays own w inv role input m.effect (run.brings_carried own w inv role input b) m.step));
   pairs = λ w a r new inv same a_sent r_sent timely m.
       let first_input = first_came w.packet.node.config.own (Create_session_response a) in
       let second_input = second_came w.packet.node.config.own (Create_bearer_request r) in
       let now = run.config_stays own w inv Serving first_input m.effect (run.first_carried own w inv a r a_sent r_sent) m.step in
-      let next = run.config_stays own (moved w Serving m.effect) (run.after_first own w inv a r a_sent r_sent m.effect m.step) Serving second_input m.next (run.second_carried own w inv a r a_sent r_sent m.effect m.step) m.follows in
+      let next =
+      run.config_stays own (moved w Serving m.effect) (run.after_first own w inv a r a_sent r_sent m.effect m.step) Serving second_input m.next
+      (run.second_carried own w inv a r a_sent r_sent m.effect m.step) m.follows in
       to_new first w _ new m.becomes same (two_steps w m.effect m.next now next (note_of_both m.effect m.next) (both_steps w.serving.node first_input second_input m.effect m.next));
 }
 
 -- in each run from a start
-pub set_up : (serving packet : Config) (serving_counter packet_counter : ℕ) (events : List Event) (w : World) → Run (start serving packet serving_counter packet_counter) events w → SetUpAs (start serving packet serving_counter packet_counter) w
+pub set_up : (serving packet : Config) (serving_counter packet_counter : ℕ) (events : List Event) (w : World)
+    → Run (start serving packet serving_counter packet_counter) events w → SetUpAs (start serving packet serving_counter packet_counter) w
 set_up serving packet sc pc = run.from_start serving packet sc pc (SetUpAs (start serving packet sc pc)) (walks packet.own (start serving packet sc pc)) (λ role. refl)

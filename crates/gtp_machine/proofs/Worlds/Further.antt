@@ -4,7 +4,8 @@ use Rattle.std.specs.FinMap.{get, insert, remove, empty, get-empty, len, len-emp
 use Rattle.std.specs.Ordering.{nat_cmp}
 use Rattle.std.proofs.lemmas.Cmp.{nat_cmp_total}
 use Rattle.gtp_machine.specs.Element.{cause_of}
-use Rattle.gtp_machine.specs.Message.{Create_session_request, Create_session_response, Create_bearer_request, Packet_data, DeleteBearerRequest, DeleteBearerResponse, Delete_bearer_request, Delete_bearer_response, Echo, Echo_request}
+use Rattle.gtp_machine.specs.Message.{Create_session_request, Create_session_response, Create_bearer_request, Packet_data, DeleteBearerRequest}
+use Rattle.gtp_machine.specs.Message.{DeleteBearerResponse, Delete_bearer_request, Delete_bearer_response, Echo, Echo_request}
 use Rattle.gtp_machine.specs.Node.{Serving, Packet, Session, Bearer, PendingRequest, Arrival, Closing}
 use Rattle.gtp_machine.specs.Input.{Create_session, Create_bearer, Send_user, Commanded, Entry, Effect, says, Repeated, Closed, Delete_bearer, Send_echo}
 use Rattle.gtp_machine.specs.Command.{asks}
@@ -18,8 +19,11 @@ use Rattle.gtp_machine.proofs.Basics.FiniteMaps.{get-insert_same, get-kept, foun
 use Rattle.gtp_machine.specs.Laws.{GetsThrough, GoesOn, ARunIsPossible, HearsRestart}
 use Rattle.gtp_machine.proofs.Basics.Counting.{len-insert_most, len-remove_most}
 use Rattle.gtp_machine.proofs.Worlds.Beginning.{serving_config, packet_config, only_v4, gives_v4, plain_qos, control, none_pending, from_serving, from_packet, heard}
-use Rattle.gtp_machine.proofs.Worlds.Possible.{spec, dedicated, q, asked, a, at_serving, at_packet, r, at_packet_bearer, entry_with, sent_with, sends_with, taken_with, takes_with, w1, w2, w3, w4, w5, w6, w7, w8, new_of_type, serving_stands, step1, step2, step3, step4, step5, step6, step7, step8}
-use Rattle.gtp_machine.proofs.Worlds.Sendable.{session_request, session_response, bearer_request, bearer_response, delete_bearer_request, delete_bearer_response, echo_request, echo_response, packet, AllSendable, among_sendable}
+use Rattle.gtp_machine.proofs.Worlds.Possible.{spec, dedicated, q, asked, a, at_serving, at_packet, r, at_packet_bearer, entry_with, sent_with}
+use Rattle.gtp_machine.proofs.Worlds.Possible.{sends_with, taken_with, takes_with, w1, w2, w3, w4, w5, w6, w7, w8, new_of_type, serving_stands, step1}
+use Rattle.gtp_machine.proofs.Worlds.Possible.{step2, step3, step4, step5, step6, step7, step8}
+use Rattle.gtp_machine.proofs.Worlds.Sendable.{session_request, session_response, bearer_request, bearer_response, delete_bearer_request}
+use Rattle.gtp_machine.proofs.Worlds.Sendable.{delete_bearer_response, echo_request, echo_response, packet, AllSendable, among_sendable}
 use Rattle.gtp_values.specs.FiniteMap.{Among, FiniteMap, kept}
 use Rattle.gtp_machine.specs.Removal.{without_bearer, is_opened}
 use Rattle.gtp_machine.specs.Recovery.{peer_restarted}
@@ -129,7 +133,13 @@ removed =
       left = without_bearer w14.serving.node dedicated;
       removes = (
         [],
-        record { key = dedicated; at = record { bearer = granted_bearer r 6; stands = get-insert_same w4.serving.node.bearers dedicated (granted_bearer r 6) }; of = refl; dedicated = refl; has = refl }
+        record {
+          key = dedicated;
+          at = record { bearer = granted_bearer r 6; stands = get-insert_same w4.serving.node.bearers dedicated (granted_bearer r 6) };
+          of = refl;
+          dedicated = refl;
+          has = refl;
+        }
             ⨾ (refl, (refl, refl)),
       );
       gives = refl;
@@ -194,7 +204,9 @@ stands_before : get w18.packet.node.sessions control ≡ Some at_packet
 stands_before = get-kept (λ t (s : Session). true) (insert empty control at_packet) control at_packet (get-insert_same empty control at_packet) refl
 
 gone : (s : Session) → get w19.packet.node.sessions control ≡ Some s → ⊥
-gone s e = not_so (is_opened (get w18.packet.node.sessions control)) (ap is_opened stands_before) (found-kept (λ t (k : Session). not (is_opened (get w18.packet.node.sessions t))) w18.packet.node.sessions control s e).0
+gone s e =
+    not_so (is_opened (get w18.packet.node.sessions control)) (ap is_opened stands_before)
+    (found-kept (λ t (k : Session). not (is_opened (get w18.packet.node.sessions t))) w18.packet.node.sessions control s e).0
   where
     not_so : (b : Bool) → b ≡ true → not b ≡ true → ⊥
     not_so true is other = absurd (cc other)
@@ -269,14 +281,17 @@ goes_on = record {
     not_kept bearers b e = false_true _ refl (found-kept (λ t (k : Bearer). not ((t == dedicated) || false)) bearers dedicated b e).0
 
     never : Among (Deliver 5)
-        (Does Serving (Send_user dedicated (121 ∷ [])) ∷ Does Serving (Send_user dedicated (122 ∷ [])) ∷ Deliver 7 ∷ Deliver 6 ∷ Does Packet (Delete_bearer control 6) ∷ Deliver 8 ∷ Deliver 9 ∷ Restart Serving ∷ Does Serving Send_echo ∷ Deliver 10 ∷ []) → ⊥
+        (Does Serving (Send_user dedicated (121 ∷ [])) ∷ Does Serving (Send_user dedicated (122 ∷ [])) ∷ Deliver 7 ∷ Deliver 6 ∷ Does Packet
+        (Delete_bearer control 6) ∷ Deliver 8 ∷ Deliver 9 ∷ Restart Serving ∷ Does Serving Send_echo ∷ Deliver 10 ∷ []) → ⊥
     never = search rules
 
 gets_through : GetsThrough
 gets_through = record {
   serving = serving_config;
   packet = packet_config 0;
-  events = Does Serving (Create_session spec) ∷ Deliver 0 ∷ Deliver 1 ∷ Does Packet (Create_bearer control (33 ∷ []) plain_qos) ∷ Deliver 2 ∷ Deliver 3 ∷ Does Serving (Send_user dedicated (120 ∷ [])) ∷ Deliver 4 ∷ [];
+  events =
+      Does Serving (Create_session spec) ∷ Deliver 0 ∷ Deliver 1 ∷ Does Packet (Create_bearer control (33 ∷ []) plain_qos) ∷ Deliver 2 ∷ Deliver 3 ∷
+      Does Serving (Send_user dedicated (120 ∷ [])) ∷ Deliver 4 ∷ [];
   world = w8;
   run = (w1, step1, (w2, step2, (w3, step3, (w4, step4, (w5, step5, (w6, step6, (w7, step7, (w8, step8, refl))))))));
   session = control;
@@ -288,7 +303,15 @@ gets_through = record {
   bearer_there = dedicated;
   bearer_at_serving = granted_bearer r 6;
   bearer_at_packet = at_packet_bearer;
-  bearers = record { serving = get-insert_same w4.serving.node.bearers dedicated (granted_bearer r 6); packet = get-insert_same w5.packet.node.bearers dedicated at_packet_bearer; serving_active = refl; packet_active = refl; there = refl; back = refl };
+  bearers =
+      record {
+        serving = get-insert_same w4.serving.node.bearers dedicated (granted_bearer r 6);
+        packet = get-insert_same w5.packet.node.bearers dedicated at_packet_bearer;
+        serving_active = refl;
+        packet_active = refl;
+        there = refl;
+        back = refl;
+      };
   dedicated = refl;
   of_session = refl;
   of_session_there = refl;

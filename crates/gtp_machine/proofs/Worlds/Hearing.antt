@@ -35,7 +35,8 @@ module _ (peer : Side) (few : peer.restarts ≤ 127) where
       l.is ∙ ap (λ n. (peer.first + n) % 256) (sym starts) ∙ sym o.is
 
   -- one more counter that was heard, of no later start
-  by_start : (seen : List ℕ) (c latest start : ℕ) → start ≤ latest → c ≡ (peer.first + start) % 256 → ((r : ℕ) → Among r seen → IsByStart peer latest r) → (r : ℕ) → Among r (c ∷ seen) → IsByStart peer latest r
+  by_start : (seen : List ℕ) (c latest start : ℕ) → start ≤ latest → c ≡ (peer.first + start) % 256 → ((r : ℕ) → Among r seen → IsByStart peer latest r)
+      → (r : ℕ) → Among r (c ∷ seen) → IsByStart peer latest r
   by_start seen c latest start no_later is before r (inl same) = record { start = start; no_later = no_later; is = same ∙ is }
   by_start seen c latest start no_later is before r (inr there) = before r there
 
@@ -45,11 +46,15 @@ module _ (peer : Side) (few : peer.restarts ≤ 127) where
 
   -- a counter is known, and is the latest
   Hearing-some : (seen : List ℕ) (k : ℕ) (new : Option ℕ) → new ≡ Some k → IsLatest peer seen k → Hearing peer new seen
-  Hearing-some seen k new is l = subst (λ n. Hearing peer n seen) (sym is) (record { none = λ none. absurd (cc none); latest = λ j some. subst (IsLatest peer seen) (let same : k ≡ j = cc some in same) l })
+  Hearing-some seen k new is l =
+      subst (λ n. Hearing peer n seen) (sym is)
+      (record { none = λ none. absurd (cc none); latest = λ j some. subst (IsLatest peer seen) (let same : k ≡ j = cc some in same) l })
 
   -- it is heard now, and those before are of no later start
   heard_now : (seen : List ℕ) (c : ℕ) (new : Option ℕ) → new ≡ Some c → (o : IsOfStart peer c) → ((r : ℕ) → Among r seen → IsByStart peer o.start r) → Hearing peer new (c ∷ seen)
-  heard_now seen c new is o before = Hearing-some (c ∷ seen) c new is (record { start = o.start; by_now = o.by_now; is = o.is; heard = inl refl; others = by_start seen c o.start o.start (omega arith) o.is before })
+  heard_now seen c new is o before =
+      Hearing-some (c ∷ seen) c new is
+      (record { start = o.start; by_now = o.by_now; is = o.is; heard = inl refl; others = by_start seen c o.start o.start (omega arith) o.is before })
 
   by_age : (seen : List ℕ) (k c : ℕ) (new : Option ℕ) → Hearing peer (Some k) seen → IsOfStart peer c → (a : Age) → age_of k c ≡ a → KnownBy a k c new → Hearing peer new (c ∷ seen)
   by_age seen k c new h o Same e is =
@@ -65,7 +70,8 @@ module _ (peer : Side) (few : peer.restarts ≤ 127) where
       let starts = later_start peer.first l.start o.start k c (omega (arith, l.by_now)) (omega (arith, o.by_now)) l.is o.is e in
       heard_now seen c new is o (λ r there. let b = l.others r there in record { start = b.start; no_later = omega (arith, b.no_later, starts); is = b.is })
 
-  pub Hearing-step : (known heard new : Option ℕ) (seen : List ℕ) → Hearing peer known seen → KnownAfter known heard new → ((c : ℕ) → heard ≡ Some c → IsOfStart peer c) → Hearing peer new (with_heard heard seen)
+  pub Hearing-step : (known heard new : Option ℕ) (seen : List ℕ) → Hearing peer known seen → KnownAfter known heard new
+      → ((c : ℕ) → heard ≡ Some c → IsOfStart peer c) → Hearing peer new (with_heard heard seen)
   Hearing-step known None new seen h is told = subst (λ n. Hearing peer n seen) (sym is) h
   Hearing-step None (Some c) new seen h is told = heard_now seen c new is (told c refl) (λ r there. absurd (h.none refl r there))
   Hearing-step (Some k) (Some c) new seen h is told = by_age seen k c new h (told c refl) (age_of k c) refl is
@@ -85,4 +91,11 @@ Hearing-peer peer again first more known seen h = record { none = h.none; latest
     at c s is = is ∙ ap (λ f. (f + s) % 256) (sym first)
 
     latest : (k : ℕ) → IsLatest peer seen k → IsLatest again seen k
-    latest k l = record { start = l.start; by_now = omega (arith, l.by_now, more); is = at k l.start l.is; heard = l.heard; others = λ r among. let b = l.others r among in record { start = b.start; no_later = b.no_later; is = at r b.start b.is } }
+    latest k l =
+        record {
+          start = l.start;
+          by_now = omega (arith, l.by_now, more);
+          is = at k l.start l.is;
+          heard = l.heard;
+          others = λ r among. let b = l.others r among in record { start = b.start; no_later = b.no_later; is = at r b.start b.is };
+        }

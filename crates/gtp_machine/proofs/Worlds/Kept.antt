@@ -27,22 +27,30 @@ pub record Packets (history : List Sent) (handed : List (By Entry)) (role : Role
   pub sent : (target : ℕ) (payload : List ℕ) → HasSent history role (Packet_data target payload) → IsHanded handed role target payload
   pub each : (e : Entry) → HasBy handed role e → IsFor history (other role) e
 
-handed_before : (handed : List (By Entry)) (role by : Role) (now : List Entry) (target : ℕ) (payload : List ℕ) → IsHanded handed role target payload → IsHanded (handed ++ signed by now) role target payload
+handed_before : (handed : List (By Entry)) (role by : Role) (now : List Entry) (target : ℕ) (payload : List ℕ) → IsHanded handed role target payload
+    → IsHanded (handed ++ signed by now) role target payload
 handed_before handed role by now target payload h = record { entry = h.entry; among = by_before handed role by now h.entry h.among; names = h.names; carries = h.carries }
 
-pub Packets-step : (history : List Sent) (handed : List (By Entry)) (role : Role) (node : Node) (taken : Arrival → Message → Type 0) (e : Effect) → Packets history handed role → Logs history role taken node e → Packets (history ++ signed role (messages e.out.sent)) (handed ++ signed role e.out.handed) role
+pub Packets-step : (history : List Sent) (handed : List (By Entry)) (role : Role) (node : Node) (taken : Arrival → Message → Type 0) (e : Effect)
+    → Packets history handed role → Logs history role taken node e
+    → Packets (history ++ signed role (messages e.out.sent)) (handed ++ signed role e.out.handed) role
 Packets-step history handed role node taken e p logs = record {
   sent = λ t payload has. elim (by_cases history role role (messages e.out.sent) (Packet_data t payload) has) [
     | inl was ↦ old t payload was
-    | inr now ↦ ⊎_elim (λ was. old t payload was) (λ is. record { entry = is.entry; among = by_now handed role e.out.handed is.entry is.handed; names = is.names; carries = is.carries }) (logs.packets t payload now.1)
+    | inr now ↦ ⊎_elim (λ was. old t payload was)
+        (λ is. record { entry = is.entry; among = by_now handed role e.out.handed is.entry is.handed; names = is.names; carries = is.carries })
+        (logs.packets t payload now.1)
   ];
-  each = λ n among. IsFor-later history (history ++ signed role (messages e.out.sent)) (Extends-signed history role (messages e.out.sent)) (other role) n (⊎_elim (λ was. p.each n was) (λ now. logs.handed n now.1) (by_cases handed role role e.out.handed n among));
+  each =
+      λ n among. IsFor-later history (history ++ signed role (messages e.out.sent)) (Extends-signed history role (messages e.out.sent)) (other role) n
+      (⊎_elim (λ was. p.each n was) (λ now. logs.handed n now.1) (by_cases handed role role e.out.handed n among));
 }
   where
     old : (t : ℕ) (payload : List ℕ) → HasSent history role (Packet_data t payload) → IsHanded (handed ++ signed role e.out.handed) role t payload
     old t payload was = handed_before handed role role e.out.handed t payload (p.sent t payload was)
 
-pub Packets-elsewhere : (history : List Sent) (handed : List (By Entry)) (role : Role) (sent : List Message) (now : List Entry) → Packets history handed role → Packets (history ++ signed (other role) sent) (handed ++ signed (other role) now) role
+pub Packets-elsewhere : (history : List Sent) (handed : List (By Entry)) (role : Role) (sent : List Message) (now : List Entry) → Packets history handed role
+    → Packets (history ++ signed (other role) sent) (handed ++ signed (other role) now) role
 Packets-elsewhere history handed role sent now p = record {
   sent = λ t payload has. handed_before handed role (other role) now t payload (p.sent t payload (by_other history role sent (Packet_data t payload) has));
   each = λ e among. IsFor-later history (history ++ signed (other role) sent) (Extends-signed history (other role) sent) (other role) e (p.each e (by_other handed role now e among));
@@ -53,16 +61,21 @@ pub record IsRemembered (history : List Sent) (key : Message → Arrival) (side 
   pub request : CreateBearerRequest
   pub sent : HasSent history Packet (Create_bearer_request request)
   pub echoed : first_returned x.contexts ≡ Some request.context.user.teid
-  pub where_now : ((counter_of request.header ≡ side.node.counter) × (Among (record { request = key (Create_bearer_request request); answer = Create_bearer_response x ∷ [] }) side.node.held ⊎ Among (key (Create_bearer_request request)) side.forgotten)) ⊎ IsEarlier side (counter_of request.header)
+  pub where_now : ((counter_of request.header ≡ side.node.counter)
+      × (Among (record { request = key (Create_bearer_request request); answer = Create_bearer_response x ∷ [] }) side.node.held
+      ⊎ Among (key (Create_bearer_request request)) side.forgotten)) ⊎ IsEarlier side (counter_of request.header)
 
 abbrev pub Remembers : List Sent → (Message → Arrival) → Side → Type 0
 Remembers history key side = (x : CreateBearerResponse) (t : ℕ) → HasSent history Serving (Create_bearer_response x) → first_given x.contexts ≡ Some t → IsRemembered history key side x
 
-remembered_later : (before after : List Sent) → Extends before after → (key : Message → Arrival) (side : Side) (x : CreateBearerResponse) → IsRemembered before key side x → IsRemembered after key side x
+remembered_later : (before after : List Sent) → Extends before after → (key : Message → Arrival) (side : Side) (x : CreateBearerResponse)
+    → IsRemembered before key side x → IsRemembered after key side x
 remembered_later before after extends key side x r = record { request = r.request; sent = extends.keeps Packet (Create_bearer_request r.request) r.sent; echoed = r.echoed; where_now = r.where_now }
 
 pub Remembers-elsewhere : (history : List Sent) (key : Message → Arrival) (side : Side) (sent : List Message) → Remembers history key side → Remembers (history ++ signed Packet sent) key side
-Remembers-elsewhere history key side sent r x t has gives = remembered_later history (history ++ signed Packet sent) (Extends-signed history Packet sent) key side x (r x t (by_other history Serving sent (Create_bearer_response x) has) gives)
+Remembers-elsewhere history key side sent r x t has gives =
+    remembered_later history (history ++ signed Packet sent) (Extends-signed history Packet sent) key side x
+    (r x t (by_other history Serving sent (Create_bearer_response x) has) gives)
 
 pub Remembers-restart : (history : List Sent) (key : Message → Arrival) (side : Side) → Drawing side Serving history → Remembers history key side → Remembers history key (restarted side)
 Remembers-restart history key side drawing r x t has gives =
@@ -71,23 +84,35 @@ Remembers-restart history key side drawing r x t has gives =
       request = i.request;
       sent = i.sent;
       echoed = i.echoed;
-      where_now = inr (⊎_elim (λ here. record { start = side.restarts; before = omega arith; is = here.0 ∙ drawing.counter }) (λ earlier. record { start = earlier.start; before = omega (arith, earlier.before); is = earlier.is }) i.where_now);
+      where_now =
+          inr (⊎_elim (λ here. record { start = side.restarts; before = omega arith; is = here.0 ∙ drawing.counter })
+          (λ earlier. record { start = earlier.start; before = omega (arith, earlier.before); is = earlier.is }) i.where_now);
     }
 
-module _ (history : List Sent) (key : Message → Arrival) (side : Side) (taken : Arrival → Message → Type 0) (e : Effect) (drawing : Drawing side Serving history) (drawn : Each (λ t (s : Session). Among t side.node.drawn) side.node.sessions)
-    (draws : Draws history Serving side.node e.node (messages e.out.sent)) (remembers : Remembers history key side) (logs : Logs history Serving taken side.node e) (keyed : (a : Arrival) (m : Message) → creates Serving m ≡ true → taken a m → a ≡ key m) where
+module _ (history : List Sent) (key : Message → Arrival) (side : Side) (taken : Arrival → Message → Type 0) (e : Effect)
+    (drawing : Drawing side Serving history) (drawn : Each (λ t (s : Session). Among t side.node.drawn) side.node.sessions)
+    (draws : Draws history Serving side.node e.node (messages e.out.sent)) (remembers : Remembers history key side)
+    (logs : Logs history Serving taken side.node e) (keyed : (a : Arrival) (m : Message) → creates Serving m ≡ true → taken a m → a ≡ key m) where
   -- a request that is answered now names a session of the present start
   answered_counter : (x : CreateBearerResponse) → (is : IsAnsweredNow history side.node e.node taken x) → counter_of is.request.header ≡ side.node.counter
   answered_counter x is = drawing.present is.request.header (drawn is.request.header is.session is.stands)
 
   pub Remembers-step : Remembers (history ++ signed Serving (messages e.out.sent)) key (stepped side e)
-  Remembers-step x t has gives = remembered_later history (history ++ signed Serving (messages e.out.sent)) (Extends-signed history Serving (messages e.out.sent)) key (stepped side e) x (elim (by_cases history Serving Serving (messages e.out.sent) (Create_bearer_response x) has) [
-    | inl was ↦ old was
-    | inr now ↦ ⊎_elim old fresh (logs.answers x t now.1 gives)
-  ])
+  Remembers-step x t has gives =
+      remembered_later history (history ++ signed Serving (messages e.out.sent)) (Extends-signed history Serving (messages e.out.sent)) key
+      (stepped side e) x (elim (by_cases history Serving Serving (messages e.out.sent) (Create_bearer_response x) has) [
+        | inl was ↦ old was
+        | inr now ↦ ⊎_elim old fresh (logs.answers x t now.1 gives)
+      ])
     where
-      still : (q : CreateBearerRequest) → Among (record { request = key (Create_bearer_request q); answer = Create_bearer_response x ∷ [] }) side.node.held ⊎ Among (key (Create_bearer_request q)) side.forgotten → Among (record { request = key (Create_bearer_request q); answer = Create_bearer_response x ∷ [] }) e.node.held ⊎ Among (key (Create_bearer_request q)) (side.forgotten ++ e.out.forgot)
-      still q (inl held) = ⊎_elim (λ stays. inl stays) (λ gone. inr (Among-right (key (Create_bearer_request q)) side.forgotten e.out.forgot gone)) (logs.held_stays (record { request = key (Create_bearer_request q); answer = Create_bearer_response x ∷ [] }) held)
+      still : (q : CreateBearerRequest)
+          → Among (record { request = key (Create_bearer_request q); answer = Create_bearer_response x ∷ [] }) side.node.held
+          ⊎ Among (key (Create_bearer_request q)) side.forgotten
+          → Among (record { request = key (Create_bearer_request q); answer = Create_bearer_response x ∷ [] }) e.node.held
+          ⊎ Among (key (Create_bearer_request q)) (side.forgotten ++ e.out.forgot)
+      still q (inl held) =
+          ⊎_elim (λ stays. inl stays) (λ gone. inr (Among-right (key (Create_bearer_request q)) side.forgotten e.out.forgot gone))
+          (logs.held_stays (record { request = key (Create_bearer_request q); answer = Create_bearer_response x ∷ [] }) held)
       still q (inr gone) = inr (Among-left (key (Create_bearer_request q)) side.forgotten e.out.forgot gone)
 
       old : HasSent history Serving (Create_bearer_response x) → IsRemembered history key (stepped side e) x
@@ -103,15 +128,24 @@ module _ (history : List Sent) (key : Message → Arrival) (side : Side) (taken 
         request = is.request;
         sent = is.sent;
         echoed = is.echoed;
-        where_now = inl (answered_counter x is ∙ sym draws.counter, inl (subst (λ a. Among (record { request = a; answer = Create_bearer_response x ∷ [] }) e.node.held) (keyed is.arrival (Create_bearer_request is.request) refl is.came) is.held));
+        where_now =
+            inl (
+              answered_counter x is ∙ sym draws.counter,
+              inl (subst (λ a. Among (record { request = a; answer = Create_bearer_response x ∷ [] }) e.node.held)
+                  (keyed is.arrival (Create_bearer_request is.request) refl is.came) is.held),
+            );
       }
 
-  module _ (packet_once : Once history Packet) (is_new : (a : Arrival) (m : Message) → taken a m → IsNew side.node a) (on_time : (a : Arrival) (m : Message) → creates Serving m ≡ true → taken a m → Among a side.forgotten → ⊥) (once : AnsweredOnce history) where
+  module _ (packet_once : Once history Packet) (is_new : (a : Arrival) (m : Message) → taken a m → IsNew side.node a)
+      (on_time : (a : Arrival) (m : Message) → creates Serving m ≡ true → taken a m → Among a side.forgotten → ⊥) (once : AnsweredOnce history) where
     -- a request that is answered now was not answered before
-    unanswered : (x y : CreateBearerResponse) (t : ℕ) → IsAnsweredNow history side.node e.node taken x → HasSent history Serving (Create_bearer_response y) → first_given y.contexts ≡ Some t → first_returned x.contexts ≡ first_returned y.contexts → ⊥
+    unanswered : (x y : CreateBearerResponse) (t : ℕ) → IsAnsweredNow history side.node e.node taken x → HasSent history Serving (Create_bearer_response y)
+        → first_given y.contexts ≡ Some t → first_returned x.contexts ≡ first_returned y.contexts → ⊥
     unanswered x y t is was gives same_echo =
         let i = remembers y t was gives in
-        let same = same_create_bearer_request history packet_once i.request is.request i.sent is.sent (same_Some i.request.context.user.teid is.request.context.user.teid (sym i.echoed ∙ sym same_echo ∙ is.echoed)) in
+        let same =
+        same_create_bearer_request history packet_once i.request is.request i.sent is.sent
+        (same_Some i.request.context.user.teid is.request.context.user.teid (sym i.echoed ∙ sym same_echo ∙ is.echoed)) in
         let counter = answered_counter x is in
         let here : key (Create_bearer_request i.request) ≡ is.arrival = ap (λ q. key (Create_bearer_request q)) same ∙ sym (keyed is.arrival (Create_bearer_request is.request) refl is.came) in
         elim i.where_now [
@@ -119,10 +153,14 @@ module _ (history : List Sent) (key : Message → Arrival) (side : Side) (taken 
               (λ held. is_new is.arrival (Create_bearer_request is.request) is.came (record { request = key (Create_bearer_request i.request); answer = Create_bearer_response y ∷ [] }) held here)
               (λ gone. on_time is.arrival (Create_bearer_request is.request) refl is.came (subst (λ a. Among a side.forgotten) here gone))
               now.1
-          | inr earlier ↦ starts_apart side.first earlier.start side.restarts earlier.before drawing.few (sym earlier.is ∙ ap (λ (q : CreateBearerRequest). counter_of q.header) same ∙ counter ∙ drawing.counter)
+          | inr earlier ↦ starts_apart side.first earlier.start side.restarts earlier.before drawing.few
+              (sym earlier.is ∙ ap (λ (q : CreateBearerRequest). counter_of q.header) same ∙ counter ∙ drawing.counter)
         ]
 
-    cases : (x : CreateBearerResponse) (t : ℕ) → first_given x.contexts ≡ Some t → HasSent (history ++ signed Serving (messages e.out.sent)) Serving (Create_bearer_response x) → HasSent history Serving (Create_bearer_response x) ⊎ (Among (Create_bearer_response x) (messages e.out.sent) × IsAnsweredNow history side.node e.node taken x)
+    cases : (x : CreateBearerResponse) (t : ℕ) → first_given x.contexts ≡ Some t
+        → HasSent (history ++ signed Serving (messages e.out.sent)) Serving (Create_bearer_response x)
+        → HasSent history Serving (Create_bearer_response x)
+        ⊎ (Among (Create_bearer_response x) (messages e.out.sent) × IsAnsweredNow history side.node e.node taken x)
     cases x t gives has = elim (by_cases history Serving Serving (messages e.out.sent) (Create_bearer_response x) has) [
       | inl was ↦ inl was
       | inr now ↦ ⊎_elim (λ was. inl was) (λ is. inr (now.1, is)) (logs.answers x t now.1 gives)
@@ -131,19 +169,27 @@ module _ (history : List Sent) (key : Message → Arrival) (side : Side) (taken 
     pub AnsweredOnce-step : AnsweredOnce (history ++ signed Serving (messages e.out.sent))
     AnsweredOnce-step x y s t x_has y_has x_gives y_gives same = both (cases x s x_gives x_has) (cases y t y_gives y_has)
       where
-        both : HasSent history Serving (Create_bearer_response x) ⊎ (Among (Create_bearer_response x) (messages e.out.sent) × IsAnsweredNow history side.node e.node taken x) → HasSent history Serving (Create_bearer_response y) ⊎ (Among (Create_bearer_response y) (messages e.out.sent) × IsAnsweredNow history side.node e.node taken y) → x ≡ y
+        both : HasSent history Serving (Create_bearer_response x)
+            ⊎ (Among (Create_bearer_response x) (messages e.out.sent) × IsAnsweredNow history side.node e.node taken x)
+            → HasSent history Serving (Create_bearer_response y)
+            ⊎ (Among (Create_bearer_response y) (messages e.out.sent) × IsAnsweredNow history side.node e.node taken y) → x ≡ y
         both (inl x_was) (inl y_was) = once x y s t x_was y_was x_gives y_gives same
         both (inl x_was) (inr y_now) = absurd (unanswered y x s y_now.1 x_was x_gives (sym same))
         both (inr x_now) (inl y_was) = absurd (unanswered x y t x_now.1 y_was y_gives same)
-        both (inr x_now) (inr y_now) = ⊎_elim (λ (is : Create_bearer_response x ≡ Create_bearer_response y). cc is) (λ apart. absurd (apart.no_grant x refl)) (draws.one (Create_bearer_response x) (Create_bearer_response y) x_now.0 y_now.0)
+        both (inr x_now) (inr y_now) =
+            ⊎_elim (λ (is : Create_bearer_response x ≡ Create_bearer_response y). cc is) (λ apart. absurd (apart.no_grant x refl))
+            (draws.one (Create_bearer_response x) (Create_bearer_response y) x_now.0 y_now.0)
 
 -- each context that was made since the start has its answer held or given up, and was made once unless its request came late
 pub record Making (side : Side) : Type 0 where
   pub kept : (a : Arrival) → Among a side.made → ((answer : List Message) × Among (record { request = a; answer = answer }) side.node.held) ⊎ Among a side.forgotten
   pub once : (a : Arrival) → (Among a side.late_requests → ⊥) → AtMostOnce a side.made
 
-module _ (history : List Sent) (role : Role) (side : Side) (taken : Arrival → Message → Type 0) (e : Effect) (m : Making side) (logs : Logs history role taken side.node e) (is_new : (a : Arrival) (n : Message) → taken a n → IsNew side.node a) (marked : (a : Arrival) (n : Message) → creates role n ≡ true → taken a n → Among a side.forgotten → Among a side.late_requests) where
-  still : (a : Arrival) → ((answer : List Message) × Among (record { request = a; answer = answer }) side.node.held) ⊎ Among a side.forgotten → ((answer : List Message) × Among (record { request = a; answer = answer }) e.node.held) ⊎ Among a (side.forgotten ++ e.out.forgot)
+module _ (history : List Sent) (role : Role) (side : Side) (taken : Arrival → Message → Type 0) (e : Effect) (m : Making side)
+    (logs : Logs history role taken side.node e) (is_new : (a : Arrival) (n : Message) → taken a n → IsNew side.node a)
+    (marked : (a : Arrival) (n : Message) → creates role n ≡ true → taken a n → Among a side.forgotten → Among a side.late_requests) where
+  still : (a : Arrival) → ((answer : List Message) × Among (record { request = a; answer = answer }) side.node.held) ⊎ Among a side.forgotten
+      → ((answer : List Message) × Among (record { request = a; answer = answer }) e.node.held) ⊎ Among a (side.forgotten ++ e.out.forgot)
   still a (inl held) = ⊎_elim (λ stays. inl (held.0, stays)) (λ gone. inr (Among-right a side.forgotten e.out.forgot gone)) (logs.held_stays (record { request = a; answer = held.0 }) held.1)
   still a (inr gone) = inr (Among-left a side.forgotten e.out.forgot gone)
 
@@ -169,7 +215,12 @@ module _ (history : List Sent) (role : Role) (side : Side) (taken : Arrival → 
       newly : MakesFor role taken e.out.made e.node → Making (stepped side e)
       newly x = record {
         kept = λ a among. kept a (subst (λ (l : List Arrival). Among a (l ++ side.made)) x.is among);
-        once = λ a on_time. subst (λ (l : List Arrival). AtMostOnce a (l ++ side.made)) (sym x.is) (λ same before. first_made x.arrival x.message x.creates x.came (λ late. on_time (subst (λ k. Among k side.late_requests) same late)) (subst (λ k. Among k side.made) (sym same) before), m.once a on_time);
+        once =
+            λ a on_time. subst (λ (l : List Arrival). AtMostOnce a (l ++ side.made)) (sym x.is) (
+              λ same before. first_made x.arrival x.message x.creates x.came (λ late. on_time (subst (λ k. Among k side.late_requests) same late))
+                  (subst (λ k. Among k side.made) (sym same) before),
+              m.once a on_time,
+            );
       }
         where
           kept : (a : Arrival) → Among a (x.arrival ∷ side.made) → ((answer : List Message) × Among (record { request = a; answer = answer }) e.node.held) ⊎ Among a (side.forgotten ++ e.out.forgot)

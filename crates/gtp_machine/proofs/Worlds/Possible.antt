@@ -5,7 +5,8 @@ use Rattle.std.specs.Ordering.{nat_cmp}
 use Rattle.gtp_values.specs.FiniteMap.{Among, FiniteMap}
 use Rattle.gtp_machine.specs.Config.{user_end}
 use Rattle.gtp_machine.specs.Element.{cause_of, tunnel_end}
-use Rattle.gtp_machine.specs.Message.{CreateSessionRequest, CreateSessionResponse, CreateBearerRequest, CreateBearerResponse, Create_session_response, Create_bearer_request, Create_bearer_response, Packet_data, subscriber_of, Message}
+use Rattle.gtp_machine.specs.Message.{CreateSessionRequest, CreateSessionResponse, CreateBearerRequest, CreateBearerResponse, Create_session_response}
+use Rattle.gtp_machine.specs.Message.{Create_bearer_request, Create_bearer_response, Packet_data, subscriber_of, Message}
 use Rattle.gtp_machine.specs.Node.{Serving, Packet, Session, Bearer, PendingRequest, Arrival, Held, Node}
 use Rattle.gtp_machine.specs.Input.{Came_to, Specification, Create_session, Create_bearer, Send_user, Commanded, User_message, Opened, Accepted, GoneOut, Entry, Effect, entry_for, nothing, says}
 use Rattle.gtp_machine.specs.Choice.{IsFreeIdentity, IsUnused}
@@ -64,7 +65,9 @@ abbrev pub r : CreateBearerRequest
 r = bearer_request w3.packet.node at_packet (33 ∷ []) plain_qos dedicated 0
 
 abbrev pub e4 : Effect
-e4 = asks w3.packet.node 0 (record { session = Some control; bearer = Some dedicated; request = Create_bearer_request r }) (Some dedicated) (record w3.packet.node { drawn = dedicated ∷ w3.packet.node.drawn; bearers = insert w3.packet.node.bearers dedicated (pending_dedicated control) })
+e4 =
+    asks w3.packet.node 0 (record { session = Some control; bearer = Some dedicated; request = Create_bearer_request r }) (Some dedicated)
+    (record w3.packet.node { drawn = dedicated ∷ w3.packet.node.drawn; bearers = insert w3.packet.node.bearers dedicated (pending_dedicated control) })
 
 abbrev pub w4 : World
 w4 = after w3 Packet (Commanded (Create_bearer control (33 ∷ []) plain_qos)) e4
@@ -204,13 +207,15 @@ module _ (n : Node) (sessions : n.sessions ≡ insert empty control at_packet) (
   }
     where
       unused : IsUnused n control 6
-      unused t b stands of is = elim (found-insert (insert empty user (made_bearer q control)) dedicated (pending_dedicated control) t b (ap (λ (bs : FiniteMap Bearer). get bs t) (sym bearers) ∙ stands)) [
-        | inl same ↦ cc (ap (λ (k : Bearer). k.identity) same.1 ∙ is)
-        | inr old ↦ elim (found-insert empty user (made_bearer q control) t b old.1) [
-          | inl same ↦ five_not_six (ap (λ (k : Bearer). k.identity) same.1 ∙ is)
-          | inr older ↦ found-empty t b older.1
-        ]
-      ]
+      unused t b stands of is =
+          elim (found-insert (insert empty user (made_bearer q control)) dedicated (pending_dedicated control) t b
+          (ap (λ (bs : FiniteMap Bearer). get bs t) (sym bearers) ∙ stands)) [
+            | inl same ↦ cc (ap (λ (k : Bearer). k.identity) same.1 ∙ is)
+            | inr old ↦ elim (found-insert empty user (made_bearer q control) t b old.1) [
+              | inl same ↦ five_not_six (ap (λ (k : Bearer). k.identity) same.1 ∙ is)
+              | inr older ↦ found-empty t b older.1
+            ]
+          ]
 
   pub bearer_answered : get n.pending 0 ≡ Some awaited → CreateBearerAnswered x n (opens_bearer n)
   bearer_answered waits =
@@ -222,7 +227,12 @@ module _ (n : Node) (sessions : n.sessions ≡ insert empty control at_packet) (
       ⨾ refl
       ⨾ can_open
       ⨾ record {
-        at = record { bearer = pending_dedicated control; stands = ap (λ (bs : FiniteMap Bearer). get bs dedicated) bearers ∙ get-insert_same (insert empty user (made_bearer q control)) dedicated (pending_dedicated control) };
+        at =
+            record {
+              bearer = pending_dedicated control;
+              stands = ap (λ (bs : FiniteMap Bearer). get bs dedicated) bearers
+                  ∙ get-insert_same (insert empty user (made_bearer q control)) dedicated (pending_dedicated control);
+            };
         gives = refl;
       }
 

@@ -3,11 +3,14 @@ use Rattle.std.proofs.Common.{◌≡◌, inl, inr, ⊎_elim, ℕ, ◌+◌, ◌<�
 use Rattle.gtp_values.specs.FiniteMap.{Among}
 use Rattle.gtp_machine.specs.Step.{Step, Done}
 use Rattle.gtp_machine.specs.Config.{Addresses, Config}
-use Rattle.gtp_machine.specs.Message.{CreateSessionResponse, CreateBearerRequest, Message, Create_session_response, Create_bearer_request, Create_bearer_response, Other_control, Plane, Control, User, plane_of}
+use Rattle.gtp_machine.specs.Message.{CreateSessionResponse, CreateBearerRequest, Message, Create_session_response, Create_bearer_request}
+use Rattle.gtp_machine.specs.Message.{Create_bearer_response, Other_control, Plane, Control, User, plane_of}
 use Rattle.gtp_machine.specs.Node.{Role, Serving, Packet, Arrival, Node, fresh_node}
 use Rattle.gtp_machine.specs.Input.{Move, Input, Commanded, Control_came, Moves_on, Control_message, Entry, Out, Effect, messages, datagrams}
 use Rattle.gtp_machine.specs.Answer.{IsNew}
-use Rattle.gtp_machine.specs.World.{with_steps, steps_of, logged, World, other, Side, By, HasBy, Sent, SentDatagram, HasSent, signed, flat, side_of, with_side, stepped, moved, Note, noted, Moves, MovesTwice, Event, Happens, arrival, first_came, second_came, marked_late, delivered_on, cut_on, restarted, Run, begun, start}
+use Rattle.gtp_machine.specs.World.{with_steps, steps_of, logged, World, other, Side, By, HasBy, Sent, SentDatagram, HasSent, signed, flat, side_of}
+use Rattle.gtp_machine.specs.World.{with_side, stepped, moved, Note, noted, Moves, MovesTwice, Event, Happens, arrival, first_came, second_came}
+use Rattle.gtp_machine.specs.World.{marked_late, delivered_on, cut_on, restarted, Run, begun, start}
 use Rattle.gtp_machine.specs.Tick.{TickStep, ticked}
 use Rattle.gtp_machine.specs.Laws.{EachNamedTeidWasDrawn}
 use Rattle.gtp_machine.specs.Safety.{EachOwed}
@@ -25,7 +28,8 @@ use Rattle.gtp_machine.proofs.Origins.Naming.{step_told, back_of, Names-step}
 use Rattle.gtp_machine.proofs.Rows.Stepping.{Carried, Taken, step_after}
 use Rattle.gtp_machine.proofs.Worlds.Hearing.{Hearing, Hearing-step, Hearing-peer, same_counter}
 use Rattle.gtp_machine.proofs.Worlds.Ticking.{move_quiet, moved_nothing, moved_twice}
-use Rattle.gtp_machine.proofs.Worlds.Kept.{Packets, Packets-step, Packets-elsewhere, Remembers, Remembers-step, Remembers-elsewhere, Remembers-restart, AnsweredOnce-step, Making, Making-step, Making-fresh, Making-late}
+use Rattle.gtp_machine.proofs.Worlds.Kept.{Packets, Packets-step, Packets-elsewhere, Remembers, Remembers-step, Remembers-elsewhere}
+use Rattle.gtp_machine.proofs.Worlds.Kept.{Remembers-restart, AnsweredOnce-step, Making, Making-step, Making-fresh, Making-late}
 use Rattle.gtp_values.proofs.Outcomes.{none_some}
 use Rattle.std.specs.FinMap.{empty}
 use Rattle.gtp_machine.proofs.Basics.Facts.{false_true, one_more}
@@ -60,7 +64,10 @@ side_in w inv Serving = inv.serving
 side_in w inv Packet = inv.packet
 
 -- what a step of one gateway leaves of it
-side_step : (history : List Sent) (role : Role) (side peer : Side) (taken : Arrival → Message → Type 0) (e : Effect) → SideInvariant history role side peer → Drawing peer (other role) history → After role history taken side.node e → ((a : Arrival) (n : Message) → taken a n → IsNew side.node a) → ((a : Arrival) (n : Message) → creates role n ≡ true → taken a n → Among a side.forgotten → Among a side.late_requests) → SideInvariant (history ++ signed role (messages e.out.sent)) role (stepped side e) peer
+side_step : (history : List Sent) (role : Role) (side peer : Side) (taken : Arrival → Message → Type 0) (e : Effect) → SideInvariant history role side peer
+    → Drawing peer (other role) history → After role history taken side.node e → ((a : Arrival) (n : Message) → taken a n → IsNew side.node a)
+    → ((a : Arrival) (n : Message) → creates role n ≡ true → taken a n → Among a side.forgotten → Among a side.late_requests)
+    → SideInvariant (history ++ signed role (messages e.out.sent)) role (stepped side e) peer
 side_step history role side peer taken e inv there after is_new marked = record {
   draws = Drawing-step side role history inv.draws e after.draws;
   knows = after.knows;
@@ -69,7 +76,9 @@ side_step history role side peer taken e inv there after is_new marked = record 
 }
 
 -- what a step of the other gateway leaves of this one
-side_elsewhere : (history : List Sent) (role : Role) (side peer peer_after : Side) (sent : List Message) → peer_after.first ≡ peer.first → peer.restarts ≤ peer_after.restarts → SideInvariant history role side peer → SideInvariant (history ++ signed (other role) sent) role side peer_after
+side_elsewhere : (history : List Sent) (role : Role) (side peer peer_after : Side) (sent : List Message) → peer_after.first ≡ peer.first
+    → peer.restarts ≤ peer_after.restarts → SideInvariant history role side peer
+    → SideInvariant (history ++ signed (other role) sent) role side peer_after
 side_elsewhere history role side peer peer_after sent first more inv = record {
   draws = Drawing-elsewhere side role history inv.draws sent;
   knows = Knows-later role history (history ++ signed (other role) sent) (Extends-signed history (other role) sent) side.node inv.knows;
@@ -78,18 +87,25 @@ side_elsewhere history role side peer peer_after sent first more inv = record {
 }
 
 -- the other gateway has another side
-peer_changes : (history : List Sent) (role : Role) (side peer new : Side) → new.first ≡ peer.first → peer.restarts ≤ new.restarts → SideInvariant history role side peer → SideInvariant history role side new
-peer_changes history role side peer new first more inv = record { draws = inv.draws; knows = inv.knows; hearing = Hearing-peer peer new first more side.node.known side.seen inv.hearing; making = inv.making }
+peer_changes : (history : List Sent) (role : Role) (side peer new : Side) → new.first ≡ peer.first → peer.restarts ≤ new.restarts
+    → SideInvariant history role side peer → SideInvariant history role side new
+peer_changes history role side peer new first more inv =
+    record
+    { draws = inv.draws; knows = inv.knows; hearing = Hearing-peer peer new first more side.node.known side.seen inv.hearing; making = inv.making }
 
 -- what each gateway sent was handed in, also after a step of one of them
-packets_step : (history : List Sent) (handed : List (By Entry)) (by : Role) (node : Node) (taken : Arrival → Message → Type 0) (e : Effect) → ((role : Role) → Packets history handed role) → Logs history by taken node e → (role : Role) → Packets (history ++ signed by (messages e.out.sent)) (handed ++ signed by e.out.handed) role
+packets_step : (history : List Sent) (handed : List (By Entry)) (by : Role) (node : Node) (taken : Arrival → Message → Type 0) (e : Effect)
+    → ((role : Role) → Packets history handed role) → Logs history by taken node e → (role : Role)
+    → Packets (history ++ signed by (messages e.out.sent)) (handed ++ signed by e.out.handed) role
 packets_step history handed Serving node taken e each logs Serving = Packets-step history handed Serving node taken e (each Serving) logs
 packets_step history handed Serving node taken e each logs Packet = Packets-elsewhere history handed Packet (messages e.out.sent) e.out.handed (each Packet)
 packets_step history handed Packet node taken e each logs Serving = Packets-elsewhere history handed Serving (messages e.out.sent) e.out.handed (each Serving)
 packets_step history handed Packet node taken e each logs Packet = Packets-step history handed Packet node taken e (each Packet) logs
 
 -- a packet that is accepted was handed in
-owed_now : (history : List Sent) (role : Role) (taken : Arrival → Message → Type 0) (old : Node) (e : Effect) (handed : List (By Entry)) → Once history Serving → Once history Packet → AnsweredOnce history → Logs history role taken old e → Packets history handed (other role) → (n : Entry) → Among n e.out.accepted → HasBy handed (other role) n
+owed_now : (history : List Sent) (role : Role) (taken : Arrival → Message → Type 0) (old : Node) (e : Effect) (handed : List (By Entry))
+    → Once history Serving → Once history Packet → AnsweredOnce history → Logs history role taken old e → Packets history handed (other role)
+    → (n : Entry) → Among n e.out.accepted → HasBy handed (other role) n
 owed_now history Serving taken old e handed so po once logs packets n among =
     let a = logs.accepted n among in
     let h = packets.sent n.target n.payload a.0 in
@@ -99,14 +115,18 @@ owed_now history Packet taken old e handed so po once logs packets n among =
     let h = packets.sent n.target n.payload a.0 in
     subst (λ x. HasBy handed Serving x) (same_entry history so po once Packet h.entry n h.names h.carries (packets.each h.entry h.among) a.1) h.among
 
-owed_step : (history : List Sent) (handed accepted : List (By Entry)) (by : Role) (taken : Arrival → Message → Type 0) (old : Node) (e : Effect) → Once history Serving → Once history Packet → AnsweredOnce history → Logs history by taken old e → ((role : Role) → Packets history handed role) → ((role : Role) (n : Entry) → HasBy accepted role n → HasBy handed (other role) n) → (role : Role) (n : Entry) → HasBy (accepted ++ signed by e.out.accepted) role n → HasBy (handed ++ signed by e.out.handed) (other role) n
+owed_step : (history : List Sent) (handed accepted : List (By Entry)) (by : Role) (taken : Arrival → Message → Type 0) (old : Node) (e : Effect)
+    → Once history Serving → Once history Packet → AnsweredOnce history → Logs history by taken old e → ((role : Role) → Packets history handed role)
+    → ((role : Role) (n : Entry) → HasBy accepted role n → HasBy handed (other role) n) → (role : Role) (n : Entry)
+    → HasBy (accepted ++ signed by e.out.accepted) role n → HasBy (handed ++ signed by e.out.handed) (other role) n
 owed_step history handed accepted by taken old e so po once logs packets owed role n among = by_before handed (other role) by e.out.handed n (elim (by_cases accepted role by e.out.accepted n among) [
   | inl was ↦ owed role n was
   | inr now ↦ subst (λ r. HasBy handed (other r) n) (sym now.0) (owed_now history by taken old e handed so po once logs (packets (other by)) n now.1)
 ])
 
 -- counters of one age are one counter
-same_is : (history : List Sent) (role : Role) (side peer : Side) → SideInvariant history role side peer → Drawing peer (other role) history → (m : Message) → HasSent history (other role) m → SameIs side.node m
+same_is : (history : List Sent) (role : Role) (side peer : Side) → SideInvariant history role side peer → Drawing peer (other role) history → (m : Message)
+    → HasSent history (other role) m → SameIs side.node m
 same_is history role side peer inv there m came k c tells known age_is = same_counter peer there.few side.seen k c (inv.hearing.latest k known) (there.told m c came tells) age_is
 
 -- a create request that comes late is marked so
@@ -158,40 +178,56 @@ module _ (own : Addresses) where
     pub keyed : (a : Arrival) (m : Message) → creates Serving m ≡ true → input ≡ Control_came a (Control_message m) → a ≡ arrival own m
     pub on_time : (a : Arrival) (m : Message) → creates Serving m ≡ true → input ≡ Control_came a (Control_message m) → w.late ≡ 0 → Among a w.serving.forgotten → ⊥
 
-  serving_moves : (w : World) → Invariant own w → (input : Input) (e : Effect) → Carried Serving w.history w.serving.node input → Comes w input → IsMarked Serving w.serving input → Step Serving w.serving.node input e → Invariant own (moved w Serving e)
+  serving_moves : (w : World) → Invariant own w → (input : Input) (e : Effect) → Carried Serving w.history w.serving.node input → Comes w input
+      → IsMarked Serving w.serving input → Step Serving w.serving.node input e → Invariant own (moved w Serving e)
   serving_moves w inv input e carried comes marked step =
       let so = inv.serving.draws.once in
       let po = inv.packet.draws.once in
       let taken = Taken w.serving.node input in
-      let after : After Serving w.history taken w.serving.node e = step_after w.history so po w.serving.node Serving (unowned w.serving Serving w.history inv.serving.draws) inv.packet.draws.dated inv.packet.draws.proper inv.serving.knows input e carried step in
+      let after : After Serving w.history taken w.serving.node e =
+      step_after w.history so po w.serving.node Serving (unowned w.serving Serving w.history inv.serving.draws) inv.packet.draws.dated
+      inv.packet.draws.proper inv.serving.knows input e carried step in
       record {
         serving = side_step w.history Serving w.serving w.packet taken e inv.serving inv.packet.draws after (λ a m t. t.1) (λ a m create t. marked a m create t.0);
         packet = side_elsewhere w.history Packet w.packet w.serving (stepped w.serving e) (messages e.out.sent) refl (omega arith) inv.packet;
         own_is = inv.own_is;
-        remembers = Remembers-step w.history (arrival own) w.serving taken e inv.serving.draws inv.serving.knows.drawn after.draws inv.remembers after.logs (λ a m create t. comes.keyed a m create t.0);
+        remembers =
+            Remembers-step w.history (arrival own) w.serving taken e inv.serving.draws inv.serving.knows.drawn after.draws inv.remembers after.logs
+            (λ a m create t. comes.keyed a m create t.0);
         logs = record {
-          once = λ z. AnsweredOnce-step w.history (arrival own) w.serving taken e inv.serving.draws inv.serving.knows.drawn after.draws inv.remembers after.logs (λ a m create t. comes.keyed a m create t.0) po (λ a m t. t.1) (λ a m create t. comes.on_time a m create t.0 z) (inv.logs.once z);
+          once =
+              λ z. AnsweredOnce-step w.history (arrival own) w.serving taken e inv.serving.draws inv.serving.knows.drawn after.draws inv.remembers
+              after.logs (λ a m create t. comes.keyed a m create t.0) po (λ a m t. t.1) (λ a m create t. comes.on_time a m create t.0 z)
+              (inv.logs.once z);
           packets = packets_step w.history w.handed Serving w.serving.node taken e inv.logs.packets after.logs;
           owed = λ z. owed_step w.history w.handed w.accepted Serving taken w.serving.node e so po (inv.logs.once z) after.logs inv.logs.packets (inv.logs.owed z);
-          named = Names-step w.history Serving e inv.logs.named (step_told w.history inv.logs.named Serving w.serving.node (back_of w.history Serving w.serving.node inv.serving.knows) input e carried step);
+          named =
+              Names-step w.history Serving e inv.logs.named
+              (step_told w.history inv.logs.named Serving w.serving.node (back_of w.history Serving w.serving.node inv.serving.knows) input e carried
+              step);
         };
         kept = flat_grows w.datagrams w.history inv.kept Serving e.out.sent;
         few = few_grows w.datagrams inv.few Serving (datagrams e.out.sent) after.few;
       }
 
-  packet_moves : (w : World) → Invariant own w → (input : Input) (e : Effect) → Carried Packet w.history w.packet.node input → IsMarked Packet w.packet input → Step Packet w.packet.node input e → Invariant own (moved w Packet e)
+  packet_moves : (w : World) → Invariant own w → (input : Input) (e : Effect) → Carried Packet w.history w.packet.node input → IsMarked Packet w.packet input
+      → Step Packet w.packet.node input e → Invariant own (moved w Packet e)
   packet_moves w inv input e carried marked step =
       let so = inv.serving.draws.once in
       let po = inv.packet.draws.once in
       let taken = Taken w.packet.node input in
-      let after : After Packet w.history taken w.packet.node e = step_after w.history so po w.packet.node Packet (unowned w.packet Packet w.history inv.packet.draws) inv.serving.draws.dated inv.serving.draws.proper inv.packet.knows input e carried step in
+      let after : After Packet w.history taken w.packet.node e =
+      step_after w.history so po w.packet.node Packet (unowned w.packet Packet w.history inv.packet.draws) inv.serving.draws.dated
+      inv.serving.draws.proper inv.packet.knows input e carried step in
       record {
         serving = side_elsewhere w.history Serving w.serving w.packet (stepped w.packet e) (messages e.out.sent) refl (omega arith) inv.serving;
         packet = side_step w.history Packet w.packet w.serving taken e inv.packet inv.serving.draws after (λ a m t. t.1) (λ a m create t. marked a m create t.0);
         own_is = ap (λ (c : Config). c.own) after.draws.config ∙ inv.own_is;
         remembers = Remembers-elsewhere w.history (arrival own) w.serving (messages e.out.sent) inv.remembers;
         logs = record {
-          once = λ z x y s t x_has y_has. inv.logs.once z x y s t (by_other w.history Serving (messages e.out.sent) (Create_bearer_response x) x_has) (by_other w.history Serving (messages e.out.sent) (Create_bearer_response y) y_has);
+          once =
+              λ z x y s t x_has y_has. inv.logs.once z x y s t (by_other w.history Serving (messages e.out.sent) (Create_bearer_response x) x_has)
+              (by_other w.history Serving (messages e.out.sent) (Create_bearer_response y) y_has);
           packets = packets_step w.history w.handed Packet w.packet.node taken e inv.logs.packets after.logs;
           owed = λ z. owed_step w.history w.handed w.accepted Packet taken w.packet.node e so po (inv.logs.once z) after.logs inv.logs.packets (inv.logs.owed z);
           named = Names-step w.history Packet e inv.logs.named (step_told w.history inv.logs.named Packet w.packet.node (back_of w.history Packet w.packet.node inv.packet.knows) input e carried step);
@@ -201,22 +237,42 @@ module _ (own : Addresses) where
       }
 
   -- no step changes how a gateway is set up
-  pub config_stays : (w : World) → Invariant own w → (role : Role) (input : Input) (e : Effect) → Carried role w.history (side_of w role).node input → Step role (side_of w role).node input e → e.node.config ≡ (side_of w role).node.config
+  pub config_stays : (w : World) → Invariant own w → (role : Role) (input : Input) (e : Effect) → Carried role w.history (side_of w role).node input
+      → Step role (side_of w role).node input e → e.node.config ≡ (side_of w role).node.config
   config_stays w inv role input e carried step =
       let here = side_in w inv role in
       let there = (side_in w inv (other role)).draws in
-      (step_after w.history inv.serving.draws.once inv.packet.draws.once (side_of w role).node role (unowned (side_of w role) role w.history here.draws) there.dated there.proper here.knows input e carried step).draws.config
+      (step_after w.history inv.serving.draws.once inv.packet.draws.once (side_of w role).node role
+      (unowned (side_of w role) role w.history here.draws) there.dated there.proper here.knows input e carried step).draws.config
 
   logs_late : (w : World) → Invariant own w → AreLogs (1 + w.late) w.history w.handed w.accepted
   logs_late w inv = record { once = λ z. absurd (one_more w.late z); packets = inv.logs.packets; owed = λ z. absurd (one_more w.late z); named = inv.logs.named }
 
   -- one gateway has another side, and the rest is as it was
-  side_changes : (w : World) → Invariant own w → (role : Role) (late : ℕ) (new : Side) → SideInvariant w.history role new (side_of w (other role)) → new.first ≡ (side_of w role).first → (side_of w role).restarts ≤ new.restarts → new.node.config.own ≡ (side_of w role).node.config.own
-      → (role ≡ Serving → Remembers w.history (arrival own) (side_of w role) → Remembers w.history (arrival own) new) → AreLogs late w.history w.handed w.accepted → Invariant own (record (with_side w role new) { late = late })
+  side_changes : (w : World) → Invariant own w → (role : Role) (late : ℕ) (new : Side) → SideInvariant w.history role new (side_of w (other role))
+      → new.first ≡ (side_of w role).first → (side_of w role).restarts ≤ new.restarts → new.node.config.own ≡ (side_of w role).node.config.own
+      → (role ≡ Serving → Remembers w.history (arrival own) (side_of w role) → Remembers w.history (arrival own) new)
+      → AreLogs late w.history w.handed w.accepted → Invariant own (record (with_side w role new) { late = late })
   side_changes w inv Serving late new here first more same remembers logs =
-      record { serving = here; packet = peer_changes w.history Packet w.packet w.serving new first more inv.packet; own_is = inv.own_is; remembers = remembers refl inv.remembers; logs = logs; kept = inv.kept; few = inv.few }
+      record {
+        serving = here;
+        packet = peer_changes w.history Packet w.packet w.serving new first more inv.packet;
+        own_is = inv.own_is;
+        remembers = remembers refl inv.remembers;
+        logs = logs;
+        kept = inv.kept;
+        few = inv.few;
+      }
   side_changes w inv Packet late new here first more same remembers logs =
-      record { serving = peer_changes w.history Serving w.serving w.packet new first more inv.serving; packet = here; own_is = same ∙ inv.own_is; remembers = inv.remembers; logs = logs; kept = inv.kept; few = inv.few }
+      record {
+        serving = peer_changes w.history Serving w.serving w.packet new first more inv.serving;
+        packet = here;
+        own_is = same ∙ inv.own_is;
+        remembers = inv.remembers;
+        logs = logs;
+        kept = inv.kept;
+        few = inv.few;
+      }
 
   -- one more late delivery leaves the rest as it is
   pub late_keeps : (w : World) → Invariant own w → (role : Role) (a : Arrival) → Invariant own (marked_late w role a)
@@ -225,7 +281,14 @@ module _ (own : Addresses) where
       side_changes w inv role (1 + w.late) (record (side_of w role) { late_requests = a ∷ (side_of w role).late_requests })
       (record { draws = Drawing-marked (side_of w role) role w.history here.draws a; knows = here.knows; hearing = here.hearing; making = Making-late (side_of w role) a here.making })
       refl (omega arith) refl
-      (λ is was x t has gives. let i = was x t has gives in record { request = i.request; sent = i.sent; echoed = i.echoed; where_now = ⊎_elim (λ here. inl here) (λ earlier. inr (record { start = earlier.start; before = earlier.before; is = earlier.is })) i.where_now })
+      (λ is was x t has gives. let i = was x t has gives in
+      record {
+        request = i.request;
+        sent = i.sent;
+        echoed = i.echoed;
+        where_now =
+            ⊎_elim (λ here. inl here) (λ earlier. inr (record { start = earlier.start; before = earlier.before; is = earlier.is })) i.where_now;
+      })
       (logs_late w inv)
 
   -- a note changes nothing of this
@@ -244,15 +307,21 @@ module _ (own : Addresses) where
   quiet_comes w input quiet = record { keyed = λ a m create is. absurd (subst IsQuiet is quiet); on_time = λ a m create is. absurd (subst IsQuiet is quiet) }
 
   lesser_comes : (w : World) (request : Arrival) (n : Message) → creates Serving n ≡ false → Comes w (Control_came request (Control_message n))
-  lesser_comes w request n lesser = record { keyed = λ a m create is. absurd (not_create Serving request a n m lesser create is); on_time = λ a m create is. absurd (not_create Serving request a n m lesser create is) }
+  lesser_comes w request n lesser =
+      record {
+        keyed = λ a m create is. absurd (not_create Serving request a n m lesser create is);
+        on_time = λ a m create is. absurd (not_create Serving request a n m lesser create is);
+      }
 
   -- a step on what brings no message
-  steps_quietly : (w : World) → Invariant own w → (role : Role) (input : Input) (e : Effect) → IsQuiet input → Carried role w.history (side_of w role).node input → Step role (side_of w role).node input e → Invariant own (moved w role e)
+  steps_quietly : (w : World) → Invariant own w → (role : Role) (input : Input) (e : Effect) → IsQuiet input → Carried role w.history (side_of w role).node input
+      → Step role (side_of w role).node input e → Invariant own (moved w role e)
   steps_quietly w inv Serving input e quiet carried step = serving_moves w inv input e carried (quiet_comes w input quiet) (quiet_marked Serving w.serving input quiet) step
   steps_quietly w inv Packet input e quiet carried step = packet_moves w inv input e carried (quiet_marked Packet w.packet input quiet) step
 
   -- a tick, move by move
-  ticks : (w : World) → Invariant own w → (role : Role) (moves : List Move) (out : Out) (after : Node) → TickStep (side_of w role).node moves out after → Invariant own (moved w role (ticked out after))
+  ticks : (w : World) → Invariant own w → (role : Role) (moves : List Move) (out : Out) (after : Node) → TickStep (side_of w role).node moves out after
+      → Invariant own (moved w role (ticked out after))
   ticks w inv role [] out after r = subst (λ k. Invariant own k) (sym (moved_nothing w role out after r.0 r.1)) inv
   ticks w inv Serving (move ∷ moves) out after (e, rest, step, others, is) =
       subst (λ k. Invariant own k) (moved_twice w Serving e rest after (move_quiet w.serving.node move e step) ∙ ap (λ o. moved w Serving (ticked o after)) (sym is))
@@ -266,7 +335,8 @@ module _ (own : Addresses) where
   found_whole w inv number s is = sent_whole w.datagrams w.history inv.kept inv.few s (among_at w.datagrams number s is)
 
   -- what comes to a gateway, by its plane
-  pub carried : (w : World) → Invariant own w → (role : Role) (p : Plane) (m : Message) → HasSent w.history (other role) m → Carried role w.history (side_of w role).node (delivered_on p (side_of w (other role)).node.config.own (m ∷ []))
+  pub carried : (w : World) → Invariant own w → (role : Role) (p : Plane) (m : Message) → HasSent w.history (other role) m
+      → Carried role w.history (side_of w role).node (delivered_on p (side_of w (other role)).node.config.own (m ∷ []))
   carried w inv role Control m came = inl (came, same_is w.history role (side_of w role) (side_of w (other role)) (side_in w inv role) (side_in w inv (other role)).draws m came)
   carried w inv role User m came = came
 
@@ -284,7 +354,8 @@ module _ (own : Addresses) where
   }
   sent_comes w inv User m timely = quiet_comes w _ tt
 
-  moved_new : (w : World) (role : Role) (e : Effect) (note : Note) (steps : List Done) (new : World) → new ≡ logged (noted (moved w role e) note) role steps → Invariant own (moved w role e) → Invariant own new
+  moved_new : (w : World) (role : Role) (e : Effect) (note : Note) (steps : List Done) (new : World) → new ≡ logged (noted (moved w role e) note) role steps
+      → Invariant own (moved w role e) → Invariant own new
   moved_new w role e note steps new is inv = subst (λ k. Invariant own k) (sym is) (noted_logged (moved w role e) note role steps inv)
 
   -- all that comes
@@ -302,11 +373,16 @@ module _ (own : Addresses) where
   brings_comes w inv input (Begins p from datagram count) = quiet_comes w _ (cut_quiet p from datagram count)
 
   brings_moves : (w : World) → Invariant own w → (role : Role) (input : Input) (new : World) → Brings w role input → Moves w role input new → Invariant own new
-  brings_moves w inv Serving input new b m = moved_new w Serving m.effect _ _ new m.becomes (serving_moves w inv input m.effect (brings_carried w inv Serving input b) (brings_comes w inv input b) (brings_marked w Serving input b) m.step)
-  brings_moves w inv Packet input new b m = moved_new w Packet m.effect _ _ new m.becomes (packet_moves w inv input m.effect (brings_carried w inv Packet input b) (brings_marked w Packet input b) m.step)
+  brings_moves w inv Serving input new b m =
+      moved_new w Serving m.effect _ _ new m.becomes
+      (serving_moves w inv input m.effect (brings_carried w inv Serving input b) (brings_comes w inv input b) (brings_marked w Serving input b) m.step)
+  brings_moves w inv Packet input new b m =
+      moved_new w Packet m.effect _ _ new m.becomes
+      (packet_moves w inv input m.effect (brings_carried w inv Packet input b) (brings_marked w Packet input b) m.step)
 
   -- the messages of a pair come, one after the other; the second is late where its answer was given up
-  module _ (w : World) (inv : Invariant own w) (a : CreateSessionResponse) (r : CreateBearerRequest) (a_sent : HasSent w.history Packet (Create_session_response a)) (r_sent : HasSent w.history Packet (Create_bearer_request r)) where
+  module _ (w : World) (inv : Invariant own w) (a : CreateSessionResponse) (r : CreateBearerRequest)
+      (a_sent : HasSent w.history Packet (Create_session_response a)) (r_sent : HasSent w.history Packet (Create_bearer_request r)) where
     abbrev key : Arrival
     key = arrival w.packet.node.config.own (Create_bearer_request r)
 
@@ -315,19 +391,29 @@ module _ (own : Addresses) where
 
     module _ (e : Effect) (step : Step Serving w.serving.node (first_came w.packet.node.config.own (Create_session_response a)) e) where
       pub after_first : Invariant own (moved w Serving e)
-      after_first = serving_moves w inv (first_came w.packet.node.config.own (Create_session_response a)) e first_carried (lesser_comes w _ (Create_session_response a) refl) (lesser_marked Serving w.serving _ (Create_session_response a) refl) step
+      after_first =
+          serving_moves w inv (first_came w.packet.node.config.own (Create_session_response a)) e first_carried
+          (lesser_comes w _ (Create_session_response a) refl) (lesser_marked Serving w.serving _ (Create_session_response a) refl) step
 
       pub second_sent : HasSent (moved w Serving e).history Packet (Create_bearer_request r)
       second_sent = by_before w.history Packet Serving (messages e.out.sent) (Create_bearer_request r) r_sent
 
       pub second_carried : Carried Serving (moved w Serving e).history (moved w Serving e).serving.node (second_came w.packet.node.config.own (Create_bearer_request r))
-      second_carried = inl (second_sent, same_is (moved w Serving e).history Serving (moved w Serving e).serving (moved w Serving e).packet after_first.serving after_first.packet.draws (Create_bearer_request r) second_sent)
+      second_carried =
+          inl (
+            second_sent,
+            same_is (moved w Serving e).history Serving (moved w Serving e).serving (moved w Serving e).packet after_first.serving
+                after_first.packet.draws (Create_bearer_request r) second_sent,
+          )
 
       -- the first gives up no answer
       pub still_forgotten : (x : Arrival) → Among x (moved w Serving e).serving.forgotten → Among x w.serving.forgotten
-      still_forgotten x gone = ⊎_elim (λ was. was) (λ now. absurd (subst (Among x) (none_forgotten w.serving.node _ e (opening _ a w.serving.node e step)) now)) (Among-cases x w.serving.forgotten e.out.forgot gone)
+      still_forgotten x gone =
+          ⊎_elim (λ was. was) (λ now. absurd (subst (Among x) (none_forgotten w.serving.node _ e (opening _ a w.serving.node e step)) now))
+          (Among-cases x w.serving.forgotten e.out.forgot gone)
 
-      pub second_marked : (Among key w.serving.forgotten → Among key w.serving.late_requests) → IsMarked Serving (moved w Serving e).serving (second_came w.packet.node.config.own (Create_bearer_request r))
+      pub second_marked : (Among key w.serving.forgotten → Among key w.serving.late_requests)
+          → IsMarked Serving (moved w Serving e).serving (second_came w.packet.node.config.own (Create_bearer_request r))
       second_marked marked x n create is gone =
           let same = came_so w.packet.node.config.own (Create_bearer_request r) x n is in
           subst (λ k. Among k w.serving.late_requests) (sym same) (marked (subst (λ k. Among k w.serving.forgotten) same (still_forgotten x gone)))
@@ -342,7 +428,9 @@ module _ (own : Addresses) where
         → MovesTwice w Serving (first_came w.packet.node.config.own (Create_session_response a)) (second_came w.packet.node.config.own (Create_bearer_request r)) new → Invariant own new
     pair_moves new timely m =
         let w1 = moved w Serving m.effect in
-        moved_new w1 Serving m.next _ _ new m.becomes (serving_moves w1 (after_first m.effect m.step) (second_came w.packet.node.config.own (Create_bearer_request r)) m.next (second_carried m.effect m.step) (second_comes m.effect m.step timely.on_time) (second_marked m.effect m.step timely.marked) m.follows)
+        moved_new w1 Serving m.next _ _ new m.becomes
+        (serving_moves w1 (after_first m.effect m.step) (second_came w.packet.node.config.own (Create_bearer_request r)) m.next
+        (second_carried m.effect m.step) (second_comes m.effect m.step timely.on_time) (second_marked m.effect m.step timely.marked) m.follows)
 
 fresh_contexts : (history : List Sent) (role : Role) → Contexts role history empty empty
 fresh_contexts history Serving = record { sessions_asked = Each-empty _; bearers_asked = Each-empty _ }
@@ -390,14 +478,20 @@ begins_side config first role peer = record {
 
 module _ (own : Addresses) where
   restarts : (w : World) → Invariant own w → (role : Role) → (side_of w role).restarts < 127 → Invariant own (with_side w role (restarted (side_of w role)))
-  restarts w inv Serving room = side_changes own w inv Serving w.late (restarted w.serving) (side_restart w.history Serving w.serving w.packet room inv.serving) refl (omega arith) refl (λ is. Remembers-restart w.history (arrival own) w.serving inv.serving.draws) inv.logs
-  restarts w inv Packet room = side_changes own w inv Packet w.late (restarted w.packet) (side_restart w.history Packet w.packet w.serving room inv.packet) refl (omega arith) refl (λ is. absurd (cc is)) inv.logs
+  restarts w inv Serving room =
+      side_changes own w inv Serving w.late (restarted w.serving) (side_restart w.history Serving w.serving w.packet room inv.serving) refl
+      (omega arith) refl (λ is. Remembers-restart w.history (arrival own) w.serving inv.serving.draws) inv.logs
+  restarts w inv Packet room =
+      side_changes own w inv Packet w.late (restarted w.packet) (side_restart w.history Packet w.packet w.serving room inv.packet) refl (omega arith)
+      refl (λ is. absurd (cc is)) inv.logs
 
   walks : Walks (Invariant own) (Invariant own)
   walks = record {
     notes = λ w note inv. noted_keeps own w note inv;
     late = λ w role request inv same. late_keeps own w inv role request;
-    restarts = λ w role note inv same few. steps_keep own (noted (with_side w role (restarted (side_of w role))) note) role [] (noted_keeps own (with_side w role (restarted (side_of w role))) note (restarts w inv role few));
+    restarts =
+        λ w role note inv same few. steps_keep own (noted (with_side w role (restarted (side_of w role))) note) role []
+        (noted_keeps own (with_side w role (restarted (side_of w role))) note (restarts w inv role few));
     ticks = λ w role new inv same t. subst (λ k. Invariant own k) (sym t.becomes) (noted_logged own (moved w role (ticked t.out t.after)) _ role _ (ticks own w inv role t.moves t.out t.after t.tick));
     moves = λ w role input new inv same b m. brings_moves own w inv role input new b m;
     pairs = λ w a r new inv same a_sent r_sent timely m. pair_moves own w inv a r a_sent r_sent new timely m;
@@ -431,7 +525,8 @@ pub from_start : (serving packet : Config) (serving_counter packet_counter : ℕ
     → (events : List Event) (w : World) → Run (start serving packet serving_counter packet_counter) events w → P w
 from_start serving packet sc pc P k p = keeps packet.own P k (start serving packet sc pc) (begins serving packet sc pc) p
 
-pub always : (serving packet : Config) (serving_counter packet_counter : ℕ) (events : List Event) (w : World) → Run (start serving packet serving_counter packet_counter) events w → Invariant packet.own w
+pub always : (serving packet : Config) (serving_counter packet_counter : ℕ) (events : List Event) (w : World)
+    → Run (start serving packet serving_counter packet_counter) events w → Invariant packet.own w
 always serving packet sc pc = from_start serving packet sc pc (Invariant packet.own) (walks packet.own) (begins serving packet sc pc)
 
 -- A run goes on by one event.

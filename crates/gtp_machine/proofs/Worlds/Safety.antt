@@ -2,13 +2,16 @@
 use Rattle.std.proofs.Common.{◌≡◌, ⊎_elim, ℕ, ◌≤◌, List, Option, Some, sym, ◌∙◌, ap, arith}
 use Rattle.std.specs.FinMap.{get}
 use Rattle.gtp_machine.specs.Element.{Subscriber, address_of, teid_in}
-use Rattle.gtp_machine.specs.Message.{Control, User, CreateSessionRequest, CreateSessionResponse, CreateBearerResponse, Message, Create_session_request, Create_session_response, Create_bearer_response, Owns, subscriber_of, first_identity}
+use Rattle.gtp_machine.specs.Message.{Control, User, CreateSessionRequest, CreateSessionResponse, CreateBearerResponse, Message}
+use Rattle.gtp_machine.specs.Message.{Create_session_request, Create_session_response, Create_bearer_response, Owns, subscriber_of, first_identity}
 use Rattle.gtp_machine.specs.Node.{Role, Serving, Packet, Session, Bearer}
 use Rattle.gtp_machine.specs.Config.{Addresses}
 use Rattle.gtp_machine.specs.Choice.{counter_of}
 use Rattle.gtp_machine.specs.World.{World, Side, Sent, HasSent, side_of, other}
 use Rattle.gtp_machine.specs.Safety.{Agree, SessionsAgree, MutualBearers, AgreeBearers, BearersAgree, OutlivesRestart, NoneOutlivesRestart, EachOwed}
-use Rattle.gtp_machine.specs.Laws.{Always, MessagesOfDatagrams, OneMessage, OwnsOn, PlanesApart, ContextTeidsWereDrawn, NamedTeidsWereDrawn, IsOfStart, NoneAhead, IsLatestHeard, KnownIsLatest, OneResponsePerBearerRequest, EachOpened, EachClosesWhole, OneContextPerRequest, AnsweredByTaker}
+use Rattle.gtp_machine.specs.Laws.{Always, MessagesOfDatagrams, OneMessage, OwnsOn, PlanesApart, ContextTeidsWereDrawn, NamedTeidsWereDrawn}
+use Rattle.gtp_machine.specs.Laws.{IsOfStart, NoneAhead, IsLatestHeard, KnownIsLatest, OneResponsePerBearerRequest, EachOpened, EachClosesWhole}
+use Rattle.gtp_machine.specs.Laws.{OneContextPerRequest, AnsweredByTaker}
 use Rattle.gtp_machine.proofs.Origins.Drawing.{Drawing}
 use Rattle.gtp_machine.proofs.Origins.Contexts.{IsAskedWith, IsGranted, IsMadeWith, IsWanted}
 use Rattle.gtp_machine.proofs.Origins.Entries.{Once, same_request, same_user_request, same_answer, same_user_answer, same_bearer_answer, answer_not_request}
@@ -36,7 +39,9 @@ module _ (own : Addresses) (w : World) (inv : Invariant own w) where
       let opened = asked.opened d there in
       let made = inv.packet.knows.contexts.sessions_made d n n_stands in
       let answers = same_answer w.history po opened.answer made.answer opened.sent made.answered d (sym opened.remote ∙ there) made.control in
-      let requests = same_request w.history so asked.request made.request asked.sent made.asked (asked.control ∙ sym opened.header ∙ ap (λ (a : CreateSessionResponse). a.header) answers ∙ made.header) in
+      let requests =
+      same_request w.history so asked.request made.request asked.sent made.asked
+      (asked.control ∙ sym opened.header ∙ ap (λ (a : CreateSessionResponse). a.header) answers ∙ made.header) in
       same_subscriber s n asked.request made.request asked.subscriber made.subscriber requests (opened.address ∙ ap (λ (a : CreateSessionResponse). address_of a.address) answers ∙ sym made.address)
 
   sessions_agree : SessionsAgree w.serving.node w.packet.node
@@ -44,7 +49,8 @@ module _ (own : Addresses) (w : World) (inv : Invariant own w) where
 
   -- Bearers that name each other agree, and so do their sessions.
   module _ (c d : ℕ) (b e : Bearer) (m : MutualBearers w.serving.node w.packet.node c d b e) where
-    both_default : (s n : Session) → get w.serving.node.sessions b.session ≡ Some s → get w.packet.node.sessions e.session ≡ Some n → IsAskedWith w.history c b s → IsMadeWith w.history d e → AgreeBearers w.serving.node w.packet.node b e
+    both_default : (s n : Session) → get w.serving.node.sessions b.session ≡ Some s → get w.packet.node.sessions e.session ≡ Some n → IsAskedWith w.history c b s
+        → IsMadeWith w.history d e → AgreeBearers w.serving.node w.packet.node b e
     both_default s n s_stands n_stands o p =
         let opened = o.opened d m.there in
         let answers = same_user_answer w.history po opened.answer p.answer opened.sent p.answered d (sym opened.user ∙ m.there) p.user in
@@ -58,7 +64,8 @@ module _ (own : Addresses) (w : World) (inv : Invariant own w) where
           sessions = linked b.session e.session s n s_stands n_stands (opened.control ∙ ap (λ (a : CreateSessionResponse). teid_in a.control) answers ∙ p.control);
         }
 
-    both_dedicated : (s n : Session) → get w.serving.node.sessions b.session ≡ Some s → get w.packet.node.sessions e.session ≡ Some n → IsGranted w.history c b s → IsWanted w.history d e → AgreeBearers w.serving.node w.packet.node b e
+    both_dedicated : (s n : Session) → get w.serving.node.sessions b.session ≡ Some s → get w.packet.node.sessions e.session ≡ Some n → IsGranted w.history c b s
+        → IsWanted w.history d e → AgreeBearers w.serving.node w.packet.node b e
     both_dedicated s n s_stands n_stands g p =
         let given = p.opened c m.back in
         let answers = same_bearer_answer w.history so g.answer given.answer g.answered given.sent c g.user (sym given.remote ∙ m.back) in
@@ -87,7 +94,8 @@ module _ (own : Addresses) (w : World) (inv : Invariant own w) where
         at.origin
 
 -- no session of a gateway is over
-none_over : (history : List Sent) (role : Role) (side peer : Side) → SideInvariant history role side peer → peer.restarts ≤ 127 → (t : ℕ) (s : Session) → get side.node.sessions t ≡ Some s → OutlivesRestart side.seen s → ⊥
+none_over : (history : List Sent) (role : Role) (side peer : Side) → SideInvariant history role side peer → peer.restarts ≤ 127 → (t : ℕ) (s : Session)
+    → get side.node.sessions t ≡ Some s → OutlivesRestart side.seen s → ⊥
 none_over history role side peer inv few t s stands over =
     let k = counter_of over.remote in
     none_later peer few side.seen k over.counter (inv.hearing.latest k ((inv.knows.standing t s stands).current over.remote over.has)) over.was_heard over.heard_is_later
@@ -112,7 +120,9 @@ pub always_bearers : Always (λ w. BearersAgree w.serving.node w.packet.node)
 always_bearers serving packet sc pc events w r c d b e m = bearers_agree packet.own w (always serving packet sc pc events w r) c d b e m
 
 pub always_none_over : Always (λ w. (role : Role) → NoneOutlivesRestart (side_of w role).node (side_of w role).seen)
-always_none_over serving packet sc pc events w r role t s = let inv = always serving packet sc pc events w r in none_over w.history role (side_of w role) (side_of w (other role)) (side_in w inv role) (side_in w inv (other role)).draws.few t s
+always_none_over serving packet sc pc events w r role t s =
+    let inv = always serving packet sc pc events w r in
+    none_over w.history role (side_of w role) (side_of w (other role)) (side_in w inv role) (side_in w inv (other role)).draws.few t s
 
 pub always_owed : Always (λ w. EachOwed w.late w.handed w.accepted)
 always_owed serving packet sc pc events w r = (always serving packet sc pc events w r).logs.owed
@@ -144,7 +154,12 @@ always_answered_by_taker serving packet sc pc events w r =
     }
 
 pub always_goes_back : Always ContextTeidsWereDrawn
-always_goes_back serving packet sc pc events w r = let inv = always serving packet sc pc events w r in record { sessions = λ role. session_goes_back w.history role (side_of w role).node (side_in w inv role).knows; bearers = λ role. bearer_goes_back w.history role (side_of w role).node (side_in w inv role).knows }
+always_goes_back serving packet sc pc events w r =
+    let inv = always serving packet sc pc events w r in
+    record {
+      sessions = λ role. session_goes_back w.history role (side_of w role).node (side_in w inv role).knows;
+      bearers = λ role. bearer_goes_back w.history role (side_of w role).node (side_in w inv role).knows;
+    }
 
 pub always_none_ahead : Always NoneAhead
 always_none_ahead serving packet sc pc events w r =
@@ -152,7 +167,10 @@ always_none_ahead serving packet sc pc events w r =
     record { told = λ role m c. (draws role).told m c; drawn = λ role. drawn_of_start (side_of w role) role w.history (draws role) }
 
 pub always_known : Always KnownIsLatest
-always_known serving packet sc pc events w r role = let inv = always serving packet sc pc events w r in latest_heard (side_of w (other role)) (side_of w role).node.known (side_of w role).seen (side_in w inv (other role)).draws.few (side_in w inv role).hearing
+always_known serving packet sc pc events w r role =
+    let inv = always serving packet sc pc events w r in
+    latest_heard (side_of w (other role)) (side_of w role).node.known (side_of w role).seen (side_in w inv (other role)).draws.few
+    (side_in w inv role).hearing
 
 pub always_once : Always OneResponsePerBearerRequest
 always_once serving packet sc pc events w r = (always serving packet sc pc events w r).logs.once

@@ -10,7 +10,8 @@ use Rattle.gtp_v2.specs.Text.{value_encoding, groups_encoding, several_encoding}
 use Rattle.gtp_v2.specs.DeleteBearerResponse.{removal_response_context_rows}
 use Rattle.gtp_user.specs.Encoding.{content_encoding, options_encoding}
 use Rattle.gtp_machine.specs.Element.{PdnAddress, cause_of}
-use Rattle.gtp_machine.specs.Message.{Message, Echo_request, Echo_response, Create_session_request, Create_session_response, Create_bearer_request, Create_bearer_response, Delete_bearer_request, Delete_bearer_response, Packet_data}
+use Rattle.gtp_machine.specs.Message.{Message, Echo_request, Echo_response, Create_session_request, Create_session_response, Create_bearer_request}
+use Rattle.gtp_machine.specs.Message.{Create_bearer_response, Delete_bearer_request, Delete_bearer_response, Packet_data}
 use Rattle.gtp_machine.specs.Node.{Role}
 use Rattle.gtp_machine.specs.Spelling.{AreOctets, IsSendable}
 use Rattle.gtp_machine.specs.World.{Sent, HasSent}
@@ -35,10 +36,26 @@ ip : (last : ℕ) → last < 256 → IsIp (V4 (10 ∷ 0 ∷ 0 ∷ last ∷ []))
 ip last small = (refl, All-from_recursion (λ octet. octet < 256) (10 ∷ 0 ∷ 0 ∷ last ∷ []) (omega arith, (omega arith, (omega arith, (small, tt)))))
 
 pub serving_is : IsConfigured serving_config
-serving_is = record { control = ip 1 (omega arith); user = ip 1 (omega arith); v4 = record { few = omega arith; within = omega arith }; v6 = record { long = refl; few = omega arith; within = omega arith }; octets = (zeros 16).each; templates = All-from_recursion IsTemplate [] tt }
+serving_is =
+    record {
+      control = ip 1 (omega arith);
+      user = ip 1 (omega arith);
+      v4 = record { few = omega arith; within = omega arith };
+      v6 = record { long = refl; few = omega arith; within = omega arith };
+      octets = (zeros 16).each;
+      templates = All-from_recursion IsTemplate [] tt;
+    }
 
 pub packet_is : (count : ℕ) → count ≤ 65536 → IsConfigured (packet_config count)
-packet_is count few = record { control = ip 2 (omega arith); user = ip 2 (omega arith); v4 = record { few = omega arith; within = omega arith }; v6 = record { long = refl; few = few; within = omega (arith, few) }; octets = (zeros 16).each; templates = All-from_recursion IsTemplate [] tt }
+packet_is count few =
+    record {
+      control = ip 2 (omega arith);
+      user = ip 2 (omega arith);
+      v4 = record { few = omega arith; within = omega arith };
+      v6 = record { long = refl; few = few; within = omega (arith, few) };
+      octets = (zeros 16).each;
+      templates = All-from_recursion IsTemplate [] tt;
+    }
 
 quality : IsQos plain_qos
 quality = record { class = omega arith; level = omega arith; most = record { up = omega arith; down = omega arith }; guaranteed = record { up = omega arith; down = omega arith } }
@@ -71,13 +88,20 @@ module _ (pdn count : ℕ) (address : PdnAddress) (few : count ≤ 65536) (given
   session_request = request_sendable (w0 count).serving.node (first.spec pdn) control user 0 serving_is (specified pdn) identity known (omega arith) (omega arith) (omega arith) (omega arith)
 
   pub session_response : IsSendable (Create_session_response (first.a pdn count address))
-  session_response = response_sendable (w0 count).serving.node (first.spec pdn) control user 0 serving_is (specified pdn) identity known (omega arith) (omega arith) (omega arith) (omega arith) (packet_heard pdn count address) control user address (packet_is count few) (omega arith) (omega arith) (omega arith) (given_written (packet_heard pdn count address) (packet_is count few) pdn address given)
+  session_response =
+      response_sendable (w0 count).serving.node (first.spec pdn) control user 0 serving_is (specified pdn) identity known (omega arith) (omega arith)
+      (omega arith) (omega arith) (packet_heard pdn count address) control user address (packet_is count few) (omega arith) (omega arith)
+      (omega arith) (given_written (packet_heard pdn count address) (packet_is count few) pdn address given)
 
 pub bearer_request : IsSendable (Create_bearer_request r)
-bearer_request = wanted_sendable control 0 5 (33 ∷ []) plain_qos dedicated packet_ip (omega arith) (omega arith) (record { low = omega arith; high = omega arith }) (omega arith) (All-from_recursion (λ octet. octet < 256) (33 ∷ []) (omega arith, tt)) quality (omega arith) (ip 2 (omega arith))
+bearer_request =
+    wanted_sendable control 0 5 (33 ∷ []) plain_qos dedicated packet_ip (omega arith) (omega arith) (record { low = omega arith; high = omega arith })
+    (omega arith) (All-from_recursion (λ octet. octet < 256) (33 ∷ []) (omega arith, tt)) quality (omega arith) (ip 2 (omega arith))
 
 pub bearer_response : IsSendable (Create_bearer_response x)
-bearer_response = grant_sendable control 0 1 dedicated packet_ip (omega arith) (omega arith) (omega arith) (omega arith) (ip 2 (omega arith)) 6 dedicated serving_ip (record { low = omega arith; high = omega arith }) (omega arith) (ip 1 (omega arith))
+bearer_response =
+    grant_sendable control 0 1 dedicated packet_ip (omega arith) (omega arith) (omega arith) (omega arith) (ip 2 (omega arith)) 6 dedicated serving_ip
+    (record { low = omega arith; high = omega arith }) (omega arith) (ip 1 (omega arith))
 
 pub delete_bearer_request : IsSendable (Delete_bearer_request (record { header = control; number = 0; linked = None; identities = 6 ∷ [] }))
 unfolding encoding_of value_encoding groups_encoding several_encoding
@@ -92,7 +116,15 @@ delete_bearer_request = record {
   octets = closed _ refl;
 }
 
-pub delete_bearer_response : IsSendable (Delete_bearer_response (record { header = control; number = 0; cause = cause_of 16; linked = None; contexts = record { identity = 6; cause = cause_of 16 } ∷ []; recovery = Some 1 }))
+pub delete_bearer_response : IsSendable (Delete_bearer_response
+    (record {
+      header = control;
+      number = 0;
+      cause = cause_of 16;
+      linked = None;
+      contexts = record { identity = 6; cause = cause_of 16 } ∷ [];
+      recovery = Some 1;
+    }))
 unfolding encoding_of value_encoding groups_encoding several_encoding
 delete_bearer_response = record {
   own = tt;
@@ -107,15 +139,30 @@ delete_bearer_response = record {
 
 pub echo_request : (counter : ℕ) → counter < 256 → IsSendable (Echo_request (record { number = 0; recovery = counter }))
 unfolding encoding_of value_encoding groups_encoding several_encoding
-echo_request counter small = record { own = tt; meets = record { header = omega arith; kinds = (recovery_again counter, tt); marks = search rules; short = omega arith }; octets = ended (64 ∷ 1 ∷ 0 ∷ 9 ∷ 0 ∷ 0 ∷ 0 ∷ 0 ∷ 3 ∷ 0 ∷ 1 ∷ 0 ∷ []) refl counter small }
+echo_request counter small =
+    record {
+      own = tt;
+      meets = record { header = omega arith; kinds = (recovery_again counter, tt); marks = search rules; short = omega arith };
+      octets = ended (64 ∷ 1 ∷ 0 ∷ 9 ∷ 0 ∷ 0 ∷ 0 ∷ 0 ∷ 3 ∷ 0 ∷ 1 ∷ 0 ∷ []) refl counter small;
+    }
 
 pub echo_response : (counter : ℕ) → counter < 256 → IsSendable (Echo_response (record { number = 0; recovery = counter }))
 unfolding encoding_of value_encoding groups_encoding several_encoding
-echo_response counter small = record { own = tt; meets = record { header = omega arith; kinds = (recovery_again counter, tt); marks = search rules; short = omega arith }; octets = ended (64 ∷ 2 ∷ 0 ∷ 9 ∷ 0 ∷ 0 ∷ 0 ∷ 0 ∷ 3 ∷ 0 ∷ 1 ∷ 0 ∷ []) refl counter small }
+echo_response counter small =
+    record {
+      own = tt;
+      meets = record { header = omega arith; kinds = (recovery_again counter, tt); marks = search rules; short = omega arith };
+      octets = ended (64 ∷ 2 ∷ 0 ∷ 9 ∷ 0 ∷ 0 ∷ 0 ∷ 0 ∷ 3 ∷ 0 ∷ 1 ∷ 0 ∷ []) refl counter small;
+    }
 
 pub packet : (octet : ℕ) → octet < 256 → IsSendable (Packet_data dedicated (octet ∷ []))
 unfolding content_encoding options_encoding
-packet octet small = record { own = tt; meets = record { encodable = tt; seq = tt; ext = tt; teid = omega arith; range = tt; short = omega arith }; octets = ended (48 ∷ 255 ∷ 0 ∷ 1 ∷ 1 ∷ 0 ∷ 0 ∷ 3 ∷ []) refl octet small }
+packet octet small =
+    record {
+      own = tt;
+      meets = record { encodable = tt; seq = tt; ext = tt; teid = omega arith; range = tt; short = omega arith };
+      octets = ended (48 ∷ 255 ∷ 0 ∷ 1 ∷ 1 ∷ 0 ∷ 0 ∷ 3 ∷ []) refl octet small;
+    }
 
 -- each message of the list can be sent
 abbrev pub AllSendable : List Sent → Type 0

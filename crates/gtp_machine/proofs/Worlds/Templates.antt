@@ -19,7 +19,8 @@ use Rattle.gtp_machine.proofs.Worlds.Beginning as first
 use Rattle.gtp_machine.proofs.Worlds.Beginning.{serving_config, packet_config, plain_qos, control, user, none_pending, from_serving, heard, only_v4}
 use Rattle.gtp_machine.proofs.Worlds.Possible as exchange
 use Rattle.gtp_machine.proofs.Worlds.Possible.{spec, q, a, asked, at_packet, at_serving, r, x, e5 as grants, dedicated, dedicated_undrawn}
-use Rattle.gtp_machine.proofs.Worlds.Sendable.{session_request as request_sendable, session_response as response_sendable, bearer_request as wanted_sendable, bearer_response as granted_sendable, AllSendable, among_sendable}
+use Rattle.gtp_machine.proofs.Worlds.Sendable.{session_request as request_sendable, session_response as response_sendable}
+use Rattle.gtp_machine.proofs.Worlds.Sendable.{bearer_request as wanted_sendable, bearer_response as granted_sendable, AllSendable, among_sendable}
 
 -- the packet gateway has a template for its access point
 abbrev template : Template
@@ -56,7 +57,10 @@ abbrev opens : Effect
 opens = first.opened 1 0 only_v4
 
 abbrev w3 : World
-w3 = logged (noted (moved (moved w2 Serving (heard opens)) Serving grants) (note_of_both (heard opens) grants)) Serving (record { before = w2.serving.node; input = first_came there.own (Create_session_response a); effect = heard opens } ∷ record { before = opens.node; input = second_came there.own (Create_bearer_request r); effect = grants } ∷ [])
+w3 =
+    logged (noted (moved (moved w2 Serving (heard opens)) Serving grants) (note_of_both (heard opens) grants)) Serving
+    (record { before = w2.serving.node; input = first_came there.own (Create_session_response a); effect = heard opens } ∷ record
+    { before = opens.node; input = second_came there.own (Create_bearer_request r); effect = grants } ∷ [])
 
 -- the Create Bearer Response comes
 abbrev given : Effect
@@ -153,7 +157,15 @@ a_template_is_possible = record {
   bearer_there = dedicated;
   bearer_at_serving = granted_bearer r 6;
   bearer_at_packet = exchange.at_packet_bearer;
-  bearers = record { serving = get-insert_same opens.node.bearers dedicated (granted_bearer r 6); packet = get-insert_same w3.packet.node.bearers dedicated exchange.at_packet_bearer; serving_active = refl; packet_active = refl; there = refl; back = refl };
+  bearers =
+      record {
+        serving = get-insert_same opens.node.bearers dedicated (granted_bearer r 6);
+        packet = get-insert_same w3.packet.node.bearers dedicated exchange.at_packet_bearer;
+        serving_active = refl;
+        packet_active = refl;
+        there = refl;
+        back = refl;
+      };
   dedicated = refl;
   of_session = refl;
   of_session_there = refl;

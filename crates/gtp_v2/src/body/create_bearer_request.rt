@@ -6,16 +6,16 @@ ghost use Rattle.std.specs.Prelude.{true};
 ghost use Rattle.gtp_v2.specs.CreateBearerRequest.{create_bearer_request, create_bearer_request_fields, bearer_request_context_rows, bearer_request_context_values};
 
 use crate::body::Body;
+use crate::encoded_length::{after_contexts, after_option, after_row};
 use crate::fault::{Need, V2Fault};
-use crate::groups::{Context, contexts, contexts_pass, read_contexts};
+use crate::grouped_rows::{Context, contexts, contexts_pass, read_contexts};
 use crate::header::Header;
 use crate::kinds::CREATE_BEARER_REQUEST;
-use crate::listed::Listed;
-use crate::marks::contexts_meet;
+use crate::list::Listed;
 use crate::message::Datagram;
-use crate::room::{after_contexts, after_option, after_row};
-use crate::rows::{conditional, mandatory, optional, read, read_conditional};
-use crate::typed::Typed;
+use crate::message_table::HasTable;
+use crate::presence::contexts_meet;
+use crate::single_rows::{conditional, mandatory, optional, read, read_conditional};
 use crate::writing::{put_contexts, put_option, put_row};
 use gtp_ie::{ChargingId, EbiValue, Indexed, Pti};
 use gtp_values::{FTeid, Qos, Tft};
@@ -32,7 +32,7 @@ pub struct CreateBearerRequest {
     pub contexts: Listed<BearerRequestContext>,
 }
 
-impl Typed for CreateBearerRequest {
+impl HasTable for CreateBearerRequest {
     const KIND: u8 = CREATE_BEARER_REQUEST;
 
     ghost KIND = { create_bearer_request.kind };

@@ -6,16 +6,16 @@ ghost use Rattle.std.specs.Prelude.{true};
 ghost use Rattle.gtp_v2.specs.CreateBearerResponse.{create_bearer_response, create_bearer_response_fields, bearer_response_context_rows, bearer_response_context_values};
 
 use crate::body::Body;
+use crate::encoded_length::{after_contexts, after_option, after_row};
 use crate::fault::{Need, V2Fault};
-use crate::groups::{Context, contexts, contexts_pass, read_contexts};
+use crate::grouped_rows::{Context, contexts, contexts_pass, read_contexts};
 use crate::header::Header;
 use crate::kinds::CREATE_BEARER_RESPONSE;
-use crate::listed::Listed;
-use crate::marks::contexts_meet;
+use crate::list::Listed;
 use crate::message::Datagram;
-use crate::room::{after_contexts, after_option, after_row};
-use crate::rows::{mandatory, needed_if, optional, read, read_if};
-use crate::typed::Typed;
+use crate::message_table::HasTable;
+use crate::presence::contexts_meet;
+use crate::single_rows::{mandatory, needed_if, optional, read, read_if};
 use crate::writing::{put_contexts, put_option, put_row};
 use gtp_ie::{EbiValue, Indexed, Recovery};
 use gtp_values::{Cause, FTeid};
@@ -32,7 +32,7 @@ pub struct CreateBearerResponse {
     pub recovery: Option<Recovery>,
 }
 
-impl Typed for CreateBearerResponse {
+impl HasTable for CreateBearerResponse {
     const KIND: u8 = CREATE_BEARER_RESPONSE;
 
     ghost KIND = { create_bearer_response.kind };

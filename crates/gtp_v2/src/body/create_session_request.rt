@@ -7,16 +7,16 @@ ghost use Rattle.gtp_v2.specs.CreateSessionRequest.{create_session_request, crea
 
 use crate::body::Body;
 use crate::boxed::Boxed;
+use crate::encoded_length::{after_contexts, after_option, after_row};
 use crate::fault::{Need, V2Fault};
-use crate::groups::{Context, contexts, contexts_pass, read_contexts};
+use crate::grouped_rows::{Context, contexts, contexts_pass, read_contexts};
 use crate::header::Header;
 use crate::kinds::CREATE_SESSION_REQUEST;
-use crate::listed::Listed;
-use crate::marks::contexts_meet;
+use crate::list::Listed;
 use crate::message::Datagram;
-use crate::room::{after_contexts, after_option, after_row};
-use crate::rows::{conditional, mandatory, optional, read, read_conditional};
-use crate::typed::Typed;
+use crate::message_table::HasTable;
+use crate::presence::contexts_meet;
+use crate::single_rows::{conditional, mandatory, optional, read, read_conditional};
 use crate::writing::{put_contexts, put_option, put_row};
 use gtp_ie::{EbiValue, Indexed, PdnType, Rat, Recovery, Selection};
 use gtp_values::{Ambr, Apn, FTeid, Imsi, Paa, Plmn, Qos};
@@ -50,7 +50,7 @@ pub struct CreateSessionRequest {
     pub recovery: Option<Recovery>,
 }
 
-impl Typed for CreateSessionRequest {
+impl HasTable for CreateSessionRequest {
     const KIND: u8 = CREATE_SESSION_REQUEST;
 
     ghost KIND = { create_session_request.kind };

@@ -7,16 +7,16 @@ ghost use Rattle.gtp_v2.specs.CreateSessionResponse.{create_session_response, cr
 
 use crate::body::Body;
 use crate::boxed::Boxed;
+use crate::encoded_length::{after_contexts, after_option, after_row};
 use crate::fault::{Need, V2Fault};
-use crate::groups::{Context, contexts, contexts_pass, read_contexts};
+use crate::grouped_rows::{Context, contexts, contexts_pass, read_contexts};
 use crate::header::Header;
 use crate::kinds::CREATE_SESSION_RESPONSE;
-use crate::listed::Listed;
-use crate::marks::contexts_meet;
+use crate::list::Listed;
 use crate::message::Datagram;
-use crate::room::{after_contexts, after_option, after_row};
-use crate::rows::{mandatory, needed_if, optional, read, read_if};
-use crate::typed::Typed;
+use crate::message_table::HasTable;
+use crate::presence::contexts_meet;
+use crate::single_rows::{mandatory, needed_if, optional, read, read_if};
 use crate::writing::{put_contexts, put_option, put_row};
 use gtp_ie::{ChargingId, EbiValue, Indexed, Recovery};
 use gtp_values::{Ambr, Cause, FTeid, Paa, Qos};
@@ -40,7 +40,7 @@ pub struct CreateSessionResponse {
     pub recovery: Option<Recovery>,
 }
 
-impl Typed for CreateSessionResponse {
+impl HasTable for CreateSessionResponse {
     const KIND: u8 = CREATE_SESSION_RESPONSE;
 
     ghost KIND = { create_session_response.kind };

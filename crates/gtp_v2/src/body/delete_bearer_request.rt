@@ -6,15 +6,15 @@ ghost use Rattle.std.specs.Prelude.{true};
 ghost use Rattle.gtp_v2.specs.DeleteBearerRequest.{delete_bearer_request, delete_bearer_request_fields};
 
 use crate::body::Body;
+use crate::encoded_length::{after_option, after_several};
 use crate::fault::V2Fault;
 use crate::header::Header;
 use crate::kinds::DELETE_BEARER_REQUEST;
-use crate::listed::Listed;
+use crate::list::Listed;
+use crate::list_rows::{read_several, several, several_pass};
 use crate::message::Datagram;
-use crate::repeated::{read_several, several, several_pass};
-use crate::room::{after_option, after_several};
-use crate::rows::optional;
-use crate::typed::Typed;
+use crate::message_table::HasTable;
+use crate::single_rows::optional;
 use crate::writing::{put_option, put_several};
 use gtp_ie::{EbiValue, Indexed};
 use std::alloc::{AllocError, Global};
@@ -28,7 +28,7 @@ pub struct DeleteBearerRequest {
     pub ebis: Listed<EbiValue>,
 }
 
-impl Typed for DeleteBearerRequest {
+impl HasTable for DeleteBearerRequest {
     const KIND: u8 = DELETE_BEARER_REQUEST;
 
     ghost KIND = { delete_bearer_request.kind };

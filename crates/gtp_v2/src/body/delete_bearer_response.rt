@@ -6,16 +6,16 @@ ghost use Rattle.std.specs.Prelude.{true};
 ghost use Rattle.gtp_v2.specs.DeleteBearerResponse.{delete_bearer_response, delete_bearer_response_fields, removal_response_context_rows, removal_response_context_values};
 
 use crate::body::Body;
+use crate::encoded_length::{after_contexts, after_option, after_row};
 use crate::fault::{Need, V2Fault};
-use crate::groups::{Context, contexts, contexts_pass, read_contexts};
+use crate::grouped_rows::{Context, contexts, contexts_pass, read_contexts};
 use crate::header::Header;
 use crate::kinds::DELETE_BEARER_RESPONSE;
-use crate::listed::Listed;
-use crate::marks::contexts_meet;
+use crate::list::Listed;
 use crate::message::Datagram;
-use crate::room::{after_contexts, after_option, after_row};
-use crate::rows::{mandatory, optional, read};
-use crate::typed::Typed;
+use crate::message_table::HasTable;
+use crate::presence::contexts_meet;
+use crate::single_rows::{mandatory, optional, read};
 use crate::writing::{put_contexts, put_option, put_row};
 use gtp_ie::{EbiValue, Indexed, Recovery};
 use gtp_values::Cause;
@@ -34,7 +34,7 @@ pub struct DeleteBearerResponse {
     pub recovery: Option<Recovery>,
 }
 
-impl Typed for DeleteBearerResponse {
+impl HasTable for DeleteBearerResponse {
     const KIND: u8 = DELETE_BEARER_RESPONSE;
 
     ghost KIND = { delete_bearer_response.kind };

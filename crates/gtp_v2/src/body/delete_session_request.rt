@@ -6,13 +6,13 @@ ghost use Rattle.std.specs.Prelude.{true};
 ghost use Rattle.gtp_v2.specs.DeleteSessionRequest.{delete_session_request, delete_session_request_fields};
 
 use crate::body::Body;
+use crate::encoded_length::after_option;
 use crate::fault::V2Fault;
 use crate::header::Header;
 use crate::kinds::DELETE_SESSION_REQUEST;
 use crate::message::Datagram;
-use crate::room::after_option;
-use crate::rows::optional;
-use crate::typed::Typed;
+use crate::message_table::HasTable;
+use crate::single_rows::optional;
 use crate::writing::put_option;
 use gtp_ie::{EbiValue, Indexed};
 use std::alloc::{AllocError, Global};
@@ -24,7 +24,7 @@ pub struct DeleteSessionRequest {
     pub linked_ebi: Option<EbiValue>,
 }
 
-impl Typed for DeleteSessionRequest {
+impl HasTable for DeleteSessionRequest {
     const KIND: u8 = DELETE_SESSION_REQUEST;
 
     ghost KIND = { delete_session_request.kind };

@@ -6,13 +6,13 @@ ghost use Rattle.std.specs.Prelude.{true};
 ghost use Rattle.gtp_v2.specs.DeleteSessionResponse.{delete_session_response, delete_session_response_fields};
 
 use crate::body::Body;
+use crate::encoded_length::{after_option, after_row};
 use crate::fault::V2Fault;
 use crate::header::Header;
 use crate::kinds::DELETE_SESSION_RESPONSE;
 use crate::message::Datagram;
-use crate::room::{after_option, after_row};
-use crate::rows::{mandatory, optional, read};
-use crate::typed::Typed;
+use crate::message_table::HasTable;
+use crate::single_rows::{mandatory, optional, read};
 use crate::writing::{put_option, put_row};
 use gtp_ie::{Indexed, Recovery};
 use gtp_values::Cause;
@@ -27,7 +27,7 @@ pub struct DeleteSessionResponse {
     pub recovery: Option<Recovery>,
 }
 
-impl Typed for DeleteSessionResponse {
+impl HasTable for DeleteSessionResponse {
     const KIND: u8 = DELETE_SESSION_RESPONSE;
 
     ghost KIND = { delete_session_response.kind };

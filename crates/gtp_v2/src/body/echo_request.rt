@@ -6,13 +6,13 @@ ghost use Rattle.std.specs.Prelude.{false};
 ghost use Rattle.gtp_v2.specs.EchoRequest.{echo_request, echo_request_fields};
 
 use crate::body::Body;
+use crate::encoded_length::after_row;
 use crate::fault::V2Fault;
 use crate::header::Header;
 use crate::kinds::ECHO_REQUEST;
 use crate::message::Datagram;
-use crate::room::after_row;
-use crate::rows::{mandatory, read};
-use crate::typed::Typed;
+use crate::message_table::HasTable;
+use crate::single_rows::{mandatory, read};
 use crate::writing::put_row;
 use gtp_ie::{Indexed, Recovery};
 use std::alloc::{AllocError, Global};
@@ -24,7 +24,7 @@ pub struct EchoRequest {
     pub recovery: Recovery,
 }
 
-impl Typed for EchoRequest {
+impl HasTable for EchoRequest {
     const KIND: u8 = ECHO_REQUEST;
 
     ghost KIND = { echo_request.kind };

@@ -6,13 +6,13 @@ ghost use Rattle.std.specs.Prelude.{false};
 ghost use Rattle.gtp_v2.specs.EchoResponse.{echo_response, echo_response_fields};
 
 use crate::body::Body;
+use crate::encoded_length::after_row;
 use crate::fault::V2Fault;
 use crate::header::Header;
 use crate::kinds::ECHO_RESPONSE;
 use crate::message::Datagram;
-use crate::room::after_row;
-use crate::rows::{mandatory, read};
-use crate::typed::Typed;
+use crate::message_table::HasTable;
+use crate::single_rows::{mandatory, read};
 use crate::writing::put_row;
 use gtp_ie::{Indexed, Recovery};
 use std::alloc::{AllocError, Global};
@@ -24,7 +24,7 @@ pub struct EchoResponse {
     pub recovery: Recovery,
 }
 
-impl Typed for EchoResponse {
+impl HasTable for EchoResponse {
     const KIND: u8 = ECHO_RESPONSE;
 
     ghost KIND = { echo_response.kind };

@@ -10,7 +10,7 @@ use crate::fault::V2Fault;
 use crate::header::Header;
 use crate::kinds::VERSION_NOT_SUPPORTED;
 use crate::message::Datagram;
-use crate::typed::Typed;
+use crate::message_table::HasTable;
 use gtp_ie::Indexed;
 use std::alloc::{AllocError, Global};
 
@@ -18,7 +18,7 @@ use std::alloc::{AllocError, Global};
 #[derive(Clone, Copy, Debug, PartialEq, Eq)]
 pub struct VersionNotSupported {}
 
-impl Typed for VersionNotSupported {
+impl HasTable for VersionNotSupported {
     const KIND: u8 = VERSION_NOT_SUPPORTED;
 
     ghost KIND = { version_not_supported.kind };

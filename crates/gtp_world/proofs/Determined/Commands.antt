@@ -5,7 +5,8 @@ use Rattle.gtp_machine.specs.declared.outcome.Refusal.{Refusal}
 use Rattle.gtp_machine.specs.declared.role.Role.{Role}
 use Rattle.gtp_machine.specs.declared.role.Role.TheVariants.{Serving, Packet}
 use Rattle.gtp_machine.specs.Node.{Node}
-use Rattle.gtp_machine.specs.Input.{Command, Create_session, Delete_session, Create_bearer, Delete_bearer, Release_session, Mark_end, Send_echo, Send_user, Commanded, EventOutcome, Came_to, Effect, refused}
+use Rattle.gtp_machine.specs.Input.{Command, Create_session, Delete_session, Create_bearer, Delete_bearer, Release_session, Mark_end, Send_echo}
+use Rattle.gtp_machine.specs.Input.{Send_user, Commanded, EventOutcome, Came_to, Effect, refused}
 use Rattle.gtp_machine.specs.Ordered.{Unless}
 use Rattle.gtp_machine.specs.Command.{CommandStep}
 use Rattle.gtp_machine.specs.Determined.{unchosen}
@@ -60,9 +61,13 @@ module _ (old : Node) where
   commanded Serving (Release_session session) = refuses
   commanded Packet (Release_session session) = unless refuses (λ at. unless refuses (λ active. unless refuses (λ few e r. begins _ refl e r.gives)))
   commanded Serving (Mark_end bearer) = refuses
-  commanded Packet (Mark_end bearer) = unless refuses (λ at. unless refuses (λ active. unless refuses (λ before. says (record { begins_none = λ teid e. cc e; pending = refl; held = refl; counter = refl; drawn = refl }))))
+  commanded Packet (Mark_end bearer) =
+      unless refuses (λ at. unless refuses
+      (λ active. unless refuses (λ before. says (record { begins_none = λ teid e. cc e; pending = refl; held = refl; counter = refl; drawn = refl }))))
   commanded role Send_echo = unless refuses (λ few e r. begins _ refl e r.gives)
-  commanded role (Send_user bearer payload) = unless refuses (λ at. unless refuses (λ active. unless refuses (λ goes. unless refuses (λ short e r. says (record { begins_none = λ teid e. cc e; pending = refl; held = refl; counter = refl; drawn = refl }) e r.gives))))
+  commanded role (Send_user bearer payload) =
+      unless refuses (λ at. unless refuses (λ active. unless refuses (λ goes. unless refuses
+      (λ short e r. says (record { begins_none = λ teid e. cc e; pending = refl; held = refl; counter = refl; drawn = refl }) e r.gives))))
 
 -- an outcome that is that of a request, but for its TEID, is one
 pub unchosen_begun : (c : Command) (o : EventOutcome) → unchosen (Commanded c) o ≡ Came_to (Begun None) → ((teid : Option ℕ) → o ≢ Came_to (Begun teid)) → ⊥

@@ -31,7 +31,8 @@ use Rattle.gtp_world.specs.Record.{Log, WorldRecord, gateway_in, with_gateway}
 use Rattle.gtp_world.specs.Runs.{Setup, begun}
 use Rattle.gtp_world.specs.Stepped.{WaitsFor, AsksFor, KeepsOn, StepsOn, TakesBoth, TakesOn, Brings, kept_after, kept_after_both, passed_over, counter_after, gateway_restarted, EventLeaves}
 use Rattle.gtp_world.proofs.Determined.Commands.{IsQuiet, IsBegun, commanded}
-use Rattle.gtp_world.proofs.Determined.Placed.{placed_fits, BringDrawn, placed_brings, reached_placed}
+use Rattle.gtp_gateway.proofs.Left.{BringDrawn}
+use Rattle.gtp_world.proofs.Determined.Placed.{placed_fits, placed_brings, reached_placed}
 
 -- steps of the machine lead to the gateway from a start, no two of its requests have one number, and what its node keeps is what ticks and draws go by
 pub record Lasts (s : GatewayState) : Type 0 where
@@ -57,7 +58,8 @@ lasts_starting role settings counter = record { config = settings.config; counte
 
 -- ---- one step more
 
-steps_push : (role : Role) (start : Node) (log : List Done) (old : Node) (input : Input) (e : Effect) → Steps role start log old → Step role old input e → Steps role start (log ++ (record { before = old; input = input; effect = e } ∷ [])) e.node
+steps_push : (role : Role) (start : Node) (log : List Done) (old : Node) (input : Input) (e : Effect) → Steps role start log old → Step role old input e
+    → Steps role start (log ++ (record { before = old; input = input; effect = e } ∷ [])) e.node
 steps_push role start [] old input e is step = (is, subst (λ n. Step role n input e) is step, refl)
 steps_push role start (done ∷ log) old input e steps step = (steps.0, steps.1, steps_push role done.effect.node log old input e steps.2 step)
 
@@ -72,10 +74,12 @@ move_is Serving old move e step = step
 move_is Packet old move e step = step
 
 -- a tick, move by move
-steps_ticked : (role : Role) (start : Node) (log : List Done) (old : Node) (moves : List Move) (out : Out) (new : Node) → Steps role start log old → TickStep old moves out new → (longer : List Done) × Steps role start longer new
+steps_ticked : (role : Role) (start : Node) (log : List Done) (old : Node) (moves : List Move) (out : Out) (new : Node) → Steps role start log old
+    → TickStep old moves out new → (longer : List Done) × Steps role start longer new
 steps_ticked role start log old [] out new steps tick = (log, subst (λ n. Steps role start log n) (sym tick.1) steps)
 steps_ticked role start log old (move ∷ moves) out new steps (e, rest, step, others, is) =
-    steps_ticked role start (log ++ (record { before = old; input = Moves_on move; effect = e } ∷ [])) e.node moves rest new (steps_push role start log old (Moves_on move) e steps (move_is role old move e step)) others
+    steps_ticked role start (log ++ (record { before = old; input = Moves_on move; effect = e } ∷ [])) e.node moves rest new
+    (steps_push role start log old (Moves_on move) e steps (move_is role old move e step)) others
 
 module _ (old new : GatewayState) (l : Lasts old) (stays : new.role ≡ old.role) (tied : NodeMatchesQueues new) (apart : AreDistinct new.queues.waiting) where
   lasts_with : (log : List Done) (node : Node) → new.node ≡ node → Steps old.role (fresh_node l.config l.counter) log node → Lasts new
@@ -104,7 +108,8 @@ module _ (old new : GatewayState) (l : Lasts old) (stays : new.role ≡ old.role
 
 -- ---- what ticks go by
 
-pub keeps_goes : (plane : Plane) (source : Endpoint) (octets : List ℕ) (sent : List Datagram) (outcome : EventOutcome) (old new : GatewayState) → KeepsOn plane source octets sent outcome old new → QueuesAfterMessage (arrival_of source octets) old new
+pub keeps_goes : (plane : Plane) (source : Endpoint) (octets : List ℕ) (sent : List Datagram) (outcome : EventOutcome) (old new : GatewayState)
+    → KeepsOn plane source octets sent outcome old new → QueuesAfterMessage (arrival_of source octets) old new
 keeps_goes Control source octets sent outcome old new keeps = keeps
 keeps_goes User source octets sent outcome old new keeps = on_goes (arrival_of source octets) old new keeps.1 keeps.2
 
@@ -116,10 +121,15 @@ goes_apart arrival old new goes apart = subst (λ (t : Queues). AreDistinct t.wa
     by (Some b) next = distinct_push (filter goes.stays old.queues.waiting) (just_sent b.number b.to b.octets b.purpose) (distinct_filter goes.stays old.queues.waiting apart) next.free
 
 waits_apart : (old : GatewayState) (d : Datagram) (new : GatewayState) → WaitsFor old d new → AreDistinct old.queues.waiting → AreDistinct new.queues.waiting
-waits_apart old d new waits apart = subst (λ (t : Queues). AreDistinct t.waiting) (sym waits.queues) (distinct_push old.queues.waiting (just_sent waits.number d.to d.octets waits.purpose) apart waits.free.free)
+waits_apart old d new waits apart =
+    subst (λ (t : Queues). AreDistinct t.waiting) (sym waits.queues)
+    (distinct_push old.queues.waiting (just_sent waits.number d.to d.octets waits.purpose) apart waits.free.free)
 
 counts_apart : (old new : GatewayState) → QueuesAfterTick old new → AreDistinct old.queues.waiting → AreDistinct new.queues.waiting
-counts_apart old new counts apart = subst (λ (t : Queues). AreDistinct t.waiting) (sym counts.queues) (ticked_distinct old.queues.timers.t3 old.queues.timers.n3 (filter counts.stays old.queues.waiting) (distinct_filter counts.stays old.queues.waiting apart))
+counts_apart old new counts apart =
+    subst (λ (t : Queues). AreDistinct t.waiting) (sym counts.queues)
+    (ticked_distinct old.queues.timers.t3 old.queues.timers.n3 (filter counts.stays old.queues.waiting)
+    (distinct_filter counts.stays old.queues.waiting apart))
 
 -- where a command leaves what ticks and draws go by
 pub quiet_tied : (old new : GatewayState) (e : Effect) → NodeMatchesQueues old → IsQuiet old.node e → new.node ≡ e.node → new.queues ≡ old.queues → NodeMatchesQueues new
@@ -133,7 +143,8 @@ quiet_tied old new e tied quiet is queues =
     }
 
 -- and so it is after each command, and after each datagram
-pub asks_ready : (old new : GatewayState) (sent : List Datagram) (e : Effect) → Lasts old → IsBegun e ⊎ IsQuiet old.node e → new.node ≡ e.node → AsksFor sent e.outcome old new → NodeMatchesQueues new × AreDistinct new.queues.waiting
+pub asks_ready : (old new : GatewayState) (sent : List Datagram) (e : Effect) → Lasts old → IsBegun e ⊎ IsQuiet old.node e → new.node ≡ e.node
+    → AsksFor sent e.outcome old new → NodeMatchesQueues new × AreDistinct new.queues.waiting
 asks_ready old new sent e l (inl begun) is asks = let a = asks.asks begun.0 begun.1 in (a.2.tied, waits_apart old a.0 new a.2 l.apart)
 asks_ready old new sent e l (inr quiet) is asks =
     let same = asks.none quiet.begins_none in
@@ -152,7 +163,8 @@ last_of v both Packet = both.packet
 pub begun_last : (setup : Setup) → BothLast (begun setup)
 begun_last setup = record { serving = lasts_starting Serving setup.serving setup.serving_counter; packet = lasts_starting Packet setup.packet setup.packet_counter }
 
-after_last : (v : WorldRecord) (role : Role) (state : GatewayState) (out : Out) (sent : List Datagram) (outcome : EventOutcome) (late : Bool) → BothLast v → Lasts state → BothLast (kept_after v role state out sent outcome late)
+after_last : (v : WorldRecord) (role : Role) (state : GatewayState) (out : Out) (sent : List Datagram) (outcome : EventOutcome) (late : Bool) → BothLast v
+    → Lasts state → BothLast (kept_after v role state out sent outcome late)
 after_last v Serving state out sent outcome late both l = record { serving = l; packet = both.packet }
 after_last v Packet state out sent outcome late both l = record { serving = both.serving; packet = l }
 
@@ -163,31 +175,38 @@ restarted_last v Packet log both = record { serving = both.serving; packet = las
 passed_last : (v : WorldRecord) (outcome : EventOutcome) (new : WorldRecord) → BothLast v → new ≡ passed_over v outcome → BothLast new
 passed_last v outcome new both is = subst (λ k. BothLast k) (sym is) (record { serving = both.serving; packet = both.packet })
 
-takes_last : (v : WorldRecord) (role : Role) (input : Input) (Timed : List Datagram → EventOutcome → GatewayState → GatewayState → Type 0) (late : Bool) (new : WorldRecord) (t : StepsOn v role input Timed late new) → BothLast v → NodeMatchesQueues t.state × AreDistinct t.state.queues.waiting → BothLast new
+takes_last : (v : WorldRecord) (role : Role) (input : Input) (Timed : List Datagram → EventOutcome → GatewayState → GatewayState → Type 0) (late : Bool)
+    (new : WorldRecord) (t : StepsOn v role input Timed late new) → BothLast v → NodeMatchesQueues t.state × AreDistinct t.state.queues.waiting
+    → BothLast new
 takes_last v role input Timed late new t both ready =
     subst (λ k. BothLast k) (sym t.becomes)
     (after_last v role t.state t.effect.out _ _ late both
     (lasts_took (gateway_in v role).state t.state (last_of v both role) t.role_stays ready.0 ready.1 input t.effect t.node t.step))
 
-both_last : (v : WorldRecord) (role : Role) (state : GatewayState) (first second : Effect) (sent more : List Datagram) (late : Bool) → BothLast v → Lasts state → BothLast (kept_after_both v role state first second sent more late)
+both_last : (v : WorldRecord) (role : Role) (state : GatewayState) (first second : Effect) (sent more : List Datagram) (late : Bool) → BothLast v
+    → Lasts state → BothLast (kept_after_both v role state first second sent more late)
 both_last v Serving state first second sent more late both l = record { serving = l; packet = both.packet }
 both_last v Packet state first second sent more late both l = record { serving = both.serving; packet = l }
 
-pair_last : (v : WorldRecord) (role : Role) (arrival : Arrival) (answer : CreateSessionResponse) (asked : CreateBearerRequest) (late : Bool) (new : WorldRecord) → BothLast v → TakesBoth v role arrival answer asked late new → BothLast new
+pair_last : (v : WorldRecord) (role : Role) (arrival : Arrival) (answer : CreateSessionResponse) (asked : CreateBearerRequest) (late : Bool)
+    (new : WorldRecord) → BothLast v → TakesBoth v role arrival answer asked late new → BothLast new
 pair_last v role arrival answer asked late new both t =
     let old = (gateway_in v role).state in
     let l = last_of v both role in
     subst (λ k. BothLast k) (sym t.becomes)
     (both_last v role t.state t.first t.second _ _ late both
-    (lasts_both old t.state l t.role_stays t.timed.tied (goes_apart (second_arrival arrival) old t.state t.timed l.apart) (first_comes arrival answer) (second_comes arrival asked) t.first t.second t.node t.step t.follows))
+    (lasts_both old t.state l t.role_stays t.timed.tied (goes_apart (second_arrival arrival) old t.state t.timed l.apart)
+    (first_comes arrival answer) (second_comes arrival asked) t.first t.second t.node t.step t.follows))
 
-whole_last : (v : WorldRecord) (role : Role) (plane : Plane) (source : Endpoint) (octets : List ℕ) (late : Bool) (new : WorldRecord) → BothLast v → StepsOn v role (coming plane source octets) (KeepsOn plane source octets) late new → BothLast new
+whole_last : (v : WorldRecord) (role : Role) (plane : Plane) (source : Endpoint) (octets : List ℕ) (late : Bool) (new : WorldRecord) → BothLast v
+    → StepsOn v role (coming plane source octets) (KeepsOn plane source octets) late new → BothLast new
 whole_last v role plane source octets late new both t =
     let old = (gateway_in v role).state in
     let goes = keeps_goes plane source octets _ t.effect.outcome old t.state t.timed in
     takes_last v role _ _ late new t both (goes.tied, goes_apart (arrival_of source octets) old t.state goes (last_of v both role).apart)
 
-taken_last : (v : WorldRecord) (role : Role) (plane : Plane) (source : Endpoint) (octets : List ℕ) (late : Bool) (new : WorldRecord) → BothLast v → TakesOn v role plane source octets late new → BothLast new
+taken_last : (v : WorldRecord) (role : Role) (plane : Plane) (source : Endpoint) (octets : List ℕ) (late : Bool) (new : WorldRecord) → BothLast v
+    → TakesOn v role plane source octets late new → BothLast new
 taken_last v role Control source octets late new both (inl (none, t)) = whole_last v role Control source octets late new both t
 taken_last v role Control source octets late new both (inr (pair, t)) = pair_last v role (arrival_of source octets) pair.answer pair.asked late new both t
 taken_last v role User source octets late new both t = whole_last v role User source octets late new both t

@@ -44,7 +44,9 @@ answered a old e (inr (b, inr (c, inr (d, inr (g, inr (h, r)))))) = to old e _ r
 
 -- hearing the counter first takes bearers away
 restarted_from : (old : Node) (counter : ℕ) → BearersFrom old (peer_restarted old counter)
-restarted_from old counter = shrunk_from (record old { known = Some counter }) (peer_restarted old counter) (Shrunk-without (λ t. is_opened (get old.sessions t)) (λ t. false) (record old { known = Some counter }))
+restarted_from old counter =
+    shrunk_from (record old { known = Some counter }) (peer_restarted old counter)
+    (Shrunk-without (λ t. is_opened (get old.sessions t)) (λ t. false) (record old { known = Some counter }))
 
 after : (old mid new : Node) → BearersFrom old mid → BearersFrom mid new → BearersFrom old new
 after old mid new first second t b stands = let was = second t b stands in first t was.0 was.1

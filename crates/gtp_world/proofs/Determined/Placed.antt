@@ -13,21 +13,32 @@ use Rattle.gtp_tables.specs.Index.{names}
 use Rattle.gtp_machine.specs.MessageType.{answers_type}
 use Rattle.gtp_machine.specs.Config.{Template, Config, template_for}
 use Rattle.gtp_machine.specs.Element.{PdnAddress}
-use Rattle.gtp_machine.specs.Message.{Echo, CreateSessionRequest, CreateSessionResponse, DeleteSessionRequest, DeleteSessionResponse, CreateBearerRequest, CreateBearerResponse, DeleteBearerRequest, DeleteBearerResponse, Message, Echo_request, Echo_response, Create_session_request, Create_session_response, Delete_session_request, Delete_session_response, Create_bearer_request, Create_bearer_response, Delete_bearer_request, Delete_bearer_response, Packet_data, End_marker, Error_indication, User_echo_request, recovery_of, first_identity}
+use Rattle.gtp_machine.specs.Message.{Echo, CreateSessionRequest, CreateSessionResponse, DeleteSessionRequest, DeleteSessionResponse}
+use Rattle.gtp_machine.specs.Message.{CreateBearerRequest, CreateBearerResponse, DeleteBearerRequest, DeleteBearerResponse, Message, Echo_request}
+use Rattle.gtp_machine.specs.Message.{Echo_response, Create_session_request, Create_session_response, Delete_session_request, Delete_session_response}
+use Rattle.gtp_machine.specs.Message.{Create_bearer_request, Create_bearer_response, Delete_bearer_request, Delete_bearer_response, Packet_data}
+use Rattle.gtp_machine.specs.Message.{End_marker, Error_indication, User_echo_request, recovery_of, first_identity}
 use Rattle.gtp_machine.specs.declared.role.Role.{Role}
 use Rattle.gtp_machine.specs.declared.role.Role.TheVariants.{Serving, Packet}
 use Rattle.gtp_machine.specs.Node.{Active, Closing, Session, Bearer, PendingRequest, Arrival, Held, Node, fresh_node}
-use Rattle.gtp_machine.specs.Input.{Specification, Command, Create_session, Delete_session, Create_bearer, Delete_bearer, Release_session, Mark_end, Send_echo, Send_user, Move, Resend, Give_up, Forget, ControlReading, Control_message, Faulty, Control_fault, UserReading, User_message, Extension_needed, User_fault, Input, Commanded, Control_came, User_came, Moves_on, Effect}
+use Rattle.gtp_machine.specs.Input.{Specification, Command, Create_session, Delete_session, Create_bearer, Delete_bearer, Release_session, Mark_end}
+use Rattle.gtp_machine.specs.Input.{Send_echo, Send_user, Move, Resend, Give_up, Forget, ControlReading, Control_message, Faulty, Control_fault}
+use Rattle.gtp_machine.specs.Input.{UserReading, User_message, Extension_needed, User_fault, Input, Commanded, Control_came, User_came, Moves_on}
+use Rattle.gtp_machine.specs.Input.{Effect}
 use Rattle.gtp_machine.specs.Choice.{IsFree, HasSession, HasBearer, HasPending}
 use Rattle.gtp_machine.specs.Ordered.{Unless}
 use Rattle.gtp_machine.specs.Removal.{finished, without_session, session_closing, is_opened}
 use Rattle.gtp_machine.specs.Move.{MoveStep}
 use Rattle.gtp_machine.specs.Response.{EchoAnswered}
 use Rattle.gtp_machine.specs.Recovery.{peer_restarted, Judges, Weighs, Hears}
-use Rattle.gtp_machine.specs.Command.{session_request, pending_session, pending_bearer, pending_dedicated, bearer_request, create_bearer_asked as node_asked, BeginsSession, ClosesSession, ReleasesSession, BeginsBearer, NamesBearer, ClosesBearer, SendsEcho, SendsPacket, CommandStep}
+use Rattle.gtp_machine.specs.Command.{session_request, pending_session, pending_bearer, pending_dedicated, bearer_request}
+use Rattle.gtp_machine.specs.Command.{create_bearer_asked as node_asked, BeginsSession, ClosesSession, ReleasesSession, BeginsBearer, NamesBearer}
+use Rattle.gtp_machine.specs.Command.{ClosesBearer, SendsEcho, SendsPacket, CommandStep}
 use Rattle.gtp_machine.specs.Answer.{TakesReading, ControlStep}
-use Rattle.gtp_machine.specs.Serving.{opened_session, opened_bearer, OpensSession, CreateSessionAnswered, DeleteSessionAnswered, granted_bearer, MakesBearer, CreateBearerAsked, RemovesBearers, DeleteBearerTaken, DeleteBearerAsked, ServingTakes}
-use Rattle.gtp_machine.specs.Packet.{made_session, made_bearer, AnswersWith, MakesSession, CreateSessionAsked, DeleteSessionAsked, FitsCreateBearer, DescribesBearer, CanOpen, opened_dedicated, OpensBearer, CreateBearerAnswered, DeleteBearerAnswered, PacketTakes}
+use Rattle.gtp_machine.specs.Serving.{opened_session, opened_bearer, OpensSession, CreateSessionAnswered, DeleteSessionAnswered, granted_bearer}
+use Rattle.gtp_machine.specs.Serving.{MakesBearer, CreateBearerAsked, RemovesBearers, DeleteBearerTaken, DeleteBearerAsked, ServingTakes}
+use Rattle.gtp_machine.specs.Packet.{made_session, made_bearer, AnswersWith, MakesSession, CreateSessionAsked, DeleteSessionAsked, FitsCreateBearer}
+use Rattle.gtp_machine.specs.Packet.{DescribesBearer, CanOpen, opened_dedicated, OpensBearer, CreateBearerAnswered, DeleteBearerAnswered, PacketTakes}
 use Rattle.gtp_machine.specs.User.{Accepts, ended_bearer, default_among, EndCame, UserTaken, UserRead, UserStep}
 use Rattle.gtp_machine.specs.Sound.{AreApart}
 use Rattle.gtp_machine.specs.Step.{Step, Done, Steps}
@@ -36,6 +47,7 @@ use Rattle.gtp_machine.proofs.Basics.Kinds.{faulted_leaves}
 use Rattle.gtp_machine.proofs.Changes.Shrinking.{Shrunk, Shrunk-without, Shrunk-finished, Shrunk-bearer, Shrunk-closing, closing_same, ended_same, removes_each}
 use Rattle.gtp_machine.proofs.Determined.Alike.{Fits}
 use Rattle.gtp_machine.proofs.Determined.Witnesses.{apart_left}
+use Rattle.gtp_gateway.proofs.Left.{BringDrawn}
 
 -- a request that waits: the bearer that it is about was drawn, and where it stands it is of the session that the request is about; and so was the TEID that it
 -- brings, where it asks for a bearer
@@ -62,12 +74,8 @@ placed_fits node p = record {
   bearers = λ t b stands free. free (p.bearers t b stands).0;
 }
 
--- the TEID that a request for a bearer brings was drawn, where it waits
-abbrev pub BringDrawn : Node → Type 0
-BringDrawn node = (n : ℕ) (p : PendingRequest) (r : CreateBearerRequest) → get node.pending n ≡ Some p → p.request ≡ Create_bearer_request r → Among r.context.user.teid node.drawn
-
 pub placed_brings : (node : Node) → IsPlaced node → BringDrawn node
-placed_brings node placed n p r waits asks = (placed.pending n p waits).brings r asks
+placed_brings node placed n p r waits asks undrawn = undrawn ((placed.pending n p waits).brings r asks)
 
 fresh_placed : (config : Config) (counter : ℕ) → IsPlaced (fresh_node config counter)
 fresh_placed config counter = record {
@@ -103,7 +111,10 @@ drawn_placed node more extends p = record {
   sessions = λ t s e. extends t (p.sessions t s e);
   bearers = λ t b e. let at = p.bearers t b e in (extends t at.0, extends b.session at.1);
   apart = p.apart;
-  pending = λ n q e. let is = p.pending n q e in record { drawn_once = λ key about. extends key (is.drawn_once key about); of = is.of; brings = λ r asks. extends r.context.user.teid (is.brings r asks) };
+  pending =
+      λ n q e. let is = p.pending n q e in
+      record
+      { drawn_once = λ key about. extends key (is.drawn_once key about); of = is.of; brings = λ r asks. extends r.context.user.teid (is.brings r asks) };
 }
 
 -- a session comes or is replaced
@@ -116,7 +127,9 @@ session_placed node key s own p = record {
 }
 
 -- a bearer comes or is replaced: no other of its session has its identity, and what waits for it is about its session
-module _ (node : Node) (key : ℕ) (b : Bearer) (unused : (t : ℕ) (a : Bearer) (identity : ℕ) → get node.bearers t ≡ Some a → t ≢ key → a.session ≡ b.session → a.identity ≡ Some identity → b.identity ≡ Some identity → ⊥) where
+module _ (node : Node) (key : ℕ) (b : Bearer)
+    (unused : (t : ℕ) (a : Bearer) (identity : ℕ) → get node.bearers t ≡ Some a → t ≢ key → a.session ≡ b.session → a.identity ≡ Some identity
+    → b.identity ≡ Some identity → ⊥) where
   apart_after : AreApart node.bearers → AreApart (insert node.bearers key b)
   apart_after apart s t x y identity ex ey same ix iy = elim (found-insert node.bearers key b s x ex) [
     | inl first ↦ elim (found-insert node.bearers key b t y ey) [
@@ -129,10 +142,14 @@ module _ (node : Node) (key : ℕ) (b : Bearer) (unused : (t : ℕ) (a : Bearer)
     ]
   ]
 
-  bearer_placed : Among key node.drawn → Among b.session node.drawn → ((number : ℕ) (q : PendingRequest) (session : ℕ) → get node.pending number ≡ Some q → q.session ≡ Some session → q.bearer ≡ Some key → b.session ≡ session) → IsPlaced node → IsPlaced (record node { bearers = insert node.bearers key b })
+  bearer_placed : Among key node.drawn → Among b.session node.drawn
+      → ((number : ℕ) (q : PendingRequest) (session : ℕ) → get node.pending number ≡ Some q → q.session ≡ Some session → q.bearer ≡ Some key
+      → b.session ≡ session) → IsPlaced node → IsPlaced (record node { bearers = insert node.bearers key b })
   bearer_placed own of waits p = record {
     sessions = p.sessions;
-    bearers = λ t x e. ⊎_elim (λ same. (subst (λ k. Among k node.drawn) (sym same.0) own, subst (λ (k : Bearer). Among k.session node.drawn) same.1 of)) (λ other. p.bearers t x other.1) (found-insert node.bearers key b t x e);
+    bearers =
+        λ t x e. ⊎_elim (λ same. (subst (λ k. Among k node.drawn) (sym same.0) own, subst (λ (k : Bearer). Among k.session node.drawn) same.1 of))
+        (λ other. p.bearers t x other.1) (found-insert node.bearers key b t x e);
     apart = apart_after p.apart;
     pending = λ n q e. let is = p.pending n q e in record {
       drawn_once = is.drawn_once;
@@ -178,7 +195,9 @@ module _ (node : Node) (control user : ℕ) (s : Session) (b : Bearer) (control_
       (drawn_placed node (user ∷ control ∷ node.drawn) (λ t among. inr (inr among)) p))
 
 -- a new bearer of a session
-module _ (node : Node) (user : ℕ) (b : Bearer) (free : IsFree node user) (of : Among b.session node.drawn) (unused : (t : ℕ) (a : Bearer) (identity : ℕ) → get node.bearers t ≡ Some a → a.session ≡ b.session → a.identity ≡ Some identity → b.identity ≡ Some identity → ⊥) (p : IsPlaced node) where
+module _ (node : Node) (user : ℕ) (b : Bearer) (free : IsFree node user) (of : Among b.session node.drawn)
+    (unused : (t : ℕ) (a : Bearer) (identity : ℕ) → get node.bearers t ≡ Some a → a.session ≡ b.session → a.identity ≡ Some identity
+    → b.identity ≡ Some identity → ⊥) (p : IsPlaced node) where
   pub bearer_comes : IsPlaced (record node { drawn = user ∷ node.drawn; bearers = insert node.bearers user b })
   bearer_comes =
       bearer_placed (record node { drawn = user ∷ node.drawn }) user b
@@ -219,7 +238,10 @@ of_none drawn bearers q asks none = record {
 }
 
 -- a request that is about this bearer of this session
-of_one : (drawn : List ℕ) (bearers : FiniteMap Bearer) (session key : ℕ) (request : Message) → ((r : CreateBearerRequest) → request ≡ Create_bearer_request r → Among r.context.user.teid drawn) → Among key drawn → ((b : Bearer) → get bearers key ≡ Some b → b.session ≡ session) → IsOf drawn bearers (record { session = Some session; bearer = Some key; request = request })
+of_one : (drawn : List ℕ) (bearers : FiniteMap Bearer) (session key : ℕ) (request : Message)
+    → ((r : CreateBearerRequest) → request ≡ Create_bearer_request r → Among r.context.user.teid drawn) → Among key drawn
+    → ((b : Bearer) → get bearers key ≡ Some b → b.session ≡ session)
+    → IsOf drawn bearers (record { session = Some session; bearer = Some key; request = request })
 of_one drawn bearers session key request brings own of = record {
   drawn_once = λ k is. subst (λ n. Among n drawn) (same_Some key k is) own;
   of = λ s k b about is stands. of b (ap (λ n. get bearers n) (same_Some key k is) ∙ stands) ∙ same_Some session s about;
@@ -285,7 +307,9 @@ module _ (old : Node) (p : IsPlaced old) where
   command Serving (Create_bearer session tft qos) = says p
   command Packet (Create_bearer session tft qos) = unless (says p) (λ at. unless (says p) (λ active. unless (says p) (λ draws. unless (says p) (λ few. begins_bearer session at tft qos))))
   command Serving (Delete_bearer session identity) = says p
-  command Packet (Delete_bearer session identity) = unless (says p) (λ at. unless (says p) (λ named. unless (says p) (λ active. unless (says p) (λ few. closes_bearer session at.session identity named))))
+  command Packet (Delete_bearer session identity) =
+      unless (says p)
+      (λ at. unless (says p) (λ named. unless (says p) (λ active. unless (says p) (λ few. closes_bearer session at.session identity named))))
   command Serving (Release_session session) = says p
   command Packet (Release_session session) = unless (says p) (λ at. unless (says p) (λ active. unless (says p) (λ few. releases_session session at active)))
   command Serving (Mark_end bearer) = says p
@@ -305,7 +329,9 @@ module _ (old : Node) (p : IsPlaced old) where
   user_taken : (role : Role) (source : Endpoint) (m : Message) → Leaves (UserTaken role source m old)
   user_taken role source (Packet_data target payload) = unless (says p) (λ at. unless (says p) (λ active. unless (says p) (λ comes. accepts target payload at.bearer)))
   user_taken role source (End_marker target) = end_came role target
-  user_taken role source (Error_indication remote address) = unless (says p) (λ named. says (shrunk_placed old _ (Shrunk-without (λ t. default_among remote t old.bearers) (λ t. names remote (get old.bearers t)) old) p))
+  user_taken role source (Error_indication remote address) =
+      unless (says p)
+      (λ named. says (shrunk_placed old _ (Shrunk-without (λ t. default_among remote t old.bearers) (λ t. names remote (get old.bearers t)) old) p))
   user_taken role source (User_echo_request number) = says p
   user_taken role source m = says p
 
@@ -359,7 +385,8 @@ module _ (old : Node) (p : IsPlaced old) where
   delete_bearer_answered : (d : DeleteBearerResponse) → Leaves (DeleteBearerAnswered d old)
   delete_bearer_answered d = unless (says p) (λ at. unless (says p) (λ fits. says (finished_placed d.number at.pending)))
 
-  opens_bearer : (x : CreateBearerResponse) (at : HasPending old x.number) (fits : FitsCreateBearer at.pending x) (new : DescribesBearer x) → CanOpen old fits.session new.context.identity → Leaves (OpensBearer old x fits.bearer)
+  opens_bearer : (x : CreateBearerResponse) (at : HasPending old x.number) (fits : FitsCreateBearer at.pending x) (new : DescribesBearer x)
+      → CanOpen old fits.session new.context.identity → Leaves (OpensBearer old x fits.bearer)
   opens_bearer x at fits new can e r =
       let b = r.at.bearer in
       let drawn = p.bearers fits.bearer b r.at.stands in
@@ -415,7 +442,8 @@ module _ (old : Node) (p : IsPlaced old) where
     delete_bearer_asked d = unless (says p) (λ room. unless (says (held_placed old _ p)) (λ at. unless (says p) (λ opened. delete_bearer_taken d d.linked at.session)))
 
     -- the answer to a session that is made, alone or with the request for the template's bearer
-    answers_with : (template : Option Template) (a : CreateSessionResponse) (cause session : ℕ) (s : Session) (made : Node) → Among session made.drawn → IsPlaced made → Leaves (AnswersWith template request a cause session s made)
+    answers_with : (template : Option Template) (a : CreateSessionResponse) (cause session : ℕ) (s : Session) (made : Node) → Among session made.drawn
+        → IsPlaced made → Leaves (AnswersWith template request a cause session s made)
     answers_with None a cause session s made own placed = says (held_placed made _ placed)
     answers_with (Some t) a cause session s made own placed = unless (says (held_placed made _ placed)) (λ can e r.
         says (held_placed _ _ (bearer_begun made session r.user (bearer_request made s t.tft t.qos r.user r.number) r.user_free own refl placed)) e r.gives)

@@ -38,12 +38,14 @@ use Rattle.gtp_gateway.specs.Tick.{due_in}
 use Rattle.gtp_gateway.proofs.ChosenOnce.{one_lowest_address, one_lowest_identity, lowest_address, lowest_identity, one_drawn}
 use Rattle.gtp_gateway.proofs.Requests.{pending_push}
 use Rattle.gtp_world.specs.Record.{oldest_first, GatewayRecord, Log, WorldRecord, gateway_in, with_gateway}
-use Rattle.gtp_world.specs.Determined.{HalvesAlike, WorldsAlike}
+use Rattle.gtp_world.specs.Determined.{GatewaysAlike, WorldsAlike}
 use Rattle.gtp_world.specs.Last.{last_octets}
-use Rattle.gtp_world.specs.Stepped.{WaitsFor, AsksFor, KeepsOn, TakesLowest, StepsOn, TakesBoth, TakesOn, Brings, TicksBy, gateway_after, kept_after, kept_after_both, log_after, log_after_both, log_with, sent_at, passed_over, counter_after, gateway_restarted, IsThere, IsLate, EventLeaves}
+use Rattle.gtp_world.specs.Stepped.{WaitsFor, AsksFor, KeepsOn, TakesLowest, StepsOn, TakesBoth, TakesOn, Brings, TicksBy, gateway_after, kept_after}
+use Rattle.gtp_world.specs.Stepped.{kept_after_both, log_after, log_after_both, log_with, sent_at, passed_over, counter_after, gateway_restarted}
+use Rattle.gtp_world.specs.Stepped.{IsThere, IsLate, EventLeaves}
 use Rattle.gtp_world.proofs.Determined.Commands.{IsQuiet, IsBegun, commanded, unchosen_begun}
 use Rattle.gtp_world.proofs.Determined.Lasting.{Lasts, lasts_fits, lasts_once, lasts_bring, mid_ready, keeps_goes, asks_ready, BothLast, last_of}
-use Rattle.gtp_world.proofs.Determined.Left.{same_due, one_free, left_stays, left_begun, left_goes, number_begun, left_ticked}
+use Rattle.gtp_gateway.proofs.Left.{same_due, one_free, left_stays, left_begun, left_goes, number_begun, left_ticked}
 use Rattle.gtp_world.proofs.Determined.Opening.{bearers_from, none_from}
 
 tied_draws : (new : GatewayState) (node : Node) → new.node ≡ node → NodeMatchesQueues new → node.drawn ≡ drawn_up_to node.counter (length node.drawn)
@@ -51,7 +53,8 @@ tied_draws new node is tied = subst (λ (k : Node). k.drawn ≡ drawn_up_to k.co
 
 -- ---- an input comes to two gateways that are alike
 
-module _ (one other : GatewayState) (alike : AreLeftAlike one other) (l : Lasts one) (input : Input) (e f : Effect) (first : Step one.role one.node input e) (second : Step other.role other.node input f) where
+module _ (one other : GatewayState) (alike : AreLeftAlike one other) (l : Lasts one) (input : Input) (e f : Effect)
+    (first : Step one.role one.node input e) (second : Step other.role other.node input f) where
   -- both are steps of one gateway
   there : Step one.role one.node input f
   there = subst (λ n. Step one.role n input f) (sym alike.node) (subst (λ r. Step r other.node input f) (sym alike.role) second)
@@ -60,20 +63,34 @@ module _ (one other : GatewayState) (alike : AreLeftAlike one other) (l : Lasts 
   both = step_done one.role one.node input (lasts_fits one l) (lasts_once one l) e f first there
 
   -- and where the lowest is taken of what is free, and the same number, they are one
-  module _ (new left : GatewayState) (new_is : new.node ≡ e.node) (left_is : left.node ≡ f.node) (new_stays : new.role ≡ one.role) (left_stays_so : left.role ≡ other.role) (new_tied : NodeMatchesQueues new) (left_tied : NodeMatchesQueues left)
+  module _ (new left : GatewayState) (new_is : new.node ≡ e.node) (left_is : left.node ≡ f.node) (new_stays : new.role ≡ one.role)
+      (left_stays_so : left.role ≡ other.role) (new_tied : NodeMatchesQueues new) (left_tied : NodeMatchesQueues left)
       (new_lowest : TakesLowest new.role e.out one.node new.node) (left_lowest : TakesLowest left.role f.out other.node left.node) where
     one_effect : ((command : Command) → input ≡ Commanded command → (number : ℕ) → get one.node.pending number ≡ None → HasPending e.node number → HasPending f.node number)
-        → ((request : Arrival) (reading : ControlReading) → input ≡ Control_came request reading → (others : FiniteMap PendingRequest) (m n : ℕ) (p q : PendingRequest) → WaitsBeside one.node.drawn e.node.pending others m p → WaitsBeside one.node.drawn f.node.pending others n q → m ≡ n) → e ≡ f
+        → ((request : Arrival) (reading : ControlReading) → input ≡ Control_came request reading
+        → (others : FiniteMap PendingRequest) (m n : ℕ) (p q : PendingRequest) → WaitsBeside one.node.drawn e.node.pending others m p
+        → WaitsBeside one.node.drawn f.node.pending others n q → m ≡ n) → e ≡ f
     one_effect numbers wanted = both.one (record {
       drawn = one_drawn e.node f.node (tied_draws new e.node new_is new_tied) (tied_draws left f.node left_is left_tied) both.tell.counter both.tell.draws;
       addresses = λ request reading is packet made others t a b x y version p q in_one in_other.
-          let first_lowest = lowest_address one.node e.node others t a (subst (λ k. MakesLowestSession one.node k) new_is (subst (λ r. MakesLowest r one.node new.node) packet (made_lowest made))) x version p in_one in
-          let second_lowest = lowest_address one.node f.node others t b (subst (λ k. MakesLowestSession one.node k) left_is (subst (λ r. MakesLowest r one.node left.node) packet (also_lowest made))) y version q in_other in
+          let first_lowest =
+          lowest_address one.node e.node others t a
+          (subst (λ k. MakesLowestSession one.node k) new_is (subst (λ r. MakesLowest r one.node new.node) packet (made_lowest made))) x version p
+          in_one in
+          let second_lowest =
+          lowest_address one.node f.node others t b
+          (subst (λ k. MakesLowestSession one.node k) left_is (subst (λ r. MakesLowest r one.node left.node) packet (also_lowest made))) y version q
+          in_other in
           one_lowest_address version others one.node.config.pools p q first_lowest second_lowest;
       identities = λ request reading is serving made others t a b x y session.
-          let first_lowest = lowest_identity one.node e.node others t a (subst (λ k. MakesLowestBearer one.node k) new_is (subst (λ r. MakesLowest r one.node new.node) serving (made_lowest made))) x in
-          let second_lowest = lowest_identity one.node f.node others t b (subst (λ k. MakesLowestBearer one.node k) left_is (subst (λ r. MakesLowest r one.node left.node) serving (also_lowest made))) y in
-          first_lowest.1 ∙ (ap (λ k. Some k) (one_lowest_identity others a.session first_lowest.0 second_lowest.0 first_lowest.2 (subst (λ k. IsLowestUnused others k second_lowest.0) (sym session) second_lowest.2)) ∙ sym second_lowest.1);
+          let first_lowest =
+          lowest_identity one.node e.node others t a
+          (subst (λ k. MakesLowestBearer one.node k) new_is (subst (λ r. MakesLowest r one.node new.node) serving (made_lowest made))) x in
+          let second_lowest =
+          lowest_identity one.node f.node others t b
+          (subst (λ k. MakesLowestBearer one.node k) left_is (subst (λ r. MakesLowest r one.node left.node) serving (also_lowest made))) y in
+          first_lowest.1 ∙ (ap (λ k. Some k) (one_lowest_identity others a.session first_lowest.0 second_lowest.0 first_lowest.2
+          (subst (λ k. IsLowestUnused others k second_lowest.0) (sym session) second_lowest.2)) ∙ sym second_lowest.1);
       numbers = numbers;
       wanted = λ request reading is packet made. wanted request reading is;
     })
@@ -90,14 +107,18 @@ module _ (one other : GatewayState) (alike : AreLeftAlike one other) (l : Lasts 
 -- ---- the number of a request
 
 -- the request that was begun waits beside the others
-begun_waits : (old : GatewayState) (d : Datagram) (new : GatewayState) → NodeMatchesQueues old → (w : WaitsFor old d new) → (p : PendingRequest) × (new.node.pending ≡ insert old.node.pending w.number p)
+begun_waits : (old : GatewayState) (d : Datagram) (new : GatewayState) → NodeMatchesQueues old → (w : WaitsFor old d new)
+    → (p : PendingRequest) × (new.node.pending ≡ insert old.node.pending w.number p)
 begun_waits old d new tied w =
     let request : Waiting Purpose = just_sent w.number d.to d.octets w.purpose in (
       (pending_of request).1,
-      w.tied.pending ∙ (ap (λ (t : Queues). pending_in t.waiting) w.queues ∙ (pending_push old.queues.waiting request (pending_of request).1 w.free.free refl ∙ ap (λ (k : FiniteMap PendingRequest). insert k w.number (pending_of request).1) (sym tied.pending))),
+      w.tied.pending
+          ∙ (ap (λ (t : Queues). pending_in t.waiting) w.queues ∙ (pending_push old.queues.waiting request (pending_of request).1 w.free.free refl
+          ∙ ap (λ (k : FiniteMap PendingRequest). insert k w.number (pending_of request).1) (sym tied.pending))),
     )
 
-waits_too : (pending : FiniteMap PendingRequest) (one other : Node) (m n : ℕ) (p q : PendingRequest) → one.pending ≡ insert pending m p → other.pending ≡ insert pending n q → m ≡ n → (number : ℕ) → get pending number ≡ None → HasPending one number → HasPending other number
+waits_too : (pending : FiniteMap PendingRequest) (one other : Node) (m n : ℕ) (p q : PendingRequest) → one.pending ≡ insert pending m p
+    → other.pending ≡ insert pending n q → m ≡ n → (number : ℕ) → get pending number ≡ None → HasPending one number → HasPending other number
 waits_too pending one other m n p q is_one is_other same number free waits = ⊎_elim
     (λ here. record { pending = q; waits = ap (λ (k : FiniteMap PendingRequest). get k number) is_other ∙ (ap (λ k. get (insert pending n q) k) (here.0 ∙ same) ∙ get-insert_same pending n q) })
     (λ there. absurd (never waits.pending there.1))
@@ -115,8 +136,8 @@ none_new old one other same number free waits = absurd (never waits.pending (ap 
 
 -- ---- what is kept after one step, and after two
 
-half_after_alike : (h k : GatewayRecord) → HalvesAlike h k → (new left : GatewayState) → AreLeftAlike new left → (out : Out) → HalvesAlike (gateway_after h new out) (gateway_after k left out)
-half_after_alike h k a new left leaves out = record {
+gateway_after_alike : (h k : GatewayRecord) → GatewaysAlike h k → (new left : GatewayState) → AreLeftAlike new left → (out : Out) → GatewaysAlike (gateway_after h new out) (gateway_after k left out)
+gateway_after_alike h k a new left leaves out = record {
   settings = a.settings;
   state = leaves;
   first = a.first;
@@ -126,19 +147,37 @@ half_after_alike h k a new left leaves out = record {
   made = ap (λ l. l ++ oldest_first out.made) a.made;
 }
 
-after_alike : (u v : WorldRecord) → WorldsAlike u v → (role : Role) (new left : GatewayState) → AreLeftAlike new left → (out : Out) (sent : List Datagram) (outcome : EventOutcome) (late : Bool) → WorldsAlike (kept_after u role new out sent outcome late) (kept_after v role left out sent outcome late)
-after_alike u v alike Serving new left leaves out sent outcome late = record { serving = half_after_alike u.serving v.serving alike.serving new left leaves out; packet = alike.packet; log = λ i. log_after (alike.log i) Serving out sent outcome late }
-after_alike u v alike Packet new left leaves out sent outcome late = record { serving = alike.serving; packet = half_after_alike u.packet v.packet alike.packet new left leaves out; log = λ i. log_after (alike.log i) Packet out sent outcome late }
+after_alike : (u v : WorldRecord) → WorldsAlike u v → (role : Role) (new left : GatewayState) → AreLeftAlike new left
+    → (out : Out) (sent : List Datagram) (outcome : EventOutcome) (late : Bool)
+    → WorldsAlike (kept_after u role new out sent outcome late) (kept_after v role left out sent outcome late)
+after_alike u v alike Serving new left leaves out sent outcome late =
+    record {
+      serving = gateway_after_alike u.serving v.serving alike.serving new left leaves out;
+      packet = alike.packet;
+      log = λ i. log_after (alike.log i) Serving out sent outcome late;
+    }
+after_alike u v alike Packet new left leaves out sent outcome late =
+    record {
+      serving = alike.serving;
+      packet = gateway_after_alike u.packet v.packet alike.packet new left leaves out;
+      log = λ i. log_after (alike.log i) Packet out sent outcome late;
+    }
 
-both_after_alike : (u v : WorldRecord) → WorldsAlike u v → (role : Role) (new left : GatewayState) → AreLeftAlike new left → (first second : Effect) (sent more : List Datagram) (late : Bool) → WorldsAlike (kept_after_both u role new first second sent more late) (kept_after_both v role left first second sent more late)
+both_after_alike : (u v : WorldRecord) → WorldsAlike u v → (role : Role) (new left : GatewayState) → AreLeftAlike new left
+    → (first second : Effect) (sent more : List Datagram) (late : Bool)
+    → WorldsAlike (kept_after_both u role new first second sent more late) (kept_after_both v role left first second sent more late)
 both_after_alike u v alike Serving new left leaves first second sent more late = record {
-  serving = half_after_alike (gateway_after u.serving new first.out) (gateway_after v.serving left first.out) (half_after_alike u.serving v.serving alike.serving new left leaves first.out) new left leaves second.out;
+  serving =
+      gateway_after_alike (gateway_after u.serving new first.out) (gateway_after v.serving left first.out)
+      (gateway_after_alike u.serving v.serving alike.serving new left leaves first.out) new left leaves second.out;
   packet = alike.packet;
   log = λ i. log_after_both (alike.log i) Serving first second sent more late;
 }
 both_after_alike u v alike Packet new left leaves first second sent more late = record {
   serving = alike.serving;
-  packet = half_after_alike (gateway_after u.packet new first.out) (gateway_after v.packet left first.out) (half_after_alike u.packet v.packet alike.packet new left leaves first.out) new left leaves second.out;
+  packet =
+      gateway_after_alike (gateway_after u.packet new first.out) (gateway_after v.packet left first.out)
+      (gateway_after_alike u.packet v.packet alike.packet new left leaves first.out) new left leaves second.out;
   log = λ i. log_after_both (alike.log i) Packet first second sent more late;
 }
 
@@ -148,10 +187,10 @@ pub record IsOne (e f : Effect) (new left : GatewayState) : Type 0 where
   pub effect : e ≡ f
   pub leaves : AreLeftAlike new left
 
--- the halves of both worlds
-pub half_alike : (u v : WorldRecord) → WorldsAlike u v → (role : Role) → HalvesAlike (gateway_in u role) (gateway_in v role)
-half_alike u v alike Serving = alike.serving
-half_alike u v alike Packet = alike.packet
+-- the gateways of both worlds
+pub gateway_alike : (u v : WorldRecord) → WorldsAlike u v → (role : Role) → GatewaysAlike (gateway_in u role) (gateway_in v role)
+gateway_alike u v alike Serving = alike.serving
+gateway_alike u v alike Packet = alike.packet
 
 module _ (u v : WorldRecord) (alike : WorldsAlike u v) (role : Role) (lasts : BothLast u) (lasts_too : BothLast v) where
   abbrev one : GatewayState
@@ -161,7 +200,7 @@ module _ (u v : WorldRecord) (alike : WorldsAlike u v) (role : Role) (lasts : Bo
   two = (gateway_in v role).state
 
   stations : AreLeftAlike one two
-  stations = (half_alike u v alike role).state
+  stations = (gateway_alike u v alike role).state
 
   -- the same is sent, where the effects are one
   same_sent : (e f : Effect) → e ≡ f → sent_at (gateway_in u role) e.out ≡ sent_at (gateway_in v role) f.out
@@ -195,7 +234,9 @@ module _ (u v : WorldRecord) (alike : WorldsAlike u v) (role : Role) (lasts : Bo
     tells : unchosen (Commanded c) t.effect.outcome ≡ unchosen (Commanded c) s.effect.outcome
     tells = (both one two stations (last_of u lasts role) (Commanded c) t.effect s.effect t.step s.step).tell.outcome
 
-    both_begun : (w : (d : Datagram) × (sent_at (gateway_in u role) t.effect.out ≡ d ∷ []) × WaitsFor one d t.state) → (x : (d : Datagram) × (sent_at (gateway_in v role) s.effect.out ≡ d ∷ []) × WaitsFor two d s.state) → IsOne t.effect s.effect t.state s.state
+    both_begun : (w : (d : Datagram) × (sent_at (gateway_in u role) t.effect.out ≡ d ∷ []) × WaitsFor one d t.state)
+        → (x : (d : Datagram) × (sent_at (gateway_in v role) s.effect.out ≡ d ∷ []) × WaitsFor two d s.state)
+        → IsOne t.effect s.effect t.state s.state
     both_begun (d, sent, w) (d_too, sent_too, x) =
         let p = begun_waits one d t.state (last_of u lasts role).tied w in
         let q = begun_waits two d_too s.state (last_of v lasts_too role).tied x in
@@ -205,9 +246,10 @@ module _ (u v : WorldRecord) (alike : WorldsAlike u v) (role : Role) (lasts : Bo
         (one_free one two w.number x.number stations w.free x.free)) in
         let list : (d ∷ []) ≡ (d_too ∷ []) = sym sent ∙ (same_sent t.effect s.effect same ∙ sent_too) in
         let datagram : d ≡ d_too = cc list in
+        let y : WaitsFor two d s.state = subst (λ k. WaitsFor two k s.state) (sym datagram) x in
         record {
           effect = same;
-          leaves = left_begun one two t.state s.state stations roles (nodes same) d w (subst (λ k. WaitsFor two k s.state) (sym datagram) x);
+          leaves = left_begun one two t.state s.state stations roles (nodes same) d w.number y.number w.purpose y.purpose w.free y.free w.queues y.queues;
         }
 
     by_came : IsBegun t.effect ⊎ IsQuiet one.node t.effect → IsBegun s.effect ⊎ IsQuiet two.node s.effect → IsOne t.effect s.effect t.state s.state
@@ -227,7 +269,9 @@ module _ (u v : WorldRecord) (alike : WorldsAlike u v) (role : Role) (lasts : Bo
   no_command Control source octets c e = cc
   no_command User source octets c e = cc
 
-  module _ (plane : Plane) (source : Endpoint) (octets : List ℕ) (late : Bool) (new left : WorldRecord) (t : StepsOn u role (coming plane source octets) (KeepsOn plane source octets) late new) (s : StepsOn v role (coming plane source octets) (KeepsOn plane source octets) late left) where
+  module _ (plane : Plane) (source : Endpoint) (octets : List ℕ) (late : Bool) (new left : WorldRecord)
+      (t : StepsOn u role (coming plane source octets) (KeepsOn plane source octets) late new)
+      (s : StepsOn v role (coming plane source octets) (KeepsOn plane source octets) late left) where
     datagram_one : IsOne t.effect s.effect t.state s.state
     datagram_one =
         let goes = keeps_goes plane source octets _ t.effect.outcome one t.state t.timed in
@@ -243,12 +287,15 @@ module _ (u v : WorldRecord) (alike : WorldsAlike u v) (role : Role) (lasts : Bo
         (subst (λ (x : Node). WaitsBeside one.node.drawn x.pending others n q) (sym s.node) too)) in
         record {
           effect = same;
-          leaves = left_goes one two t.state s.state stations (t.role_stays ∙ (stations.role ∙ sym s.role_stays)) (t.node ∙ (ap (λ (x : Effect). x.node) same ∙ sym s.node)) l.apart k.apart (arrival_of source octets) goes goes_too;
+          leaves =
+              left_goes one two t.state s.state stations (t.role_stays ∙ (stations.role ∙ sym s.role_stays))
+              (t.node ∙ (ap (λ (x : Effect). x.node) same ∙ sym s.node)) l.apart k.apart (arrival_of source octets) goes goes_too;
         }
 
   -- ---- two messages of one datagram
 
-  module _ (arrival : Arrival) (answer : CreateSessionResponse) (asked : CreateBearerRequest) (late : Bool) (new left : WorldRecord) (serves : one.role ≡ Serving) (t : TakesBoth u role arrival answer asked late new) (s : TakesBoth v role arrival answer asked late left) where
+  module _ (arrival : Arrival) (answer : CreateSessionResponse) (asked : CreateBearerRequest) (late : Bool) (new left : WorldRecord)
+      (serves : one.role ≡ Serving) (t : TakesBoth u role arrival answer asked late new) (s : TakesBoth v role arrival answer asked late left) where
     abbrev lies : Arrival
     lies = first_arrival arrival
 
@@ -277,10 +324,14 @@ module _ (u v : WorldRecord) (alike : WorldsAlike u v) (role : Role) (lasts : Bo
 
     -- the second finds one gateway
     follows_too : Step one.role mid (second_comes arrival asked) s.second
-    follows_too = subst (λ (x : Effect). Step one.role x.node (second_comes arrival asked) s.second) (sym first_one) (subst (λ r. Step r s.first.node (second_comes arrival asked) s.second) (sym stations.role) s.follows)
+    follows_too =
+        subst (λ (x : Effect). Step one.role x.node (second_comes arrival asked) s.second) (sym first_one)
+        (subst (λ r. Step r s.first.node (second_comes arrival asked) s.second) (sym stations.role) s.follows)
 
     second_both : Alike one.role mid (second_comes arrival asked) t.second s.second
-    second_both = let m = mid_ready one (last_of u lasts role) (first_comes arrival answer) t.first t.step in step_done one.role mid (second_comes arrival asked) m.0 m.1 t.second s.second t.follows follows_too
+    second_both =
+        let m = mid_ready one (last_of u lasts role) (first_comes arrival answer) t.first t.step in
+        step_done one.role mid (second_comes arrival asked) m.0 m.1 t.second s.second t.follows follows_too
 
     -- what is the lowest beside what stood before the first is so beside what stands after it
     since : (new : Node) → MakesLowestBearer one.node new → MakesLowestBearer mid new
@@ -308,7 +359,9 @@ module _ (u v : WorldRecord) (alike : WorldsAlike u v) (role : Role) (lasts : Bo
 
     second_one : t.second ≡ s.second
     second_one = second_both.one (record {
-      drawn = one_drawn t.second.node s.second.node (tied_draws t.state t.second.node t.node t.timed.tied) (tied_draws s.state s.second.node s.node s.timed.tied) second_both.tell.counter second_both.tell.draws;
+      drawn =
+          one_drawn t.second.node s.second.node (tied_draws t.state t.second.node t.node t.timed.tied)
+          (tied_draws s.state s.second.node s.node s.timed.tied) second_both.tell.counter second_both.tell.draws;
       addresses = λ request reading is packet. absurd (not_packet packet);
       identities = λ request reading is serving made others x a b p q session.
           let first = lowest_identity mid t.second.node others x a (second_lowest made) p in
@@ -323,29 +376,37 @@ module _ (u v : WorldRecord) (alike : WorldsAlike u v) (role : Role) (lasts : Bo
         left_goes one two t.state s.state stations (t.role_stays ∙ (stations.role ∙ sym s.role_stays)) (t.node ∙ (ap (λ (x : Effect). x.node) second_one ∙ sym s.node))
         (last_of u lasts role).apart (last_of v lasts_too role).apart (second_arrival arrival) t.timed s.timed
 
-    pair_becomes : kept_after_both v role s.state s.first s.second (sent_at (gateway_in v role) s.first.out) (sent_at (gateway_in v role) s.second.out) late ≡ kept_after_both v role s.state t.first t.second (sent_at (gateway_in u role) t.first.out) (sent_at (gateway_in u role) t.second.out) late
+    pair_becomes : kept_after_both v role s.state s.first s.second (sent_at (gateway_in v role) s.first.out) (sent_at (gateway_in v role) s.second.out) late
+        ≡ kept_after_both v role s.state t.first t.second (sent_at (gateway_in u role) t.first.out) (sent_at (gateway_in u role) t.second.out) late
     pair_becomes = λ i. kept_after_both v role s.state (sym first_one i) (sym second_one i) (sym (same_sent t.first s.first first_one) i) (sym (same_sent t.second s.second second_one) i) late
 
     pair_alike : WorldsAlike new left
     pair_alike =
         subst (λ k. WorldsAlike k left) (sym t.becomes)
-        (subst (λ k. WorldsAlike (kept_after_both u role t.state t.first t.second (sent_at (gateway_in u role) t.first.out) (sent_at (gateway_in u role) t.second.out) late) k) (sym (s.becomes ∙ pair_becomes))
+        (subst (λ k. WorldsAlike (kept_after_both u role t.state t.first t.second (sent_at (gateway_in u role) t.first.out)
+        (sent_at (gateway_in u role) t.second.out) late) k) (sym (s.becomes ∙ pair_becomes))
         (both_after_alike u v alike role t.state s.state pair_left t.first t.second (sent_at (gateway_in u role) t.first.out) (sent_at (gateway_in u role) t.second.out) late))
 
 -- ---- what is kept after it
 
 -- worlds that are what was kept of the same
-become_alike : (u v new left : WorldRecord) (role : Role) (one two : GatewayState) (out other : Out) (sent sent_too : List Datagram) (outcome outcome_too : EventOutcome) (late : Bool) → WorldsAlike u v → AreLeftAlike one two → out ≡ other → sent ≡ sent_too → outcome ≡ outcome_too → new ≡ kept_after u role one out sent outcome late → left ≡ kept_after v role two other sent_too outcome_too late → WorldsAlike new left
+become_alike : (u v new left : WorldRecord) (role : Role) (one two : GatewayState) (out other : Out) (sent sent_too : List Datagram)
+    (outcome outcome_too : EventOutcome) (late : Bool) → WorldsAlike u v → AreLeftAlike one two → out ≡ other → sent ≡ sent_too
+    → outcome ≡ outcome_too → new ≡ kept_after u role one out sent outcome late → left ≡ kept_after v role two other sent_too outcome_too late
+    → WorldsAlike new left
 become_alike u v new left role one two out other sent sent_too outcome outcome_too late alike leaves same same_sent same_outcome is is_too =
     subst (λ k. WorldsAlike k left) (sym is)
     (subst (λ k. WorldsAlike (kept_after u role one out sent outcome late) k) (sym (is_too ∙ (λ i. kept_after v role two (sym same i) (sym same_sent i) (sym same_outcome i) late)))
     (after_alike u v alike role one two leaves out sent outcome late))
 
-takes_alike : (u v : WorldRecord) → WorldsAlike u v → (role : Role) (input : Input) (Timed : List Datagram → EventOutcome → GatewayState → GatewayState → Type 0) (late : Bool) (new left : WorldRecord) (t : StepsOn u role input Timed late new) (s : StepsOn v role input Timed late left) → IsOne t.effect s.effect t.state s.state → WorldsAlike new left
+takes_alike : (u v : WorldRecord) → WorldsAlike u v
+    → (role : Role) (input : Input) (Timed : List Datagram → EventOutcome → GatewayState → GatewayState → Type 0) (late : Bool)
+    (new left : WorldRecord) (t : StepsOn u role input Timed late new) (s : StepsOn v role input Timed late left)
+    → IsOne t.effect s.effect t.state s.state → WorldsAlike new left
 takes_alike u v alike role input Timed late new left t s is =
     become_alike u v new left role t.state s.state t.effect.out s.effect.out _ _ _ _ late alike is.leaves
     (ap (λ (k : Effect). k.out) is.effect)
-    (λ i. map (datagram_of ((half_alike u v alike role).state.node i).config) (is.effect i).out.sent)
+    (λ i. map (datagram_of ((gateway_alike u v alike role).state.node i).config) (is.effect i).out.sent)
     (ap (λ (k : Effect). k.outcome) is.effect)
     t.becomes s.becomes
 
@@ -358,16 +419,18 @@ passed_alike u v new left outcome alike is is_too =
 
 -- ---- a restart
 
-same_counter : (h k : GatewayRecord) → HalvesAlike h k → counter_after h ≡ counter_after k
+same_counter : (h k : GatewayRecord) → GatewaysAlike h k → counter_after h ≡ counter_after k
 same_counter h k a = λ i. (a.first i + (a.restarts i + 1)) % 256
 
 starts_alike : (role : Role) (settings : Settings) (counter : ℕ) → AreLeftAlike (starting role settings counter) (starting role settings counter)
 starts_alike role settings counter = record { role = refl; node = refl; timers = refl; next = refl; waiting = refl; held = refl }
 
-half_restarts : (role : Role) (h k : GatewayRecord) → HalvesAlike h k → HalvesAlike (gateway_restarted role h) (gateway_restarted role k)
-half_restarts role h k a = record {
+gateway_restarts : (role : Role) (h k : GatewayRecord) → GatewaysAlike h k → GatewaysAlike (gateway_restarted role h) (gateway_restarted role k)
+gateway_restarts role h k a = record {
   settings = a.settings;
-  state = subst (λ (s : GatewayState). AreLeftAlike (starting role h.settings (counter_after h)) s) (λ i. starting role (a.settings i) (same_counter h k a i)) (starts_alike role h.settings (counter_after h));
+  state =
+      subst (λ (s : GatewayState). AreLeftAlike (starting role h.settings (counter_after h)) s)
+      (λ i. starting role (a.settings i) (same_counter h k a i)) (starts_alike role h.settings (counter_after h));
   first = a.first;
   restarts = ap (λ n. n + 1) a.restarts;
   seen = refl;
@@ -379,30 +442,42 @@ abbrev restarted_world : WorldRecord → Role → WorldRecord
 restarted_world v role = record (with_gateway v role (gateway_restarted role (gateway_in v role))) { log = log_with v.log (Restarted (counter_after (gateway_in v role))) }
 
 worlds_restarted : (u v : WorldRecord) → WorldsAlike u v → (role : Role) → WorldsAlike (restarted_world u role) (restarted_world v role)
-worlds_restarted u v alike Serving = record { serving = half_restarts Serving u.serving v.serving alike.serving; packet = alike.packet; log = λ i. log_with (alike.log i) (Restarted (same_counter u.serving v.serving alike.serving i)) }
-worlds_restarted u v alike Packet = record { serving = alike.serving; packet = half_restarts Packet u.packet v.packet alike.packet; log = λ i. log_with (alike.log i) (Restarted (same_counter u.packet v.packet alike.packet i)) }
+worlds_restarted u v alike Serving =
+    record {
+      serving = gateway_restarts Serving u.serving v.serving alike.serving;
+      packet = alike.packet;
+      log = λ i. log_with (alike.log i) (Restarted (same_counter u.serving v.serving alike.serving i));
+    }
+worlds_restarted u v alike Packet =
+    record {
+      serving = alike.serving;
+      packet = gateway_restarts Packet u.packet v.packet alike.packet;
+      log = λ i. log_with (alike.log i) (Restarted (same_counter u.packet v.packet alike.packet i));
+    }
 
 -- ---- an event
 
 module _ (u v : WorldRecord) (alike : WorldsAlike u v) (lasts : BothLast u) (lasts_too : BothLast v) where
   ticks_alike : (role : Role) (new left : WorldRecord) → TicksBy u role new → TicksBy v role left → WorldsAlike new left
   ticks_alike role new left t s =
-      let halves = half_alike u v alike role in
+      let gateways = gateway_alike u v alike role in
       let one = (gateway_in u role).state in
       let two = (gateway_in v role).state in
-      let due = same_due one two halves.state in
-      let second = subst (λ n. Ticks n (due_in one.queues) s.out s.state.node) (sym halves.state.node) (subst (λ d. Ticks two.node d s.out s.state.node) (sym due) s.ticks) in
+      let due = same_due one two gateways.state in
+      let second = subst (λ n. Ticks n (due_in one.queues) s.out s.state.node) (sym gateways.state.node) (subst (λ d. Ticks two.node d s.out s.state.node) (sym due) s.ticks) in
       let same = one_tick one.node (due_in one.queues) t.out s.out t.state.node s.state.node t.ticks second in
       become_alike u v new left role t.state s.state t.out s.out _ _ Ticked Ticked false alike
-      (left_ticked one two t.state s.state halves.state (t.role_stays ∙ (halves.state.role ∙ sym s.role_stays)) same.1 (last_of u lasts role).apart (last_of v lasts_too role).apart t.counts s.counts)
+      (left_ticked one two t.state s.state gateways.state (t.role_stays ∙ (gateways.state.role ∙ sym s.role_stays)) same.1
+      (last_of u lasts role).apart (last_of v lasts_too role).apart t.counts s.counts)
       same.0
-      (λ i. map (datagram_of (halves.state.node i).config) (same.0 i).sent)
+      (λ i. map (datagram_of (gateways.state.node i).config) (same.0 i).sent)
       refl
       t.becomes s.becomes
 
   -- a datagram comes to one gateway of both
   module _ (role : Role) (source : Endpoint) (octets : List ℕ) (late : Bool) (new left : WorldRecord) where
-    whole_alike : (plane : Plane) → StepsOn u role (coming plane source octets) (KeepsOn plane source octets) late new → StepsOn v role (coming plane source octets) (KeepsOn plane source octets) late left → WorldsAlike new left
+    whole_alike : (plane : Plane) → StepsOn u role (coming plane source octets) (KeepsOn plane source octets) late new
+        → StepsOn v role (coming plane source octets) (KeepsOn plane source octets) late left → WorldsAlike new left
     whole_alike plane t s = takes_alike u v alike role _ _ late new left t s (datagram_one u v alike role lasts lasts_too plane source octets late new left t s)
 
     abbrev Pairs : WorldRecord → Type 0
@@ -410,12 +485,19 @@ module _ (u v : WorldRecord) (alike : WorldsAlike u v) (lasts : BothLast u) (las
 
     -- a pair is taken by both, or by none
     pair_there : Pairs u → Pairs v
-    pair_there p = let s = (half_alike u v alike role).state in record { by = sym s.role ∙ p.by; peer = p.peer ∙ ap (λ (n : Node). n.config.peer.control) s.node; answer = p.answer; asked = p.asked; is = p.is }
+    pair_there p =
+        let s = (gateway_alike u v alike role).state in
+        record
+        { by = sym s.role ∙ p.by; peer = p.peer ∙ ap (λ (n : Node). n.config.peer.control) s.node; answer = p.answer; asked = p.asked; is = p.is }
 
     pair_here : Pairs v → Pairs u
-    pair_here p = let s = (half_alike u v alike role).state in record { by = s.role ∙ p.by; peer = p.peer ∙ ap (λ (n : Node). n.config.peer.control) (sym s.node); answer = p.answer; asked = p.asked; is = p.is }
+    pair_here p =
+        let s = (gateway_alike u v alike role).state in
+        record
+        { by = s.role ∙ p.by; peer = p.peer ∙ ap (λ (n : Node). n.config.peer.control) (sym s.node); answer = p.answer; asked = p.asked; is = p.is }
 
-    pairs_alike : (p : Pairs u) (q : Pairs v) → TakesBoth u role (arrival_of source octets) p.answer p.asked late new → TakesBoth v role (arrival_of source octets) q.answer q.asked late left → WorldsAlike new left
+    pairs_alike : (p : Pairs u) (q : Pairs v) → TakesBoth u role (arrival_of source octets) p.answer p.asked late new
+        → TakesBoth v role (arrival_of source octets) q.answer q.asked late left → WorldsAlike new left
     pairs_alike p q t s =
         let both : Both (Create_session_response q.answer) (Create_bearer_request q.asked) ≡ Both (Create_session_response p.answer) (Create_bearer_request p.asked) = sym q.is ∙ p.is in
         let answer : q.answer ≡ p.answer = cc both in
@@ -444,10 +526,10 @@ module _ (u v : WorldRecord) (alike : WorldsAlike u v) (lasts : BothLast u) (las
   found_here number found = subst (λ (l : Log). IsThere l.datagrams number) (sym alike.log) found
 
   late_there : (role : Role) (d : Datagram) → IsLate (gateway_in u role) d → IsLate (gateway_in v role) d
-  late_there role d late = (late.0, subst (λ l. Among (arrival_of d.from (last_octets d.octets)) l) (half_alike u v alike role).forgotten late.1)
+  late_there role d late = (late.0, subst (λ l. Among (arrival_of d.from (last_octets d.octets)) l) (gateway_alike u v alike role).forgotten late.1)
 
   late_here : (role : Role) (d : Datagram) → IsLate (gateway_in v role) d → IsLate (gateway_in u role) d
-  late_here role d late = (late.0, subst (λ l. Among (arrival_of d.from (last_octets d.octets)) l) (sym (half_alike u v alike role).forgotten) late.1)
+  late_here role d late = (late.0, subst (λ l. Among (arrival_of d.from (last_octets d.octets)) l) (sym (gateway_alike u v alike role).forgotten) late.1)
 
   -- a delivery of a datagram that is there
   abbrev Delivered : WorldRecord → By Datagram → WorldRecord → Type 0
@@ -470,7 +552,7 @@ module _ (u v : WorldRecord) (alike : WorldsAlike u v) (lasts : BothLast u) (las
   cut_alike count sent new left (inr t) (inr s) = brings_alike sent (take count sent.what.octets) false new left t.1 s.1
 
   same_restarts : (role : Role) → (gateway_in u role).restarts ≡ (gateway_in v role).restarts
-  same_restarts role = (half_alike u v alike role).restarts
+  same_restarts role = (gateway_alike u v alike role).restarts
 
   -- what comes of an event
   pub comes_alike : (event : Event) (new left : WorldRecord) → EventLeaves u event new → EventLeaves v event left → WorldsAlike new left

@@ -7,5 +7,6 @@ pub returns : goal.returns
 returns c =
     behind c.get_mut-desk.ensures.value
     (carried_out (Release_session c.args.session) ⊥ (λ bad. bad) c.get_mut-desk.result.now c.room_for-status.new.self c.args.told.now c.room_for-status.ensures.kept
-    c.settle.new.self c.settle.new.told c.release_session-begun.new.self c.release_session-begun.result c.settle.result c.settle.ensures (has_room c.room_for-status.result (search rules) c.room_for-status.ensures.full)
+    c.settle.new.self c.settle.new.told c.release_session-begun.new.self c.release_session-begun.result c.settle.result c.settle.ensures
+    (has_room c.room_for-status.result (search rules) c.room_for-status.ensures.full)
     c.release_session-begun.ensures.done c.release_session-begun.ensures.next (always c.release_session-begun.result tt) c.release_session-begun.ensures.refused c.release_session-begun.ensures.err)

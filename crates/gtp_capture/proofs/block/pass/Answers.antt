@@ -8,7 +8,9 @@ returns-then-branch-part-clause-ok g c =
     let passed = c.loop-left.invariant.passed in
     let n = c.in_ok-fill.field-0 in
     let room : length c.fill.new.room ≡ c.min-part.result = search rules in
-    pass_short (left c.args.reader.now.inner) (left c.loop-left.reader.inner) (left c.fill.new.reader.inner) passed.0 (take n c.fill.new.room) c.loop-left.left c.args.size passed.1 passed.2 c.in_ok-fill.ensures.octets (c.in_ok-fill.ensures.end (omega (arith, c.if-branch-part.true, room))) (omega (arith, length-take-le n c.fill.new.room c.in_ok-fill.ensures.bound, c.if-branch-part.true, c.min-part.ensures))
+    pass_short (left c.args.reader.now.inner) (left c.loop-left.reader.inner) (left c.fill.new.reader.inner) passed.0 (take n c.fill.new.room)
+    c.loop-left.left c.args.size passed.1 passed.2 c.in_ok-fill.ensures.octets (c.in_ok-fill.ensures.end (omega (arith, c.if-branch-part.true, room)))
+    (omega (arith, length-take-le n c.fill.new.room c.in_ok-fill.ensures.bound, c.if-branch-part.true, c.min-part.ensures))
 
 pub loop-left-preserved : goal.loop-left-preserved
 loop-left-preserved g c =

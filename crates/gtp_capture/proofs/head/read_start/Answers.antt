@@ -8,7 +8,8 @@ returns-then-found-lt24-clause-ok g c =
     let head = c.in_ok-head.head in
     let n = c.in_ok-head.found in
     let is = c.in_ok-head.ensures in
-    start_short (left c.args.reader.now.inner) (left c.next_octets.new.reader.inner) (take n head) is.octets (is.end c.if-found-lt24.true) (omega (arith, length-take-le n head (omega (arith, is.size, is.bound)), c.if-found-lt24.true))
+    start_short (left c.args.reader.now.inner) (left c.next_octets.new.reader.inner) (take n head) is.octets (is.end c.if-found-lt24.true)
+    (omega (arith, length-take-le n head (omega (arith, is.size, is.bound)), c.if-found-lt24.true))
 
 pub returns-in-Some-clause-ok : goal.returns-in-Some-clause-ok
 returns-in-Some-clause-ok g c =
@@ -20,4 +21,5 @@ pub returns-then-four-ne-SECTION-clause-ok : goal.returns-then-four-ne-SECTION-c
 returns-then-four-ne-SECTION-clause-ok g c =
     let left = g.R.Read.remaining in
     let is = c.in_ok-head.ensures in
-    start_other (left c.args.reader.now.inner) (left c.next_octets.new.reader.inner) c.in_ok-head.head (is.whole c.if-found-lt24.false) is.size c.in-None.ensures.none (λ e. c.if-four-ne-SECTION.true (c.four.ensures ∙ e))
+    start_other (left c.args.reader.now.inner) (left c.next_octets.new.reader.inner) c.in_ok-head.head (is.whole c.if-found-lt24.false) is.size
+    c.in-None.ensures.none (λ e. c.if-four-ne-SECTION.true (c.four.ensures ∙ e))

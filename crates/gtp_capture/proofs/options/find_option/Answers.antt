@@ -10,5 +10,7 @@ loop-rest-init c = record { same = (length c.args.octets.now, omega arith, refl)
 pub loop-rest-preserved : goal.loop-rest-preserved
 loop-rest-preserved c =
     let same = c.loop-rest.invariant.same in
-    let more = other_option same.0 c.args.order c.args.code c.args.size c.loop-rest.rest.now (sym c.loop-rest-test.ensures.value) (sym c.if-is_option.ensures) (omega (arith, c.loop-rest-test.ensures.room refl)) same.1 in
+    let more =
+    other_option same.0 c.args.order c.args.code c.args.size c.loop-rest.rest.now (sym c.loop-rest-test.ensures.value) (sym c.if-is_option.ensures)
+    (omega (arith, c.loop-rest-test.ensures.room refl)) same.1 in
     record { same = (more.0, omega (arith, more.1, ap length c.behind-rest.ensures), ap (first_option more.0 c.args.order c.args.code c.args.size) c.behind-rest.ensures ∙ sym more.2 ∙ same.2) }

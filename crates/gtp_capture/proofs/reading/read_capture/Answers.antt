@@ -15,7 +15,10 @@ pub loop-init : goal.loop-init
 loop-init g c =
     let left = g.R.Read.remaining in
     record {
-      reached = begun c.args.ports g.S.Sink.takes (left c.args.reader.now.inner) (left c.read_start.new.reader.inner) c.in-Some.started (state_of c.in-Some.started.format c.new-interfaces.result.items) c.from-at.result c.args.sink.now (ap (state_of c.in-Some.started.format) c.new-interfaces.ensures.items) c.from-at.ensures
+      reached =
+          begun c.args.ports g.S.Sink.takes (left c.args.reader.now.inner) (left c.read_start.new.reader.inner) c.in-Some.started
+          (state_of c.in-Some.started.format c.new-interfaces.result.items) c.from-at.result c.args.sink.now
+          (ap (state_of c.in-Some.started.format) c.new-interfaces.ensures.items) c.from-at.ensures
           (subst (λ s. Known (HasBegun s) (left c.args.reader.now.inner) (left c.read_start.new.reader.inner)) c.in-Some.is c.in_ok-started.ensures.ok);
       taken = ([], refl);
       count = search rules;
@@ -28,14 +31,18 @@ loop-init g c =
 pub returns-in_err-found-clause-read : goal.returns-in_err-found-clause-read
 returns-in_err-found-clause-read g c =
     let left = g.R.Read.remaining in
-    stops_by c.args.ports g.S.Sink.takes g.S.Sink.refuses (left c.args.reader.now.inner) (left c.loop.reader.inner) (state_of c.loop.format c.loop.interfaces.items) c.loop.at c.loop.number c.args.sink.now c.loop.sink c.in_err-found.field-0.0 c.from_residual-in_err-found.result (ours c.in_err-found.field-0.0 c.in_err-found.ensures.err) c.loop.invariant.reached c.from_residual-in_err-found.ensures.1
+    stops_by c.args.ports g.S.Sink.takes g.S.Sink.refuses (left c.args.reader.now.inner) (left c.loop.reader.inner)
+    (state_of c.loop.format c.loop.interfaces.items) c.loop.at c.loop.number c.args.sink.now c.loop.sink c.in_err-found.field-0.0
+    c.from_residual-in_err-found.result (ours c.in_err-found.field-0.0 c.in_err-found.ensures.err) c.loop.invariant.reached
+    c.from_residual-in_err-found.ensures.1
 
 pub returns-in-End-clause-read : goal.returns-in-End-clause-read
 returns-in-End-clause-read g c =
     let left = g.R.Read.remaining in
     let state = state_of c.loop.format c.loop.interfaces.items in
     let room = c.next_step.new.room.items in
-    ends c.args.ports g.S.Sink.takes g.S.Sink.refuses (left c.args.reader.now.inner) (left c.loop.reader.inner) (left c.next_step.new.reader.inner) state c.loop.at c.loop.number (c.loop.number - 1) c.args.sink.now c.loop.sink room (omega (arith, c.loop.invariant.some)) c.loop.invariant.reached
+    ends c.args.ports g.S.Sink.takes g.S.Sink.refuses (left c.args.reader.now.inner) (left c.loop.reader.inner) (left c.next_step.new.reader.inner)
+    state c.loop.at c.loop.number (c.loop.number - 1) c.args.sink.now c.loop.sink room (omega (arith, c.loop.invariant.some)) c.loop.invariant.reached
     (subst (λ is. Steps (state_of c.loop.format is) (left c.loop.reader.inner) (left c.next_step.new.reader.inner) step.End room) c.deref.ensures.value
     (subst (λ s. Steps (state_of c.loop.format c.deref.result.now) (left c.loop.reader.inner) (left c.next_step.new.reader.inner) s room) c.in-End.is c.in_ok-found.ensures.ok))
 
@@ -44,20 +51,27 @@ returns-in-Broken-clause-read g c =
     let left = g.R.Read.remaining in
     let state = state_of c.loop.format c.loop.interfaces.items in
     let room = c.next_step.new.room.items in
-    breaks c.args.ports g.S.Sink.takes g.S.Sink.refuses (left c.args.reader.now.inner) (left c.loop.reader.inner) (left c.next_step.new.reader.inner) state c.loop.at c.loop.number c.args.sink.now c.loop.sink room c.loop.invariant.reached
+    breaks c.args.ports g.S.Sink.takes g.S.Sink.refuses (left c.args.reader.now.inner) (left c.loop.reader.inner) (left c.next_step.new.reader.inner)
+    state c.loop.at c.loop.number c.args.sink.now c.loop.sink room c.loop.invariant.reached
     (subst (λ is. Steps (state_of c.loop.format is) (left c.loop.reader.inner) (left c.next_step.new.reader.inner) step.Broken room) c.deref.ensures.value
     (subst (λ s. Steps (state_of c.loop.format c.deref.result.now) (left c.loop.reader.inner) (left c.next_step.new.reader.inner) s room) c.in-Broken.is c.in_ok-found.ensures.ok))
 
 pub returns-clause-read : goal.returns-clause-read
 returns-clause-read g c =
     let left = g.R.Read.remaining in
-    let long = known_map (λ file rest. c.loop.counter ≤ c.loop.at) (λ file rest. 2 ^ 64 - 1 ≤ c.loop.at) (left c.args.reader.now.inner) (left c.loop.reader.inner) (λ x y h. omega (arith, h, c.loop-test.false)) c.loop.invariant.long in
-    too_long c.args.ports g.S.Sink.takes g.S.Sink.refuses (left c.args.reader.now.inner) (left c.loop.reader.inner) (state_of c.loop.format c.loop.interfaces.items) c.loop.at c.loop.number c.args.sink.now c.loop.sink c.loop.invariant.reached long
+    let long =
+    known_map (λ file rest. c.loop.counter ≤ c.loop.at) (λ file rest. 2 ^ 64 - 1 ≤ c.loop.at) (left c.args.reader.now.inner)
+    (left c.loop.reader.inner) (λ x y h. omega (arith, h, c.loop-test.false)) c.loop.invariant.long in
+    too_long c.args.ports g.S.Sink.takes g.S.Sink.refuses (left c.args.reader.now.inner) (left c.loop.reader.inner)
+    (state_of c.loop.format c.loop.interfaces.items) c.loop.at c.loop.number c.args.sink.now c.loop.sink c.loop.invariant.reached long
 
 pub returns-in_err-format-clause-read : goal.returns-in_err-format-clause-read
 returns-in_err-format-clause-read g c =
     let left = g.R.Read.remaining in
-    stops_by c.args.ports g.S.Sink.takes g.S.Sink.refuses (left c.args.reader.now.inner) (left c.loop.reader.inner) (state_of c.loop.format c.loop.interfaces.items) c.loop.at c.loop.number c.args.sink.now c.loop.sink c.in_err-format.field-0.0 c.from_residual-in_err-format.result (ours c.in_err-format.field-0.0 (inr c.in_err-format.ensures.err)) c.loop.invariant.reached c.from_residual-in_err-format.ensures.1
+    stops_by c.args.ports g.S.Sink.takes g.S.Sink.refuses (left c.args.reader.now.inner) (left c.loop.reader.inner)
+    (state_of c.loop.format c.loop.interfaces.items) c.loop.at c.loop.number c.args.sink.now c.loop.sink c.in_err-format.field-0.0
+    c.from_residual-in_err-format.result (ours c.in_err-format.field-0.0 (inr c.in_err-format.ensures.err)) c.loop.invariant.reached
+    c.from_residual-in_err-format.ensures.1
 
 pub returns-in_err-number-clause-read : goal.returns-in_err-number-clause-read
 returns-in_err-number-clause-read g c =
@@ -69,8 +83,12 @@ returns-in_err-number-clause-read g c =
     let steps : Steps state (left c.loop.reader.inner) (left c.next_step.new.reader.inner) (step.Found f) room =
     subst (λ is. Steps (state_of c.loop.format is) (left c.loop.reader.inner) (left c.next_step.new.reader.inner) (step.Found f) room) c.deref.ensures.value
     (subst (λ s. Steps (state_of c.loop.format c.deref.result.now) (left c.loop.reader.inner) (left c.next_step.new.reader.inner) s room) c.in-Found.is c.in_ok-found.ensures.ok) in
-    refused_by c.args.ports g.S.Sink.takes g.S.Sink.refuses (left c.args.reader.now.inner) (left c.loop.reader.inner) (left c.next_step.new.reader.inner) state c.loop.at c.loop.number c.args.sink.now c.loop.sink c.hand_on_piece.new.sink f room stop c.from_residual-in_err-number.result c.loop.invariant.reached steps
-    (subst (λ l. (stop ≡ Refused) × (h : Frame) × (piece_of f.item l ≡ Holds h) × RefusesNext g.S.Sink.refuses c.loop.sink (seen_in c.args.ports c.loop.number h) c.hand_on_piece.new.sink) c.deref-in-loop.ensures.value c.in_err-number.ensures.err)
+    refused_by c.args.ports g.S.Sink.takes g.S.Sink.refuses (left c.args.reader.now.inner) (left c.loop.reader.inner)
+    (left c.next_step.new.reader.inner) state c.loop.at c.loop.number c.args.sink.now c.loop.sink c.hand_on_piece.new.sink f room stop
+    c.from_residual-in_err-number.result c.loop.invariant.reached steps
+    (subst (λ l. (stop ≡ Refused) × (h : Frame) × (piece_of f.item l ≡ Holds h)
+    × RefusesNext g.S.Sink.refuses c.loop.sink (seen_in c.args.ports c.loop.number h) c.hand_on_piece.new.sink) c.deref-in-loop.ensures.value
+    c.in_err-number.ensures.err)
     c.from_residual-in_err-number.ensures.1
 
 pub returns-in-None-clause-read : goal.returns-in-None-clause-read
@@ -85,11 +103,16 @@ returns-in-None-clause-read g c =
     subst (λ is. Steps (state_of c.loop.format is) (left c.loop.reader.inner) (left c.next_step.new.reader.inner) (step.Found f) room) c.deref.ensures.value
     (subst (λ s. Steps (state_of c.loop.format c.deref.result.now) (left c.loop.reader.inner) (left c.next_step.new.reader.inner) s room) c.in-Found.is c.in_ok-found.ensures.ok) in
     too_long c.args.ports g.S.Sink.takes g.S.Sink.refuses (left c.args.reader.now.inner) (left c.next_step.new.reader.inner) later (c.loop.at + f.size) next c.args.sink.now c.hand_on_piece.new.sink
-    (goes_on c.args.ports g.S.Sink.takes (left c.args.reader.now.inner) (left c.loop.reader.inner) (left c.next_step.new.reader.inner) state later c.loop.at c.loop.number (c.loop.at + f.size) next c.args.sink.now c.loop.sink c.hand_on_piece.new.sink f room c.loop.invariant.reached steps (c.in_ok-format.ensures.ok room)
-    (subst (λ l. Takes g.S.Sink.takes c.loop.sink (datagrams c.args.ports c.loop.number (frame_in (piece_of f.item l))) c.hand_on_piece.new.sink) c.deref-in-loop.ensures.value c.in_ok-number.ensures.ok)
+    (goes_on c.args.ports g.S.Sink.takes (left c.args.reader.now.inner) (left c.loop.reader.inner) (left c.next_step.new.reader.inner) state later
+    c.loop.at c.loop.number (c.loop.at + f.size) next c.args.sink.now c.loop.sink c.hand_on_piece.new.sink f room c.loop.invariant.reached steps
+    (c.in_ok-format.ensures.ok room)
+    (subst (λ l. Takes g.S.Sink.takes c.loop.sink (datagrams c.args.ports c.loop.number (frame_in (piece_of f.item l))) c.hand_on_piece.new.sink)
+    c.deref-in-loop.ensures.value c.in_ok-number.ensures.ok)
     refl (subst (λ l. next ≡ c.loop.number + length (frame_in (piece_of f.item l))) c.deref-in-loop.ensures.value c.in_ok-number.ensures.count))
-    (known_map (λ file rest. c.loop.counter + 1 ≤ c.loop.at + f.size) (λ file rest. 2 ^ 64 - 1 ≤ c.loop.at + f.size) (left c.args.reader.now.inner) (left c.next_step.new.reader.inner) (λ x y h. omega (arith, c.in-None.ensures, c.from.ensures))
-    (goes_long (left c.args.reader.now.inner) (left c.loop.reader.inner) (left c.next_step.new.reader.inner) state c.loop.at c.loop.counter (c.loop.at + f.size) (c.loop.counter + 1) f room c.loop.invariant.long steps refl refl))
+    (known_map (λ file rest. c.loop.counter + 1 ≤ c.loop.at + f.size) (λ file rest. 2 ^ 64 - 1 ≤ c.loop.at + f.size) (left c.args.reader.now.inner)
+    (left c.next_step.new.reader.inner) (λ x y h. omega (arith, c.in-None.ensures, c.from.ensures))
+    (goes_long (left c.args.reader.now.inner) (left c.loop.reader.inner) (left c.next_step.new.reader.inner) state c.loop.at c.loop.counter
+    (c.loop.at + f.size) (c.loop.counter + 1) f room c.loop.invariant.long steps refl refl))
 
 frames_few : (i : Item) (room : List ℕ) → length (frame_in (piece_of i room)) ≤ 1
 frames_few (item.Frame h) room = omega arith
@@ -110,15 +133,27 @@ loop-preserved g c =
     subst (λ is. Steps (state_of c.loop.format is) (left c.loop.reader.inner) (left c.next_step.new.reader.inner) (step.Found f) room) c.deref.ensures.value
     (subst (λ s. Steps (state_of c.loop.format c.deref.result.now) (left c.loop.reader.inner) (left c.next_step.new.reader.inner) s room) c.in-Found.is c.in_ok-found.ensures.ok) in
     record {
-      reached = goes_on c.args.ports g.S.Sink.takes (left c.args.reader.now.inner) (left c.loop.reader.inner) (left c.next_step.new.reader.inner) state later c.loop.at c.loop.number c.in-Some-checked_add.at next c.args.sink.now c.loop.sink c.hand_on_piece.new.sink f room c.loop.invariant.reached steps (c.in_ok-format.ensures.ok room)
-          (subst (λ l. Takes g.S.Sink.takes c.loop.sink (datagrams c.args.ports c.loop.number (frame_in (piece_of f.item l))) c.hand_on_piece.new.sink) c.deref-in-loop.ensures.value c.in_ok-number.ensures.ok)
+      reached =
+          goes_on c.args.ports g.S.Sink.takes (left c.args.reader.now.inner) (left c.loop.reader.inner) (left c.next_step.new.reader.inner) state
+          later c.loop.at c.loop.number c.in-Some-checked_add.at next c.args.sink.now c.loop.sink c.hand_on_piece.new.sink f room
+          c.loop.invariant.reached steps (c.in_ok-format.ensures.ok room)
+          (subst
+          (λ l. Takes g.S.Sink.takes c.loop.sink (datagrams c.args.ports c.loop.number (frame_in (piece_of f.item l))) c.hand_on_piece.new.sink)
+          c.deref-in-loop.ensures.value c.in_ok-number.ensures.ok)
           (omega (arith, c.in-Some-checked_add.ensures.1, c.from.ensures)) counted;
       taken = (_, takes_more g.S.Sink.takes c.args.sink.now c.loop.invariant.taken.0 c.loop.sink _ c.hand_on_piece.new.sink c.loop.invariant.taken.1 c.in_ok-number.ensures.ok);
       count = search rules;
       few = omega (arith, counted, frames_few f.item room, c.loop.invariant.few);
       some = omega (arith, counted, c.loop.invariant.some);
-      long = goes_long (left c.args.reader.now.inner) (left c.loop.reader.inner) (left c.next_step.new.reader.inner) state c.loop.at c.loop.counter c.in-Some-checked_add.at (c.loop.counter + 1) f room c.loop.invariant.long steps (omega (arith, c.in-Some-checked_add.ensures.1, c.from.ensures)) refl;
+      long =
+          goes_long (left c.args.reader.now.inner) (left c.loop.reader.inner) (left c.next_step.new.reader.inner) state c.loop.at c.loop.counter
+          c.in-Some-checked_add.at (c.loop.counter + 1) f room c.loop.invariant.long steps
+          (omega (arith, c.in-Some-checked_add.ensures.1, c.from.ensures)) refl;
     }
 
 pub returns-in-None-clause-taken : goal.returns-in-None-clause-taken
-returns-in-None-clause-taken g c other = (_, takes_more g.S.Sink.takes c.args.sink.now c.loop.invariant.taken.0 c.loop.sink _ c.hand_on_piece.new.sink c.loop.invariant.taken.1 c.in_ok-number.ensures.ok)
+returns-in-None-clause-taken g c other = (
+  _,
+  takes_more g.S.Sink.takes c.args.sink.now c.loop.invariant.taken.0 c.loop.sink _ c.hand_on_piece.new.sink c.loop.invariant.taken.1
+      c.in_ok-number.ensures.ok,
+)

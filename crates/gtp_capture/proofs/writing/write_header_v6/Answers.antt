@@ -11,6 +11,7 @@ returns c =
     let from = c.args.from in
     let to = c.args.to in
     on_ok_weaker c.put-3.result
-    (λ last. three c.args.out.now.items c.put.new.out.items c.put-2.new.out.items c.put-3.new.out.items c.front_of_v6.result from to (header_v6 d from to) c.in_ok-put.ensures c.in_ok-put-2.ensures last
+    (λ last. three c.args.out.now.items c.put.new.out.items c.put-2.new.out.items c.put-3.new.out.items c.front_of_v6.result from to
+    (header_v6 d from to) c.in_ok-put.ensures c.in_ok-put-2.ensures last
     (ap (λ l. l ++ (from ++ to)) (c.front_of_v6.ensures ∙ ap front_v6 (omega (arith, c.requires)))))
     c.put-3.ensures

@@ -16,7 +16,8 @@ returns c =
     (λ last. (
       packet,
       subst (λ e. IsPacket e d packet) (sym c.requires.ends) (header.0, header.1, refl),
-      three c.args.out.now.items c.put.new.out.items c.write_header_v4.new.out.items c.write_udp.new.out.items c.head_of_record.result (header_v4 header.0 d from to) (udp_octets 0 d) (record_head d (length packet) ++ packet) c.in_ok-put.ensures header.2 last
+      three c.args.out.now.items c.put.new.out.items c.write_header_v4.new.out.items c.write_udp.new.out.items c.head_of_record.result
+          (header_v4 header.0 d from to) (udp_octets 0 d) (record_head d (length packet) ++ packet) c.in_ok-put.ensures header.2 last
           (ap (λ l. l ++ packet) (c.head_of_record.ensures ∙ ap (record_head d) (omega (arith, size, c.requires.size)))),
     ))
     c.write_udp.ensures

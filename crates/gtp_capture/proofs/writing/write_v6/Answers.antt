@@ -16,7 +16,8 @@ returns c =
     (λ last. (
       packet,
       subst (λ e. IsPacket e d packet) (sym c.requires.ends) (sum, c.checksum_v6.ensures, refl),
-      three c.args.out.now.items c.put.new.out.items c.write_header_v6.new.out.items c.write_udp.new.out.items c.head_of_record.result (header_v6 d from to) (udp_octets sum d) (record_head d (length packet) ++ packet) c.in_ok-put.ensures c.in_ok-write_header_v6.ensures last
+      three c.args.out.now.items c.put.new.out.items c.write_header_v6.new.out.items c.write_udp.new.out.items c.head_of_record.result
+          (header_v6 d from to) (udp_octets sum d) (record_head d (length packet) ++ packet) c.in_ok-put.ensures c.in_ok-write_header_v6.ensures last
           (ap (λ l. l ++ packet) (c.head_of_record.ensures ∙ ap (record_head d) (omega (arith, size, c.requires.size)))),
     ))
     c.write_udp.ensures

@@ -9,7 +9,8 @@ use Rattle.gtp_capture.specs.declared.fault.Stop.{Stop}
 use Rattle.gtp_capture.specs.declared.fault.Stop.TheVariants.{TooLong, Memory, Read, Refused}
 use Rattle.gtp_commands.specs.declared.command.Failure.{Failure}
 use Rattle.gtp_commands.specs.declared.command.Failure.TheVariants as failures
-use Rattle.gtp_commands.proofs.FramesShown.{Refusal, frames_shown, broken_shown, first_shown, first_refused, long_refused, next_shown, noted_as, refusal, refusal_first, refusal_else, refusal_stops, same_failure, took_all}
+use Rattle.gtp_commands.proofs.FramesShown.{Refusal, frames_shown, broken_shown, first_shown, first_refused, long_refused, next_shown, noted_as}
+use Rattle.gtp_commands.proofs.FramesShown.{refusal, refusal_first, refusal_else, refusal_stops, same_failure, took_all}
 use Rattle.gtp_commands.proofs.capturing.frames_from.Goals as goal
 
 pub returns-in-Ok-clause-shown : goal.returns-in-Ok-clause-shown
@@ -20,10 +21,13 @@ returns-in-Ok-clause-shown g c =
 pub returns-in-Err-Broken-clause-broken : goal.returns-in-Err-Broken-clause-broken
 returns-in-Err-Broken-clause-broken g c at same =
     let place : c.in-Err-Broken.at ≡ at = cc in
-    subst (λ n. IfSome (g.I.Read.remaining c.args.reader.now.inner) (λ file. IsBrokenShown c.args.writer.now.asked c.args.ports file (g.W.Write.contents c.args.writer.now.out.inner) (g.W.Write.contents c.read_capture.new.sink.out.inner) n)) place
+    subst (λ n. IfSome (g.I.Read.remaining c.args.reader.now.inner)
+    (λ file. IsBrokenShown c.args.writer.now.asked c.args.ports file (g.W.Write.contents c.args.writer.now.out.inner)
+    (g.W.Write.contents c.read_capture.new.sink.out.inner) n)) place
     (IfSome_then (g.I.Read.remaining c.args.reader.now.inner) c.in-Err-Broken.ensures.read (λ file is.
     broken_shown g.W.Write.contents c.args.ports file c.args.writer.now c.read_capture.new.sink c.in-Err-Broken.at c.requires.counts
-    (subst (λ (fault : CaptureFault). IsRead c.args.ports (TakesFrame g.W.Write.contents) (RefusesFrame g.W.Write.contents) file c.args.writer.now c.read_capture.new.sink (Err fault)) c.in-Err-Broken.field-0-is is)))
+    (subst (λ (fault : CaptureFault). IsRead c.args.ports (TakesFrame g.W.Write.contents) (RefusesFrame g.W.Write.contents) file c.args.writer.now
+    c.read_capture.new.sink (Err fault)) c.in-Err-Broken.field-0-is is)))
 
 pub returns-in-Err-Stopped-Memory-clause-first : goal.returns-in-Err-Stopped-Memory-clause-first
 returns-in-Err-Stopped-Memory-clause-first g c any =
@@ -87,27 +91,51 @@ returns-in-Ok-clause-writes g c =
 pub returns-in-Err-NoCapture-clause-writes : goal.returns-in-Err-NoCapture-clause-writes
 returns-in-Err-NoCapture-clause-writes g c =
     let is = c.in-Err-NoCapture.field-0-is in
-    record { write = search rules; closed = search rules; otherwise = λ unwritten unclosed. took_all g.W.Write.contents c.args.writer.now c.read_capture.new.sink (c.in-Err-NoCapture.ensures.taken (λ e. cc)) }
+    record {
+      write = search rules;
+      closed = search rules;
+      otherwise =
+          λ unwritten unclosed. took_all g.W.Write.contents c.args.writer.now c.read_capture.new.sink (c.in-Err-NoCapture.ensures.taken (λ e. cc));
+    }
 
 pub returns-in-Err-Broken-clause-writes : goal.returns-in-Err-Broken-clause-writes
 returns-in-Err-Broken-clause-writes g c =
     let is = c.in-Err-Broken.field-0-is in
-    record { write = search rules; closed = search rules; otherwise = λ unwritten unclosed. took_all g.W.Write.contents c.args.writer.now c.read_capture.new.sink (c.in-Err-Broken.ensures.taken (λ e. cc)) }
+    record {
+      write = search rules;
+      closed = search rules;
+      otherwise = λ unwritten unclosed. took_all g.W.Write.contents c.args.writer.now c.read_capture.new.sink (c.in-Err-Broken.ensures.taken (λ e. cc));
+    }
 
 pub returns-in-Err-Stopped-Memory-clause-writes : goal.returns-in-Err-Stopped-Memory-clause-writes
 returns-in-Err-Stopped-Memory-clause-writes g c =
     let is = c.in-Err-Stopped-Memory.field-0-is in
     let stop = c.in-Err-Stopped-Memory.field-0-0-is in
-    record { write = search rules; closed = search rules; otherwise = λ unwritten unclosed. took_all g.W.Write.contents c.args.writer.now c.read_capture.new.sink (c.in-Err-Stopped-Memory.ensures.taken (λ e. cc)) }
+    record {
+      write = search rules;
+      closed = search rules;
+      otherwise =
+          λ unwritten unclosed. took_all g.W.Write.contents c.args.writer.now c.read_capture.new.sink (c.in-Err-Stopped-Memory.ensures.taken (λ e. cc));
+    }
 
 pub returns-in-Err-Stopped-Read-clause-writes : goal.returns-in-Err-Stopped-Read-clause-writes
 returns-in-Err-Stopped-Read-clause-writes g c =
     let is = c.in-Err-Stopped-Read.field-0-is in
     let stop = c.in-Err-Stopped-Read.field-0-0-is in
-    record { write = search rules; closed = search rules; otherwise = λ unwritten unclosed. took_all g.W.Write.contents c.args.writer.now c.read_capture.new.sink (c.in-Err-Stopped-Read.ensures.taken (λ e. cc)) }
+    record {
+      write = search rules;
+      closed = search rules;
+      otherwise =
+          λ unwritten unclosed. took_all g.W.Write.contents c.args.writer.now c.read_capture.new.sink (c.in-Err-Stopped-Read.ensures.taken (λ e. cc));
+    }
 
 pub returns-in-Err-Stopped-TooLong-clause-writes : goal.returns-in-Err-Stopped-TooLong-clause-writes
 returns-in-Err-Stopped-TooLong-clause-writes g c =
     let is = c.in-Err-Stopped-TooLong.field-0-is in
     let stop = c.in-Err-Stopped-TooLong.field-0-0-is in
-    record { write = search rules; closed = search rules; otherwise = λ unwritten unclosed. took_all g.W.Write.contents c.args.writer.now c.read_capture.new.sink (c.in-Err-Stopped-TooLong.ensures.taken (λ e. cc)) }
+    record {
+      write = search rules;
+      closed = search rules;
+      otherwise =
+          λ unwritten unclosed. took_all g.W.Write.contents c.args.writer.now c.read_capture.new.sink (c.in-Err-Stopped-TooLong.ensures.taken (λ e. cc));
+    }

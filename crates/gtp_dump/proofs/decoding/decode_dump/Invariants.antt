@@ -6,7 +6,8 @@ use Rattle.gtp_dump.proofs.decoding.decode_dump.Given as goal
 
 abbrev pub invariant-loop : goal.invariant-loop
 invariant-loop g l = record {
-  goes : Goes l.asked (g.R.Read.remaining l.fn.reader.inner) (g.R.Read.remaining l.reader.inner) Any l.progress (g.W.Write.contents l.fn.out.inner) (g.W.Write.contents l.out.inner) (g.E.Write.contents l.fn.err.inner) (g.E.Write.contents l.err.inner);
+  goes : Goes l.asked (g.R.Read.remaining l.fn.reader.inner) (g.R.Read.remaining l.reader.inner) Any l.progress (g.W.Write.contents l.fn.out.inner)
+      (g.W.Write.contents l.out.inner) (g.E.Write.contents l.fn.err.inner) (g.E.Write.contents l.err.inner);
   lasts : Lasts l.counter (g.R.Read.remaining l.fn.reader.inner) (g.R.Read.remaining l.reader.inner);
   reads : l.reader.failures ≡ l.fn.reader.failures;
   writes : l.out.failures ≡ l.fn.out.failures;

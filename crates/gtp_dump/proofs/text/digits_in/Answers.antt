@@ -4,7 +4,11 @@ use Rattle.gtp_dump.proofs.Walk.{at_digit, onto}
 use Rattle.gtp_dump.proofs.text.digits_in.Goals as goal
 
 pub loop-first-init : goal.loop-first-init
-loop-first-init c = record { digits = ap (λ (l : List ℕ). l ++ at_digit taken c.from_digit-rest.result.now) c.in_ok-digits.ensures.items ∙ onto taken c.args.text.now _ c.from_digit-rest.ensures.value }
+loop-first-init c =
+    record {
+      digits = ap (λ (l : List ℕ). l ++ at_digit taken c.from_digit-rest.result.now) c.in_ok-digits.ensures.items
+          ∙ onto taken c.args.text.now _ c.from_digit-rest.ensures.value;
+    }
 
 pub loop-first-preserved : goal.loop-first-preserved
 loop-first-preserved c =

@@ -10,13 +10,28 @@ loop-first-preserved-then-begins_prefix c =
     record { digit = ap from_digit c.split_at.ensures.back ∙ passed; within = search rules }
 
 pub returns-then-first-eq35 : goal.returns-then-first-eq35
-returns-then-first-eq35 c = record { value = ends_at_comment _ _ c.in-Some.first.now c.in-Some.after.now c.loop-first.invariant.digit c.in-Some.ensures.cases.0 (search rules) (search rules); within = search rules }
+returns-then-first-eq35 c =
+    record {
+      value =
+          ends_at_comment _ _ c.in-Some.first.now c.in-Some.after.now c.loop-first.invariant.digit c.in-Some.ensures.cases.0 (search rules) (search rules);
+      within = search rules;
+    }
 
 pub returns-then-not-is_between : goal.returns-then-not-is_between
-returns-then-not-is_between c = record { value = stops _ _ c.in-Some.first.now c.in-Some.after.now c.loop-first.invariant.digit c.in-Some.ensures.cases.0 (search rules) (search rules) (search rules); within = search rules }
+returns-then-not-is_between c =
+    record {
+      value = stops _ _ c.in-Some.first.now c.in-Some.after.now c.loop-first.invariant.digit c.in-Some.ensures.cases.0 (search rules) (search rules)
+          (search rules);
+      within = search rules;
+    }
 
 pub loop-first-preserved : goal.loop-first-preserved
-loop-first-preserved c = record { digit = passes _ _ c.in-Some.first.now c.in-Some.after.now c.loop-first.invariant.digit c.in-Some.ensures.cases.0 (search rules) (search rules) (search rules); within = search rules }
+loop-first-preserved c =
+    record {
+      digit = passes _ _ c.in-Some.first.now c.in-Some.after.now c.loop-first.invariant.digit c.in-Some.ensures.cases.0 (search rules) (search rules)
+          (search rules);
+      within = search rules;
+    }
 
 pub returns : goal.returns
 returns c = record { value = ends _ _ c.loop-first.invariant.digit (nil_from_length _ c.in_default.ensures.cases); within = search rules }

@@ -9,4 +9,6 @@ returns-in-Err-clause-none c = λ place. no_second_fault c.args.octets.now c.in-
 pub returns-clause-some : goal.returns-clause-some
 returns-clause-some c =
     let view = c.in-Ok.view in
-    second_there c.args.octets.now view.message view.second view.back _ c.in-Ok.ensures.lie (ap is_some (sym c.second.ensures) ∙ (c.is_none.ensures ∙ ap not c.if-is_none.false)) (ap (λ back. length c.args.octets.now - length back) c.back.ensures)
+    second_there c.args.octets.now view.message view.second view.back _ c.in-Ok.ensures.lie
+    (ap is_some (sym c.second.ensures) ∙ (c.is_none.ensures ∙ ap not c.if-is_none.false))
+    (ap (λ back. length c.args.octets.now - length back) c.back.ensures)

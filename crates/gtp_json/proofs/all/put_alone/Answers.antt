@@ -6,4 +6,11 @@ use Rattle.gtp_json.proofs.Tokens.{none_written}
 use Rattle.gtp_json.proofs.all.put_alone.Goals as goal
 
 pub returns-in-None : goal.returns-in-None
-returns-in-None c = record { ok = ([], subst (λ (h : Option Headed). AloneShown c.args.places h []) (sym (ap (option_map headed_of) c.in-None.is) ∙ c.head_at.ensures) refl, none_written c.args.out.now) }
+returns-in-None c =
+    record {
+      ok = (
+        [],
+        subst (λ (h : Option Headed). AloneShown c.args.places h []) (sym (ap (option_map headed_of) c.in-None.is) ∙ c.head_at.ensures) refl,
+        none_written c.args.out.now,
+      );
+    }

@@ -16,5 +16,10 @@ returns c =
     let first : List (List ℕ × Json) = header_members h.kind h.teid h.seq h.priority in
     let list : List (List ℕ × Json) = elements_members c.args.places found.0 ++ rest_members found.1.now in
     record {
-      ok = (first ++ list, (found.0, found.1.now, front, refl), twice c.args.out.now c.put_head_members.new.out c.put_list.new.out first list c.in_ok-put_head_members.ensures.ok c.in_ok-put_list.ensures.ok);
+      ok = (
+        first ++ list,
+        (found.0, found.1.now, front, refl),
+        twice c.args.out.now c.put_head_members.new.out c.put_list.new.out first list c.in_ok-put_head_members.ensures.ok
+            c.in_ok-put_list.ensures.ok,
+      );
     }

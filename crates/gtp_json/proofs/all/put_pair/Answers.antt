@@ -12,6 +12,7 @@ returns c =
         first.0 ++ second_member second.0,
         (first.0, second.0, first.1, second.1, refl),
         twice c.args.out.now c.put_message.new.out c.end_object.new.self first.0 (second_member second.0) first.2
-            (nested (codes "second") second.0 c.put_message.new.out c.key.new.self c.begin_object.new.self c.put_second.new.out c.end_object.new.self c.in_ok-key.ensures.ok c.in_ok-begin_object.ensures.ok second.2 c.in_ok-end_object.ensures.ok),
+            (nested (codes "second") second.0 c.put_message.new.out c.key.new.self c.begin_object.new.self c.put_second.new.out c.end_object.new.self
+            c.in_ok-key.ensures.ok c.in_ok-begin_object.ensures.ok second.2 c.in_ok-end_object.ensures.ok),
       );
     }

@@ -18,5 +18,8 @@ returns-in_ok-put_fault-in-Err c =
     let before = c.in_ok-put_before-in-Err.ensures.ok in
     let told = λ (places : Bool). user_members_at places c.in-Err.fault in
     let fault = told (has_places c.args.members) in
-    let is = subst (λ places. c.put_fault.new.out ≡ c.put_before.new.out ++ written (fault_member (told places))) c.has_places.ensures c.in_ok-put_fault-in-Err.ensures.ok in
-    (before.0 ++ fault_member fault, (c.in-Err.fault, c.in-Err.ensures.fault, (before.0, before.1, refl)), twice c.args.out.now c.put_before.new.out c.put_fault.new.out before.0 (fault_member fault) before.2 is)
+    let is = subst (λ places. c.put_fault.new.out ≡ c.put_before.new.out ++ written (fault_member (told places))) c.has_places.ensures c.in_ok-put_fault-in-Err.ensures.ok in (
+      before.0 ++ fault_member fault,
+      (c.in-Err.fault, c.in-Err.ensures.fault, (before.0, before.1, refl)),
+      twice c.args.out.now c.put_before.new.out c.put_fault.new.out before.0 (fault_member fault) before.2 is,
+    )

@@ -11,5 +11,7 @@ returns c =
     let first = member (codes "preemption_capability") (number_of (bit q.pci)) in
     let last = member (codes "preemption_vulnerability") (number_of (bit q.pvi)) in
     record {
-      ok = thrice c.args.out.now c.put_bit.new.out c.put_level.new.out c.put_bit-2.new.out first (level_member q) last c.in_ok-put_bit.ensures.ok c.in_ok-put_level.ensures.ok c.in_ok-put_bit-2.ensures.ok;
+      ok =
+          thrice c.args.out.now c.put_bit.new.out c.put_level.new.out c.put_bit-2.new.out first (level_member q) last c.in_ok-put_bit.ensures.ok
+          c.in_ok-put_level.ensures.ok c.in_ok-put_bit-2.ensures.ok;
     }

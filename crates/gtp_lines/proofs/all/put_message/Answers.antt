@@ -16,5 +16,10 @@ returns c =
     let first : List ℕ = first_line head.kind head.teid head.seq head.priority in
     let list : List ℕ = flat_map (element_lines Worded) found.0 ++ rest_line found.1.now in
     record {
-      ok = (first ++ list, (found.0, found.1.now, front, refl), twice c.args.out.now.items c.put_first_line.new.out.items c.put_list.new.out.items first list c.in_ok-put_first_line.ensures.ok c.in_ok-put_list.ensures.ok);
+      ok = (
+        first ++ list,
+        (found.0, found.1.now, front, refl),
+        twice c.args.out.now.items c.put_first_line.new.out.items c.put_list.new.out.items first list c.in_ok-put_first_line.ensures.ok
+            c.in_ok-put_list.ensures.ok,
+      );
     }

@@ -1,5 +1,7 @@
 -- Each law is proved of all runs in `Safety`.
-use Rattle.gtp_machine.proofs.Worlds.Safety.{always_of_datagrams, always_one_message, always_planes_apart, always_goes_back, always_names_back, always_none_ahead, always_known, always_opened, always_closes_whole, always_made_once, always_once, always_answered_by_taker}
+use Rattle.gtp_machine.proofs.Worlds.Safety.{always_of_datagrams, always_one_message, always_planes_apart, always_goes_back, always_names_back}
+use Rattle.gtp_machine.proofs.Worlds.Safety.{always_none_ahead, always_known, always_opened, always_closes_whole, always_made_once, always_once}
+use Rattle.gtp_machine.proofs.Worlds.Safety.{always_answered_by_taker}
 use Rattle.gtp_machine.proofs.Worlds.Answering.{each_response}
 use Rattle.gtp_machine.proofs.laws.foundations.Goals as goal
 

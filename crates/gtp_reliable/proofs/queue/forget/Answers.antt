@@ -10,7 +10,8 @@ unreachable-requires c =
     let ps = c.args.pairs.now.items in
     let front = asked c.index-front.result.now in
     let gap : IsGap c.args.first.now c.args.index.now.items (questions ps) front c.in_default.field-0 = search rules in
-    not_held c.args.first.now c.args.index.now.items (questions ps) front c.in_default.field-0 c.requires.indexed gap 0 (omega (arith, same_count ps, c.requires.some)) (question_of_pair ps 0 c.index-front.result.now c.requires.some c.index-front.ensures)
+    not_held c.args.first.now c.args.index.now.items (questions ps) front c.in_default.field-0 c.requires.indexed gap 0
+    (omega (arith, same_count ps, c.requires.some)) (question_of_pair ps 0 c.index-front.result.now c.requires.some c.index-front.ensures)
 
 pub returns-clause-indexed : goal.returns-clause-indexed
 returns-clause-indexed c =
@@ -19,4 +20,5 @@ returns-clause-indexed c =
     let cut : c.remove.new.self.items ≡ remove c.args.index.now.items c.in-Ok.at = search rules in
     let rest : c.pop_front.new.self.items ≡ drop 1 ps = search rules in
     let has : IsNamed c.args.first.now c.args.index.now.items (questions ps) front c.in-Ok.at = search rules in
-    rw (cut, rest) (popped_pair c.args.first.now c.args.index.now.items ps c.requires.some c.requires.indexed (omega arith) c.in-Ok.at has.0 (has.1 ∙ sym (question_of_pair ps 0 c.index-front.result.now c.requires.some c.index-front.ensures)))
+    rw (cut, rest) (popped_pair c.args.first.now c.args.index.now.items ps c.requires.some c.requires.indexed (omega arith) c.in-Ok.at has.0
+    (has.1 ∙ sym (question_of_pair ps 0 c.index-front.result.now c.requires.some c.index-front.ensures)))

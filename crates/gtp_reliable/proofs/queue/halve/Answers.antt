@@ -16,7 +16,9 @@ loop-low-preserved-in-Less c =
     let middle = c.loop-low.low + (c.loop-low.high - c.loop-low.low) / 2 in
     let within : middle < length c.args.index.now = omega (arith, c.loop-low-test.true, inv.low, inv.high) in
     let at : c.place_of.result < length c.args.pairs.now.items = omega (arith, c.place_of.ensures, same_count c.args.pairs.now.items, c.requires.indexed.names middle 0 within) in
-    let name : named_at c.args.first c.args.index.now qs middle ≡ asked c.index-pair.result.now = named_is c.args.first c.args.index.now c.args.pairs.now.items middle c.place_of.result c.index-pair.result.now c.place_of.ensures at c.index-pair.ensures in
+    let name : named_at c.args.first c.args.index.now qs middle ≡ asked c.index-pair.result.now =
+    named_is c.args.first c.args.index.now c.args.pairs.now.items middle c.place_of.result c.index-pair.result.now c.place_of.ensures at
+    c.index-pair.ensures in
     let less : question_cmp (named_at c.args.first c.args.index.now qs middle) q ≡ Less = ap (λ (k : Question). question_cmp k q) name ∙ (sym c.compare.ensures ∙ c.in-Less.is) in
     let some : 0 < 13 - c.loop-low.compared = one_left (13 - c.loop-low.compared) (c.loop-low.high - c.loop-low.low) (omega (arith, c.loop-low-test.true)) inv.left in
     record {
@@ -25,7 +27,10 @@ loop-low-preserved-in-Less c =
       lower = below_lower c.args.first c.args.index.now qs c.requires.indexed.order q middle within less;
       higher = inv.higher;
       most = omega (arith, some);
-      left = let e : 13 - (c.loop-low.compared + 1) ≡ 13 - c.loop-low.compared - 1 = omega (arith, some) in rw e (half_left (13 - c.loop-low.compared) (c.loop-low.high - c.loop-low.low) _ (omega (arith, c.loop-low-test.true)) inv.left (omega (arith, c.loop-low-test.true)));
+      left =
+          let e : 13 - (c.loop-low.compared + 1) ≡ 13 - c.loop-low.compared - 1 = omega (arith, some) in
+          rw e (half_left (13 - c.loop-low.compared) (c.loop-low.high - c.loop-low.low) _ (omega (arith, c.loop-low-test.true)) inv.left
+          (omega (arith, c.loop-low-test.true)));
     }
 
 pub returns-in-Equal-clause-found : goal.returns-in-Equal-clause-found
@@ -36,7 +41,9 @@ returns-in-Equal-clause-found c =
     let middle = c.loop-low.low + (c.loop-low.high - c.loop-low.low) / 2 in
     let within : middle < length c.args.index.now = omega (arith, c.loop-low-test.true, inv.low, inv.high) in
     let at : c.place_of.result < length c.args.pairs.now.items = omega (arith, c.place_of.ensures, same_count c.args.pairs.now.items, c.requires.indexed.names middle 0 within) in
-    let name : named_at c.args.first c.args.index.now qs middle ≡ asked c.index-pair.result.now = named_is c.args.first c.args.index.now c.args.pairs.now.items middle c.place_of.result c.index-pair.result.now c.place_of.ensures at c.index-pair.ensures in
+    let name : named_at c.args.first c.args.index.now qs middle ≡ asked c.index-pair.result.now =
+    named_is c.args.first c.args.index.now c.args.pairs.now.items middle c.place_of.result c.index-pair.result.now c.place_of.ensures at
+    c.index-pair.ensures in
     (within, name ∙ question_exact (asked c.index-pair.result.now) q (sym c.compare.ensures ∙ c.in-Equal.is))
 
 pub loop-low-preserved : goal.loop-low-preserved
@@ -47,7 +54,9 @@ loop-low-preserved c =
     let middle = c.loop-low.low + (c.loop-low.high - c.loop-low.low) / 2 in
     let within : middle < length c.args.index.now = omega (arith, c.loop-low-test.true, inv.low, inv.high) in
     let at : c.place_of.result < length c.args.pairs.now.items = omega (arith, c.place_of.ensures, same_count c.args.pairs.now.items, c.requires.indexed.names middle 0 within) in
-    let name : named_at c.args.first c.args.index.now qs middle ≡ asked c.index-pair.result.now = named_is c.args.first c.args.index.now c.args.pairs.now.items middle c.place_of.result c.index-pair.result.now c.place_of.ensures at c.index-pair.ensures in
+    let name : named_at c.args.first c.args.index.now qs middle ≡ asked c.index-pair.result.now =
+    named_is c.args.first c.args.index.now c.args.pairs.now.items middle c.place_of.result c.index-pair.result.now c.place_of.ensures at
+    c.index-pair.ensures in
     let more : question_cmp (named_at c.args.first c.args.index.now qs middle) q ≡ Greater = ap (λ (k : Question). question_cmp k q) name ∙ (sym c.compare.ensures ∙ c.in-Greater.is) in
     let some : 0 < 13 - c.loop-low.compared = one_left (13 - c.loop-low.compared) (c.loop-low.high - c.loop-low.low) (omega (arith, c.loop-low-test.true)) inv.left in
     record {
@@ -56,5 +65,8 @@ loop-low-preserved c =
       lower = inv.lower;
       higher = above_higher c.args.first c.args.index.now qs c.requires.indexed.order q middle within more;
       most = omega (arith, some);
-      left = let e : 13 - (c.loop-low.compared + 1) ≡ 13 - c.loop-low.compared - 1 = omega (arith, some) in rw e (half_left (13 - c.loop-low.compared) (c.loop-low.high - c.loop-low.low) _ (omega (arith, c.loop-low-test.true)) inv.left (omega (arith, c.loop-low-test.true)));
+      left =
+          let e : 13 - (c.loop-low.compared + 1) ≡ 13 - c.loop-low.compared - 1 = omega (arith, some) in
+          rw e (half_left (13 - c.loop-low.compared) (c.loop-low.high - c.loop-low.low) _ (omega (arith, c.loop-low-test.true)) inv.left
+          (omega (arith, c.loop-low-test.true)));
     }

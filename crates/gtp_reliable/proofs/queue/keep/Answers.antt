@@ -11,4 +11,5 @@ returns-clause-indexed c =
     let put : c.insert.new.self.items ≡ insert c.args.index.now.items c.in-Err.at number = search rules in
     let grown : c.push_back_reserved.new.self.items ≡ ps ++ c.args.pair ∷ [] = search rules in
     let gap : IsGap c.args.first c.args.index.now.items (questions ps) (asked c.args.pair) c.in-Err.at = search rules in
-    rw (put, grown) (pushed_pair c.args.first c.args.index.now.items ps c.requires.indexed c.args.pair c.in-Err.at number gap (after_back c.args.first (length ps) (omega arith) (omega (arith, c.requires.few))))
+    rw (put, grown) (pushed_pair c.args.first c.args.index.now.items ps c.requires.indexed c.args.pair c.in-Err.at number gap
+    (after_back c.args.first (length ps) (omega arith) (omega (arith, c.requires.few))))

@@ -29,7 +29,9 @@ loop-at-preserved g c =
     elim c.match-number_where.branch [
       | in-Some+in-Some-1 w ↦
           let goes : number_where g.meets slot ≡ Some w.in-Some.number = sym c.number_where.ensures ∙ w.in-Some.is in
-          let after = cut_step g.meets k slots c.loop-at.slots.items c.loop-at.names.entries w.take_out.new.names.entries c.args.first slot w.in-Some.number w.take_out.result cut lt c.index.ensures goes w.take_out.ensures.slot w.take_out.ensures.names w.take_out.ensures.count in
+          let after =
+          cut_step g.meets k slots c.loop-at.slots.items c.loop-at.names.entries w.take_out.new.names.entries c.args.first slot w.in-Some.number
+          w.take_out.result cut lt c.index.ensures goes w.take_out.ensures.slot w.take_out.ensures.names w.take_out.ensures.count in
           record {
             slots = ap (λ d. d.items) w.slots-is ∙ after.is_cut;
             named = λ n. ap (λ m. lookup (nat_eq n) m.entries) w.names-is ∙ (after.named n ∙ ap (λ d. slot_of n c.args.first d.items) (sym w.slots-is));
@@ -41,7 +43,9 @@ loop-at-preserved g c =
           }
       | in-Some+in-None-1 w ↦
           let goes : number_where g.meets slot ≡ Some w.in-Some.number = sym c.number_where.ensures ∙ w.in-Some.is in
-          let after = cut_step g.meets k slots c.loop-at.slots.items c.loop-at.names.entries w.take_out.new.names.entries c.args.first slot w.in-Some.number w.take_out.result cut lt c.index.ensures goes w.take_out.ensures.slot w.take_out.ensures.names w.take_out.ensures.count in
+          let after =
+          cut_step g.meets k slots c.loop-at.slots.items c.loop-at.names.entries w.take_out.new.names.entries c.args.first slot w.in-Some.number
+          w.take_out.result cut lt c.index.ensures goes w.take_out.ensures.slot w.take_out.ensures.names w.take_out.ensures.count in
           record {
             slots = ap (λ d. d.items) w.slots-is ∙ after.is_cut;
             named = λ n. ap (λ m. lookup (nat_eq n) m.entries) w.names-is ∙ (after.named n ∙ ap (λ d. slot_of n c.args.first d.items) (sym w.slots-is));

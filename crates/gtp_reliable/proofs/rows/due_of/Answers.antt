@@ -5,7 +5,9 @@ use Rattle.gtp_reliable.specs.Waiting.{sent_again, given_up}
 use Rattle.gtp_reliable.specs.Due.{message_of}
 use Rattle.gtp_reliable.specs.Rows.{Sent, seen}
 use Rattle.gtp_reliable.proofs.Dues.{quiet_waits, resends_more, resends_same, gives_more, gives_same, told_gap, told_rest, told_all, calm_sends, calm_gives, waits_so}
-use Rattle.gtp_reliable.proofs.rows.due_of.Goals.{in-Some+in-SentAgain+in_ok-resend_of-in-SentAgain+in_ok-push-in-SentAgain, in-Some+in-GivenUp+in_ok-push-in-GivenUp, in_default, else-loop-at-test, then-loop-at-test+in-Some+in-WaitsOn}
+use Rattle.gtp_reliable.proofs.rows.due_of.Goals.{in-Some+in-SentAgain+in_ok-resend_of-in-SentAgain+in_ok-push-in-SentAgain}
+use Rattle.gtp_reliable.proofs.rows.due_of.Goals.{in-Some+in-GivenUp+in_ok-push-in-GivenUp, in_default, else-loop-at-test}
+use Rattle.gtp_reliable.proofs.rows.due_of.Goals.{then-loop-at-test+in-Some+in-WaitsOn}
 use Rattle.gtp_reliable.proofs.rows.due_of.Goals as goal
 
 pub returns-in_err-resend_of-in-SentAgain-clause-quiet : goal.returns-in_err-resend_of-in-SentAgain-clause-quiet
@@ -51,14 +53,20 @@ loop-at-preserved g c =
           let by = sym w.in-SentAgain.is ∙ w.next_tick.ensures in
           let sent = w.in_ok-resend_of-in-SentAgain.ensures in
           record {
-            resend = resends_more now t3 n3 slots i slot w.in-Some.row c.loop-at.resend.items c.match-index.resend.items w.in_ok-resend_of-in-SentAgain.field-0 lt is w.in-Some.is by before.resend (ap (λ v. v.items) w.resend-is ∙ w.in_ok-push-in-SentAgain.ensures.items) sent.0 sent.1 sent.2;
+            resend =
+                resends_more now t3 n3 slots i slot w.in-Some.row c.loop-at.resend.items c.match-index.resend.items
+                w.in_ok-resend_of-in-SentAgain.field-0 lt is w.in-Some.is by before.resend
+                (ap (λ v. v.items) w.resend-is ∙ w.in_ok-push-in-SentAgain.ensures.items) sent.0 sent.1 sent.2;
             gave_up = ap (λ v. v.items) w.gave_up-is ∙ (before.gave_up ∙ sym (gives_same now t3 n3 slots i slot w.in-Some.row SentAgain lt is w.in-Some.is by refl));
           }
       | in-Some+in-GivenUp+in_ok-push-in-GivenUp w ↦
           let by = sym w.in-GivenUp.is ∙ w.next_tick.ensures in
           record {
             resend = ap (λ v. map message_of v.items) w.resend-is ∙ (before.resend ∙ sym (resends_same now t3 n3 slots i slot w.in-Some.row GivenUp lt is w.in-Some.is by refl));
-            gave_up = gives_more now t3 n3 slots i slot w.in-Some.row c.loop-at.gave_up.items c.match-index.gave_up.items w.row.inside.seq w.row.inside.purpose lt is w.in-Some.is by before.gave_up (ap (λ v. v.items) w.gave_up-is ∙ w.in_ok-push-in-GivenUp.ensures.items) (ap (λ (r : Sent _). r.seq) w.row.view_is) (ap (λ (r : Sent _). r.purpose) w.row.view_is);
+            gave_up =
+                gives_more now t3 n3 slots i slot w.in-Some.row c.loop-at.gave_up.items c.match-index.gave_up.items w.row.inside.seq
+                w.row.inside.purpose lt is w.in-Some.is by before.gave_up (ap (λ v. v.items) w.gave_up-is ∙ w.in_ok-push-in-GivenUp.ensures.items)
+                (ap (λ (r : Sent _). r.seq) w.row.view_is) (ap (λ (r : Sent _). r.purpose) w.row.view_is);
           }
       | in_default w ↦
           let none : slot ≡ None = search rules in
@@ -77,7 +85,9 @@ returns-clause-resend g c =
       | then-loop-at-test+in-Some+in-WaitsOn w ↦
           let lt : i < length slots = search rules in
           let row : get_or slots i None ≡ Some w.in-Some.row = get_or_default slots i None w.index.result.now lt ∙ (sym w.index.ensures ∙ w.in-Some.is) in
-          c.loop-at.invariant.resend ∙ told_rest c.args.now (sent_again c.args.t3 c.args.n3) c.args.t3 (calm_sends c.args.t3 c.args.n3) slots i w.in-Some.row c.requires.turn row (waits_so c.args.t3 c.args.n3 (seen c.args.now w.in-Some.row) (sym w.in-WaitsOn.is ∙ w.next_tick.ensures))
+          c.loop-at.invariant.resend
+          ∙ told_rest c.args.now (sent_again c.args.t3 c.args.n3) c.args.t3 (calm_sends c.args.t3 c.args.n3) slots i w.in-Some.row c.requires.turn row
+          (waits_so c.args.t3 c.args.n3 (seen c.args.now w.in-Some.row) (sym w.in-WaitsOn.is ∙ w.next_tick.ensures))
     ]
 
 pub returns-clause-gave_up : goal.returns-clause-gave_up
@@ -89,5 +99,7 @@ returns-clause-gave_up g c =
       | then-loop-at-test+in-Some+in-WaitsOn w ↦
           let lt : i < length slots = search rules in
           let row : get_or slots i None ≡ Some w.in-Some.row = get_or_default slots i None w.index.result.now lt ∙ (sym w.index.ensures ∙ w.in-Some.is) in
-          c.loop-at.invariant.gave_up ∙ told_rest c.args.now (given_up c.args.t3 c.args.n3) c.args.t3 (calm_gives c.args.t3 c.args.n3) slots i w.in-Some.row c.requires.turn row (waits_so c.args.t3 c.args.n3 (seen c.args.now w.in-Some.row) (sym w.in-WaitsOn.is ∙ w.next_tick.ensures))
+          c.loop-at.invariant.gave_up
+          ∙ told_rest c.args.now (given_up c.args.t3 c.args.n3) c.args.t3 (calm_gives c.args.t3 c.args.n3) slots i w.in-Some.row c.requires.turn row
+          (waits_so c.args.t3 c.args.n3 (seen c.args.now w.in-Some.row) (sym w.in-WaitsOn.is ∙ w.next_tick.ensures))
     ]

@@ -7,4 +7,6 @@ use Rattle.gtp_replay.proofs.capturing.put_frames.Given as goal
 
 -- the datagrams so far, and what is left
 abbrev pub invariant-loop-place : goal.invariant-loop-place
-invariant-loop-place l = map sent_of l.out.items ++ flat_map (frame_in l.event) (enumerate_from (l.first + l.place) (map sent_by (drop l.place l.datagrams))) ≡ map sent_of l.fn.out.items ++ flat_map (frame_in l.event) (enumerate_from l.first (map sent_by l.datagrams))
+invariant-loop-place l =
+    map sent_of l.out.items ++ flat_map (frame_in l.event) (enumerate_from (l.first + l.place) (map sent_by (drop l.place l.datagrams)))
+    ≡ map sent_of l.fn.out.items ++ flat_map (frame_in l.event) (enumerate_from l.first (map sent_by l.datagrams))

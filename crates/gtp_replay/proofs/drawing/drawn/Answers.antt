@@ -9,4 +9,6 @@ pub loop-row-preserved : goal.loop-row-preserved
 loop-row-preserved c =
     let l = c.loop-row in
     subst (λ (rows : List Row). IsDiagram rows c.put-in-loop-row.new.out.items) (sym (seen_more row_of c.args.rows.now l.row-index c.row-item.result c.row-item.is c.loop-row-test.true))
-    (diagram_more (map row_of (take l.row-index c.args.rows.now)) (row_of c.row-item.result) l.text.items c.in_ok-line.line.items c.put-in-loop-row.new.out.items l.invariant c.in_ok-line.ensures (c.in_ok-put-2.ensures.ok ∙ ap (λ line. l.text.items ++ line) c.deref.ensures.value))
+    (diagram_more (map row_of (take l.row-index c.args.rows.now)) (row_of c.row-item.result) l.text.items c.in_ok-line.line.items
+    c.put-in-loop-row.new.out.items l.invariant c.in_ok-line.ensures
+    (c.in_ok-put-2.ensures.ok ∙ ap (λ line. l.text.items ++ line) c.deref.ensures.value))

@@ -10,7 +10,8 @@ abbrev pub invariant-loop-event : goal.invariant-loop-event
 invariant-loop-event l =
     let left = l.event-iterator in
     record {
-      all : map happened_of l.all.items ++ all_from (numbered_from l.next l.rest) (map event_of left.a.rest.now) (map told_by left.b.rest.now) ≡ all_from (numbered l.datagrams) (map event_of l.events) (map told_by l.notes);
+      all : map happened_of l.all.items ++ all_from (numbered_from l.next l.rest) (map event_of left.a.rest.now) (map told_by left.b.rest.now)
+          ≡ all_from (numbered l.datagrams) (map event_of l.events) (map told_by l.notes);
       count : l.next + length l.rest ≡ length l.datagrams;
       each : All IsNumbered l.all.items;
     }

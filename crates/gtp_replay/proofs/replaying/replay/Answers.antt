@@ -11,14 +11,17 @@ use Rattle.gtp_replay.proofs.replaying.replay.Goals as goal
 
 pub returns-in_err-write_octets-clause-front : goal.returns-in_err-write_octets-clause-front
 returns-in_err-write_octets-clause-front g c failed =
-    front_for_all c.args.form (g.R.Read.remaining (inner_of c.args.reader.now)) c.in_ok-octets.octets.items c.in_ok-text.text.items c.in_ok-text.verdict (g.W.Write.contents (inner_of c.args.writer.now)) (g.W.Write.contents (inner_of c.write_octets.new.writer))
+    front_for_all c.args.form (g.R.Read.remaining (inner_of c.args.reader.now)) c.in_ok-octets.octets.items c.in_ok-text.text.items
+    c.in_ok-text.verdict (g.W.Write.contents (inner_of c.args.writer.now)) (g.W.Write.contents (inner_of c.write_octets.new.writer))
     c.in_ok-octets.ensures.octets
     (subst (λ o. Tells c.args.form o c.in_ok-text.text.items c.in_ok-text.verdict) c.deref.ensures.value c.in_ok-text.ensures.told)
-    (subst (λ text. WritesFront (g.W.Write.contents (inner_of c.args.writer.now)) (g.W.Write.contents (inner_of c.write_octets.new.writer)) text) c.deref-2.ensures.value c.in_err-write_octets.ensures.front)
+    (subst (λ text. WritesFront (g.W.Write.contents (inner_of c.args.writer.now)) (g.W.Write.contents (inner_of c.write_octets.new.writer)) text)
+    c.deref-2.ensures.value c.in_err-write_octets.ensures.front)
 
 pub returns-clause-written : goal.returns-clause-written
 returns-clause-written g c =
-    told_for_all c.args.form (g.R.Read.remaining (inner_of c.args.reader.now)) c.in_ok-octets.octets.items c.in_ok-text.text.items c.in_ok-text.verdict (g.W.Write.contents (inner_of c.args.writer.now)) (g.W.Write.contents (inner_of c.write_octets.new.writer))
+    told_for_all c.args.form (g.R.Read.remaining (inner_of c.args.reader.now)) c.in_ok-octets.octets.items c.in_ok-text.text.items
+    c.in_ok-text.verdict (g.W.Write.contents (inner_of c.args.writer.now)) (g.W.Write.contents (inner_of c.write_octets.new.writer))
     c.in_ok-octets.ensures.octets
     (subst (λ o. Tells c.args.form o c.in_ok-text.text.items c.in_ok-text.verdict) c.deref.ensures.value c.in_ok-text.ensures.told)
     (subst (λ text. Appends (g.W.Write.contents (inner_of c.args.writer.now)) (g.W.Write.contents (inner_of c.write_octets.new.writer)) text) c.deref-2.ensures.value c.in_ok-write_octets.ensures.ok)

@@ -9,6 +9,7 @@ use Rattle.gtp_replay.proofs.replaying.run_scenario.Goals as goal
 
 pub returns-clause-ran : goal.returns-clause-ran
 returns-clause-ran c =
-    let all : map event_of c.in_ok-events.events.items ≡ events_of (scenario c.args.scenario.now) = c.in_ok-events.ensures.events ∙ ap (λ es. flat_map events_in (map entry es)) c.deref.ensures.value in
+    let all : map event_of c.in_ok-events.events.items ≡ events_of (scenario c.args.scenario.now) =
+    c.in_ok-events.ensures.events ∙ ap (λ es. flat_map events_in (map entry es)) c.deref.ensures.value in
     let run = subst (λ es. RanWhole c.args.scenario.now.config es c.in-Some.world) (ap (map event_of) c.deref-2.ensures.value ∙ all) c.in-Some.ensures in
     record { events = all; run = run }

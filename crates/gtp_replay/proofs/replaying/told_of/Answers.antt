@@ -11,7 +11,8 @@ pub returns-in_err-text-clause-fault : goal.returns-in_err-text-clause-fault
 returns-in_err-text-clause-fault c h =
     let Lacks : ℕ → Type 0 = LacksPacket c.args.form (scenario c.args.scenario.now) in
     passed_on c.from_residual.result c.in_err-text.field-0.0 (λ e. IsMemoryOr e Lacks) c.from_residual.ensures.1
-    (memory_or_weaker c.in_err-text.field-0.0 (λ number. (c.args.form ≡ Capture) × IsFirstWithoutPacket c.args.ran.now.world.log.datagrams number) Lacks (λ number lacks. record { wanted = lacks.0; world = c.args.ran.now.world; run = h.run; first = lacks.1 }) c.in_err-text.ensures.fault)
+    (memory_or_weaker c.in_err-text.field-0.0 (λ number. (c.args.form ≡ Capture) × IsFirstWithoutPacket c.args.ran.now.world.log.datagrams number)
+    Lacks (λ number lacks. record { wanted = lacks.0; world = c.args.ran.now.world; run = h.run; first = lacks.1 }) c.in_err-text.ensures.fault)
 
 pub returns-clause-told : goal.returns-clause-told
 returns-clause-told c h = record {

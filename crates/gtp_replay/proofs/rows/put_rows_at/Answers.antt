@@ -15,7 +15,8 @@ returns-in_ok-push-in-None c = record {
       let event : Row = event_row datagrams (take c.args.place all) c.args.place (happened_of c.args.one.now) in
       let lost : List Row = flat_map (lost_rows datagrams all) (numbered_from c.args.one.now.first c.args.one.now.sent.now) in
       let pushed : map row_of c.push.new.self.items ≡ old ++ event ∷ [] =
-      ap (map row_of) c.in_ok-push-in-None.ensures.items ∙ (map_push row_of c.args.rows.now.items c.event_row.result ∙ ap (λ (r : Row). old ++ r ∷ []) (c.event_row.ensures (take c.args.place all) came)) in
+      ap (map row_of) c.in_ok-push-in-None.ensures.items
+      ∙ (map_push row_of c.args.rows.now.items c.event_row.result ∙ ap (λ (r : Row). old ++ r ∷ []) (c.event_row.ensures (take c.args.place all) came)) in
       on_ok_weaker c.put_lost_rows.result
       (λ is. is ∙ (ap (λ (l : List Row). l ++ lost) pushed ∙ (append_assoc old (event ∷ []) lost
       ∙ ap (λ o. old ++ option_map_or (λ node. idle_rows c.args.place c.args.last node (map happened_of c.args.after.now)) o (event ∷ lost)) (sym c.in-None.is ∙ c.idle_node.ensures))))

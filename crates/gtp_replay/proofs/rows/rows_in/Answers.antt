@@ -14,13 +14,16 @@ loop-place-preserved c =
     let all = map happened_of c.args.all.now in
     let one = c.index-all-place.result in
     let new : c.mark.new.flags.items ≡ marked l.came.items (brought_by datagrams (happened_of one)) = c.mark.ensures ∙ ap (marked l.came.items) c.brought_by.ensures in
-    let came : AreFlags (comes_by datagrams (take l.place all)) l.came.items = subst (λ (hs : List Happened). AreFlags (comes_by datagrams hs) l.came.items) (sym (take-map happened_of l.place c.args.all.now)) l.invariant.came in
+    let came : AreFlags (comes_by datagrams (take l.place all)) l.came.items =
+    subst (λ (hs : List Happened). AreFlags (comes_by datagrams hs) l.came.items) (sym (take-map happened_of l.place c.args.all.now)) l.invariant.came in
     let comes = subst (λ (f : List Bool). AreFlags (comes_by datagrams all) f) (sym c.deref.ensures.value) c.in_ok-comes.ensures in
     let before = subst (λ (f : List Bool). AreFlags (comes_by datagrams (take l.place all)) f) (sym c.deref-in-loop-place.ensures.value) came in
     let rest = drop (l.place + 1) c.args.all.now in
     let few : length rest ≤ length c.args.all.now - (l.place + 1) = omega (arith, length-drop (l.place + 1) c.args.all.now) in
     let whole : take (length c.args.all.now - (l.place + 1)) rest ≡ rest = take_all (length c.args.all.now - (l.place + 1)) rest few in
-    let rows = c.in_ok-put_rows_at.ensures.ok all comes before ∙ ap (λ (hs : List Program). map row_of l.rows.items ++ rows_at datagrams all l.place l.last (happened_of one) (map happened_of hs)) whole in
+    let rows =
+    c.in_ok-put_rows_at.ensures.ok all comes before
+    ∙ ap (λ (hs : List Program). map row_of l.rows.items ++ rows_at datagrams all l.place l.last (happened_of one) (map happened_of hs)) whole in
     record {
       rows = rows_more datagrams all l.place l.last c.args.all.now one _ (map row_of l.rows.items) (map row_of c.put_rows_at.new.rows.items) c.idle_node-last.result
           c.index-all-place.is c.loop-place-test.true rows c.idle_node-last.ensures l.invariant.rows;

@@ -6,7 +6,9 @@ use Rattle.gtp_replay.proofs.rows.rows_in.Given as goal
 -- the rows so far and those of what is left are all; and what has come
 abbrev pub invariant-loop-place : goal.invariant-loop-place
 invariant-loop-place l = record {
-  rows : map row_of l.rows.items ++ rows_from (numbered l.fn.datagrams) (map happened_of l.fn.all) l.place l.last (map happened_of (drop l.place l.fn.all)) ≡ rows_in (numbered l.fn.datagrams) (map happened_of l.fn.all);
+  rows : map row_of l.rows.items
+      ++ rows_from (numbered l.fn.datagrams) (map happened_of l.fn.all) l.place l.last (map happened_of (drop l.place l.fn.all))
+      ≡ rows_in (numbered l.fn.datagrams) (map happened_of l.fn.all);
   came : AreFlags (comes_by (numbered l.fn.datagrams) (map happened_of (take l.place l.fn.all))) l.came.items;
   count : length l.came.items ≡ length l.fn.datagrams;
 }

@@ -7,4 +7,6 @@ use Rattle.gtp_run_json.proofs.happened.put_all_datagrams.Given as goal
 
 -- the objects so far, and those of what is left
 abbrev pub invariant-loop-place : goal.invariant-loop-place
-invariant-loop-place l = l.out ++ flat_map json_tokens (map sent_json (enumerate_from (l.first + l.place) (map sent_by (drop l.place l.datagrams)))) ≡ l.fn.out ++ flat_map json_tokens (map sent_json (enumerate_from l.first (map sent_by l.datagrams)))
+invariant-loop-place l =
+    l.out ++ flat_map json_tokens (map sent_json (enumerate_from (l.first + l.place) (map sent_by (drop l.place l.datagrams))))
+    ≡ l.fn.out ++ flat_map json_tokens (map sent_json (enumerate_from l.first (map sent_by l.datagrams)))

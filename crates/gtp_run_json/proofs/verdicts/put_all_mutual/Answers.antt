@@ -6,6 +6,7 @@ use Rattle.gtp_run_json.proofs.verdicts.put_all_mutual.Goals as goal
 
 pub loop-pair-preserved : goal.loop-pair-preserved
 loop-pair-preserved c =
-    goes_on (DoAgree c.args.world.now) (λ pair agree. json_tokens (mutual_json pair agree)) (mutual_pairs c.args.world.now) c.loop-pair.pair-iterator c.next.new.self (pair_of c.in-Some.pair) c.agrees-agree.result
+    goes_on (DoAgree c.args.world.now) (λ pair agree. json_tokens (mutual_json pair agree)) (mutual_pairs c.args.world.now) c.loop-pair.pair-iterator
+    c.next.new.self (pair_of c.in-Some.pair) c.agrees-agree.result
     c.args.out.now c.loop-pair.out c.put_contexts.new.out
     c.loop-pair.invariant c.in-Some.ensures.steps c.agrees-agree.ensures c.in_ok-put_contexts.ensures.ok

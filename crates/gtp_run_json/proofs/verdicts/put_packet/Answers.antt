@@ -20,4 +20,8 @@ returns c =
     let carried : c.hex_member.new.self ≡ c.put_teid.new.out ++ written payload = search rules in
     let all = four_times c.begin_object.new.self c.string_member.new.self c.put_teid.new.out c.hex_member.new.self c.bool_member.new.self node target payload owed
     named c.in_ok-put_teid.ensures.ok carried c.in_ok-bool_member.ensures.ok in
-    record { ok = on_ok c.end_object.result (in_object c.args.out.now c.begin_object.new.self c.bool_member.new.self c.end_object.new.self (node ++ (target ++ (payload ++ owed))) c.in_ok-begin_object.ensures.ok all) c.end_object.ensures.ok }
+    record {
+      ok = on_ok c.end_object.result
+          (in_object c.args.out.now c.begin_object.new.self c.bool_member.new.self c.end_object.new.self (node ++ (target ++ (payload ++ owed)))
+          c.in_ok-begin_object.ensures.ok all) c.end_object.ensures.ok;
+    }

@@ -19,7 +19,9 @@ loop-number-preserved c =
     let longer = length-append so_far.numbers (n ∷ []) in
     record {
       numbers = so_far.numbers ++ (n ∷ []);
-      delivered = delivers_on (past c.args.past.now) so_far.numbers (past l.past) n (drop 1 l.past.waiting.items) (past c.happen.new.self) so_far.delivered (first_is n l.past.waiting.items c.in-Some.ensures) c.in_ok-happen.ensures;
+      delivered =
+          delivers_on (past c.args.past.now) so_far.numbers (past l.past) n (drop 1 l.past.waiting.items) (past c.happen.new.self) so_far.delivered
+          (first_is n l.past.waiting.items c.in-Some.ensures) c.in_ok-happen.ensures;
       entries =
           ap (map entry) c.in_ok-push.ensures.items ∙ (map-append entry l.entries.items _
           ∙ ((λ i. so_far.entries i ++ (sym one i ∷ [])) ∙ sym (map-append (delivery expect) so_far.numbers (n ∷ []))));

@@ -25,7 +25,8 @@ slice_length : (f : ℕ) (xs : List declared.Entry) → length (take (length xs 
 slice_length f xs = ap length (take_all (length xs - f) (drop f xs) (let e = length-drop f xs in omega (arith, e))) ∙ length-drop f xs
 
 -- what is read after what has happened of the entries before is read after them
-read_after : (setup : Setup) (f room : ℕ) (d : Data) (before pending : List Entry) (now : Past) (reading : _) → pending ≡ drop f before → HasHappened setup (take f before) now → IsReadBy (name_of d) (Follow now pending) room d reading → IsRead setup before room d reading
+read_after : (setup : Setup) (f room : ℕ) (d : Data) (before pending : List Entry) (now : Past) (reading : _) → pending ≡ drop f before
+    → HasHappened setup (take f before) now → IsReadBy (name_of d) (Follow now pending) room d reading → IsRead setup before room d reading
 read_after setup f room d before pending now reading is happened read =
     read_by (name_of d) (Follow now pending) (HasHappened setup before) room d reading (λ p follows. reaches setup f before now p happened (subst (λ es. Follow now es p) is follows)) read
 
@@ -39,7 +40,8 @@ returns-in-Err c setup begun =
     (λ halt read. (l.invariant.on setup begun).rest (Err (record { place = l.place; halt = halt }))
     (subst (λ items. AreRead setup l.place before l.room items (Err (record { place = l.place; halt = halt }))) (sym c.in-Some.ensures.value)
     (read_halts setup l.place before halt l.room d (items_view c.next.new.self)
-    (read_after setup l.followed l.room d before _ (past l.past) (Err halt) (pending_is l.followed c.deref.result.now l.entries.items c.deref.ensures.value) (l.invariant.on setup begun).happened read))))
+    (read_after setup l.followed l.room d before _ (past l.past) (Err halt)
+    (pending_is l.followed c.deref.result.now l.entries.items c.deref.ensures.value) (l.invariant.on setup begun).happened read))))
     c.in-Err.ensures.read)
 
 fits : (room : ℕ) (a b : List declared.Entry) → a ≡ b → count_in (map entry b) ≤ room → count_in (map entry a) ≤ room
@@ -73,7 +75,11 @@ loop-value-preserved c =
     let whole : length c.deref.result.now ≡ length l.entries.items = ap length c.deref.ensures.value in
     let as_many = length-map l.entries.items entry in
     record {
-      within = (let more = c.in-Ok.ensures.within in let left = slice_length l.followed c.deref.result.now in let all = ap length c.in_ok-append.ensures.items ∙ length-append l.entries.items c.in-Ok.item.entries.items in let w = l.invariant.within in omega (arith, more, left, all, whole, w));
+      within =
+          (let more = c.in-Ok.ensures.within in
+          let left = slice_length l.followed c.deref.result.now in
+          let all = ap length c.in_ok-append.ensures.items ∙ length-append l.entries.items c.in-Ok.item.entries.items in
+          let w = l.invariant.within in omega (arith, more, left, all, whole, w));
       on = λ setup begun. record {
         rest = λ reading more. (l.invariant.on setup begun).rest reading
             (subst (λ items. AreRead setup l.place before l.room items reading) (sym c.in-Some.ensures.value)

@@ -13,4 +13,5 @@ bad_head-requires c = subst (λ fault. IsNone fault (head_in (view c.args.value.
 pub returns-in-Ok-clause-refusal : goal.returns-in-Ok-clause-refusal
 returns-in-Ok-clause-refusal c =
     let d = view c.args.value.now in
-    if_ok c.list_reason.result (IsExplained (IsReadOn (head c.in-Ok.head))) (IsExplained (IsReadIn (head_in d))) (λ reason e. explains_on d (head c.in-Ok.head) reason c.in-Ok.ensures e) c.list_reason.ensures.refusal
+    if_ok c.list_reason.result (IsExplained (IsReadOn (head c.in-Ok.head))) (IsExplained (IsReadIn (head_in d)))
+    (λ reason e. explains_on d (head c.in-Ok.head) reason c.in-Ok.ensures e) c.list_reason.ensures.refusal

@@ -5,7 +5,9 @@ use Rattle.gtp_scenario.proofs.reason.item_at.Goals as goal
 
 pub returns-in_err-next : goal.returns-in_err-next
 returns-in_err-next c =
-    ap (option_map view) c.from_residual.ensures ∙ sym (gone c.args.place c.loop.counter (items_view c.args.values) (items_view c.loop.values) c.loop.invariant (omega arith) c.in_err-next.ensures.value)
+    ap (option_map view) c.from_residual.ensures
+    ∙ sym (gone c.args.place c.loop.counter (items_view c.args.values) (items_view c.loop.values) c.loop.invariant (omega arith)
+    c.in_err-next.ensures.value)
 
 pub loop-preserved : goal.loop-preserved
 loop-preserved c =
@@ -13,4 +15,5 @@ loop-preserved c =
 
 pub returns : goal.returns
 returns c =
-    last_place c.args.place c.loop.counter (items_view c.args.values) (items_view c.loop.values) (items_view c.next-2.new.self) (option_map view c.next-2.result) c.loop.invariant (omega arith) c.next-2.ensures.value
+    last_place c.args.place c.loop.counter (items_view c.args.values) (items_view c.loop.values) (items_view c.next-2.new.self)
+    (option_map view c.next-2.result) c.loop.invariant (omega arith) c.next-2.ensures.value

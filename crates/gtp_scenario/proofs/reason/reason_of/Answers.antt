@@ -19,7 +19,8 @@ returns-in-Ok-clause-so c =
     let octets = c.args.octets.now in
     let d = view c.root.result in
     let json : json_of octets ≡ Some d = c.in-Ok.ensures ∙ ap (λ ts. Some (view ts)) (sym c.root.ensures) in
-    if_ok c.data_reason.result (λ reason. IfSome reason (IsSaid d)) (λ reason. IfSome reason (IsSo octets)) (λ reason s. if_some reason (IsSaid d) (IsSo octets) (λ r said. so octets d r json said) s) c.data_reason.ensures.so
+    if_ok c.data_reason.result (λ reason. IfSome reason (IsSaid d)) (λ reason. IfSome reason (IsSo octets))
+    (λ reason s. if_some reason (IsSaid d) (IsSo octets) (λ r said. so octets d r json said) s) c.data_reason.ensures.so
 
 pub returns-in-Err-Wrong-clause-refusal : goal.returns-in-Err-Wrong-clause-refusal
 returns-in-Err-Wrong-clause-refusal c =

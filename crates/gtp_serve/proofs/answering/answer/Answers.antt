@@ -25,7 +25,9 @@ pub returns-in-Ok-clause-answered : goal.returns-in-Ok-clause-answered
 returns-in-Ok-clause-answered c =
     let fits : length c.args.line.now ≤ 1048576 = search rules in
     let asks : request_in c.args.line.now ≡ Some (request_by c.in-Ok.request) = search rules in
-    IfOk-weaker c.request_line.result _ _ (λ text is. (is.0, inr (fits, subst (λ (o : Option Request). OrStays (Follows o) c.args.gateway.now is.0 c.request_line.new.gateway) (sym asks) is.1), is.2)) c.request_line.ensures.answered
+    IfOk-weaker c.request_line.result _ _ (λ text is.
+    (is.0, inr (fits, subst (λ (o : Option Request). OrStays (Follows o) c.args.gateway.now is.0 c.request_line.new.gateway) (sym asks) is.1), is.2))
+    c.request_line.ensures.answered
 
 pub returns-in-Err-Wrong-clause-done : goal.returns-in-Err-Wrong-clause-done
 returns-in-Err-Wrong-clause-done c =

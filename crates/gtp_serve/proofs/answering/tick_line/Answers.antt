@@ -6,7 +6,12 @@ use Rattle.gtp_serve.proofs.answering.tick_line.Goals as goal
 pub returns-in-Ok-clause-answered : goal.returns-in-Ok-clause-answered
 returns-in-Ok-clause-answered c =
     IfOk-weaker c.ticked_line.result _ _
-    (λ text is. (reply_json (of_tick c.in-Ok.ticked), inl (record { ticked = c.in-Ok.ticked; passed = c.in-Ok.ensures.ticked; counts = c.in-Ok.ensures.counts; told = refl }), is)) c.ticked_line.ensures
+    (λ text is. (
+      reply_json (of_tick c.in-Ok.ticked),
+      inl (record { ticked = c.in-Ok.ticked; passed = c.in-Ok.ensures.ticked; counts = c.in-Ok.ensures.counts; told = refl }),
+      is,
+    ))
+    c.ticked_line.ensures
 
 pub returns-in-Err-clause-answered : goal.returns-in-Err-clause-answered
 returns-in-Err-clause-answered c =

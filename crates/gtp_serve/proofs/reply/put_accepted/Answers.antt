@@ -15,7 +15,9 @@ returns c =
     let json = accepted_json packet in
     let told : accepted_members (Some packet) ≡ accepted_members (Some (packet_of c.in-Some.accepted.now)) = ap (λ (a : Accepted). accepted_members (Some (packet_of a))) c.accepted.view_is in
     let after : c.key.new.self ++ json_tokens json ≡ c.args.out.now ++ written (accepted_members (Some packet)) =
-    ap (λ (ts : List Token). ts ++ json_tokens json) c.in_ok-key.ensures.ok ∙ (append_assoc c.args.out.now (keyed (codes "accepted")) (json_tokens json) ∙ ap (λ (ts : List Token). c.args.out.now ++ ts) (sym (member_tokens_are (codes "accepted") json))) in
+    ap (λ (ts : List Token). ts ++ json_tokens json) c.in_ok-key.ensures.ok
+    ∙ (append_assoc c.args.out.now (keyed (codes "accepted")) (json_tokens json)
+    ∙ ap (λ (ts : List Token). c.args.out.now ++ ts) (sym (member_tokens_are (codes "accepted") json))) in
     let all : OnOk c.put_packet.result (c.put_packet.new.out ≡ c.args.out.now ++ written (accepted_members (Some (packet_of c.in-Some.accepted.now)))) =
     on_ok_weaker c.put_packet.result (λ e. e ∙ (after ∙ ap (λ (ms : List (List ℕ × Json)). c.args.out.now ++ written ms) told)) c.put_packet.ensures.ok in
     record { ok = rw c.in-Some.is all }

@@ -20,8 +20,11 @@ loop-preserved g c =
     let write = g.W.Write.contents in
     record {
       goes = goes_on _ _ _ _ c.loop.gateway c.answer_line.new.gateway c.next_line.new.line.items _ _ _ c.loop.invariant.goes c.in_default.ensures.held c.in_default.ensures.rest some
-          (subst (λ l. IsAnswered l c.loop.gateway c.answer_line.new.gateway (write c.loop.writer.inner) (write c.answer_line.new.writer.inner)) c.deref.ensures.value c.in_default-answer_line.ensures.answered);
-      lasts = lasts_more 1048577 c.loop.counter (read c.args.reader.now.inner) (read c.loop.reader.inner) (read c.next_line.new.reader.inner) c.next_line.new.line.items c.loop.invariant.lasts c.in_default.ensures.held c.in_default.ensures.rest some;
+          (subst (λ l. IsAnswered l c.loop.gateway c.answer_line.new.gateway (write c.loop.writer.inner) (write c.answer_line.new.writer.inner))
+          c.deref.ensures.value c.in_default-answer_line.ensures.answered);
+      lasts =
+          lasts_more 1048577 c.loop.counter (read c.args.reader.now.inner) (read c.loop.reader.inner) (read c.next_line.new.reader.inner)
+          c.next_line.new.line.items c.loop.invariant.lasts c.in_default.ensures.held c.in_default.ensures.rest some;
       reads = search rules;
       writes = search rules;
       role = search rules;
@@ -38,7 +41,8 @@ returns-in-Err-answer_line-clause-front g c =
     let some : 0 < length c.next_line.new.line.items = search rules in
     let write = g.W.Write.contents in
     next_in_part _ _ _ _ c.loop.gateway c.answer_line.new.gateway c.next_line.new.line.items _ _ _ c.loop.invariant.goes c.in_default.ensures.held c.in_default.ensures.rest some
-    (subst (λ l. IsAnsweredInPart l c.loop.gateway c.answer_line.new.gateway (write c.loop.writer.inner) (write c.answer_line.new.writer.inner)) c.deref.ensures.value c.in-Err-answer_line.ensures.front)
+    (subst (λ l. IsAnsweredInPart l c.loop.gateway c.answer_line.new.gateway (write c.loop.writer.inner) (write c.answer_line.new.writer.inner))
+    c.deref.ensures.value c.in-Err-answer_line.ensures.front)
 
 pub returns-clause-front : goal.returns-clause-front
 returns-clause-front g c = all_in_part _ _ _ _ _ _ c.loop.invariant.goes

@@ -12,7 +12,8 @@ returns-clause-served g c =
     let begins = subst (Appends (write c.args.writer.now.inner) (write c.write_line.new.writer.inner)) (c.deref.ensures.value ∙ c.in-Ok-word_line.ensures) c.in_default-write_line.ensures.written in
     on_ok_weaker c.answer_lines.result
     (all_served (g.R.Read.remaining c.args.reader.now.inner) (g.R.Read.remaining c.start.new.reader.inner) (g.R.Read.remaining c.answer_lines.new.reader.inner)
-    (write c.args.writer.now.inner) (write c.write_line.new.writer.inner) (write c.answer_lines.new.writer.inner) c.in-Ok.started.0 c.in-Ok.started.1 c.answer_lines.new.gateway c.in-Ok.ensures.started begins) c.answer_lines.ensures.all
+    (write c.args.writer.now.inner) (write c.write_line.new.writer.inner) (write c.answer_lines.new.writer.inner) c.in-Ok.started.0 c.in-Ok.started.1
+    c.answer_lines.new.gateway c.in-Ok.ensures.started begins) c.answer_lines.ensures.all
 
 pub returns-clause-first : goal.returns-clause-first
 returns-clause-first g c =
@@ -20,7 +21,8 @@ returns-clause-first g c =
     let begins = subst (Appends (write c.args.writer.now.inner) (write c.write_line.new.writer.inner)) (c.deref.ensures.value ∙ c.in-Ok-word_line.ensures) c.in_default-write_line.ensures.written in
     IfErr-weaker c.answer_lines.result _ _
     (λ fault first other unclosed. first_served (g.R.Read.remaining c.args.reader.now.inner) (g.R.Read.remaining c.start.new.reader.inner)
-    (write c.args.writer.now.inner) (write c.write_line.new.writer.inner) (write c.answer_lines.new.writer.inner) c.in-Ok.started.0 c.in-Ok.started.1 c.in-Ok.ensures.started begins (first other unclosed)) c.answer_lines.ensures.first
+    (write c.args.writer.now.inner) (write c.write_line.new.writer.inner) (write c.answer_lines.new.writer.inner) c.in-Ok.started.0 c.in-Ok.started.1
+    c.in-Ok.ensures.started begins (first other unclosed)) c.answer_lines.ensures.first
 
 pub returns-clause-front : goal.returns-clause-front
 returns-clause-front g c =
@@ -28,10 +30,13 @@ returns-clause-front g c =
     let begins = subst (Appends (write c.args.writer.now.inner) (write c.write_line.new.writer.inner)) (c.deref.ensures.value ∙ c.in-Ok-word_line.ensures) c.in_default-write_line.ensures.written in
     on_err_weaker c.answer_lines.result
     (served_in_part (g.R.Read.remaining c.args.reader.now.inner) (g.R.Read.remaining c.start.new.reader.inner)
-    (write c.args.writer.now.inner) (write c.write_line.new.writer.inner) (write c.answer_lines.new.writer.inner) c.in-Ok.started.0 c.in-Ok.started.1 c.in-Ok.ensures.started begins) c.answer_lines.ensures.front
+    (write c.args.writer.now.inner) (write c.write_line.new.writer.inner) (write c.answer_lines.new.writer.inner) c.in-Ok.started.0 c.in-Ok.started.1
+    c.in-Ok.ensures.started begins) c.answer_lines.ensures.front
 
 pub returns-clause-long : goal.returns-clause-long
-returns-clause-long g c e = long_whole (g.R.Read.remaining c.args.reader.now.inner) (g.R.Read.remaining c.start.new.reader.inner) c.in-Ok.started.0 c.in-Ok.started.1 c.in-Ok.ensures.started (c.answer_lines.ensures.long e)
+returns-clause-long g c e =
+    long_whole (g.R.Read.remaining c.args.reader.now.inner) (g.R.Read.remaining c.start.new.reader.inner) c.in-Ok.started.0 c.in-Ok.started.1
+    c.in-Ok.ensures.started (c.answer_lines.ensures.long e)
 
 pub returns-clause-reads : goal.returns-clause-reads
 returns-clause-reads g c =

@@ -19,5 +19,6 @@ returns-in-Err-Wrong-clause-bad g c any =
 pub returns-in-Ok-start-clause-started : goal.returns-in-Ok-start-clause-started
 returns-in-Ok-start-clause-started g c =
     let fits : length c.next_line.new.line.items ≤ 1048576 = search rules in
-    has_started (g.R.Read.remaining c.args.reader.now.inner) (g.R.Read.remaining c.next_line.new.reader.inner) c.next_line.new.line.items (head_by c.in-Ok.head) c.in-Ok-start.gateway c.in_default.ensures.held c.in_default.ensures.rest fits
+    has_started (g.R.Read.remaining c.args.reader.now.inner) (g.R.Read.remaining c.next_line.new.reader.inner) c.next_line.new.line.items
+    (head_by c.in-Ok.head) c.in-Ok-start.gateway c.in_default.ensures.held c.in_default.ensures.rest fits
     (ap head_in (sym c.deref.ensures.value) ∙ c.in-Ok.ensures) c.in-Ok-start.ensures

@@ -15,7 +15,8 @@ returns-else-eq-clause-none c = λ o. by o (contains pair_cmp c.args.index.now (
     by o true e =
         let r = c.range.ensures.in_range tt in
         let first = r.2 (c.args.remote, o) (at_start c.args.remote o, tt) e in
-        let high : IsLeBy pair_cmp c.in_ok-r.field-0.now (c.args.remote, o) = subst (λ (ks : List (ℕ × ℕ)). IfSome (slice_get ks 0) (λ k. IsLeBy pair_cmp k (c.args.remote, o))) c.in_ok-r.ensures.steps first in
+        let high : IsLeBy pair_cmp c.in_ok-r.field-0.now (c.args.remote, o) =
+        subst (λ (ks : List (ℕ × ℕ)). IfSome (slice_get ks 0) (λ k. IsLeBy pair_cmp k (c.args.remote, o))) c.in_ok-r.ensures.steps first in
         let inside = subst (λ (ks : List (ℕ × ℕ)). IfSome (slice_get ks 0) (IsKeyInRange pair_cmp (Included (c.args.remote, 0)) Unbounded c.args.index.now)) c.in_ok-r.ensures.steps r.1 in
         absurd (squeezed c.in_ok-r.field-0.now c.args.remote o inside.0.0 high (unequal c.in_ok-r.field-0.now.0 c.args.remote (sym c.eq.ensures ∙ c.if-eq.false)))
 
@@ -27,5 +28,7 @@ pub returns-then-eq-clause-lowest : goal.returns-then-eq-clause-lowest
 returns-then-eq-clause-lowest c = λ o h.
     let r = c.range.ensures.in_range tt in
     let first = r.2 (c.args.remote, o) (at_start c.args.remote o, tt) h in
-    let high : IsLeBy pair_cmp c.in_ok-r.field-0.now (c.args.remote, o) = subst (λ (ks : List (ℕ × ℕ)). IfSome (slice_get ks 0) (λ k. IsLeBy pair_cmp k (c.args.remote, o))) c.in_ok-r.ensures.steps first in
-    own_after c.args.remote c.in_ok-r.field-0.now.1 o (subst (λ (n : ℕ). IsLeBy pair_cmp (n, c.in_ok-r.field-0.now.1) (c.args.remote, o)) (same_number c.in_ok-r.field-0.now.0 c.args.remote (sym c.eq.ensures ∙ c.if-eq.true)) high)
+    let high : IsLeBy pair_cmp c.in_ok-r.field-0.now (c.args.remote, o) =
+    subst (λ (ks : List (ℕ × ℕ)). IfSome (slice_get ks 0) (λ k. IsLeBy pair_cmp k (c.args.remote, o))) c.in_ok-r.ensures.steps first in
+    own_after c.args.remote c.in_ok-r.field-0.now.1 o (subst (λ (n : ℕ). IsLeBy pair_cmp (n, c.in_ok-r.field-0.now.1) (c.args.remote, o))
+    (same_number c.in_ok-r.field-0.now.0 c.args.remote (sym c.eq.ensures ∙ c.if-eq.true)) high)

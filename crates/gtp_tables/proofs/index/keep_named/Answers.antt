@@ -14,4 +14,5 @@ returns c = λ r o.
     let stays : ℕ × ℕ → Bool = λ p. is_some (get c.args.table.now.table p.1) in
     let left : c.retain.new.self.keys ≡ filter stays c.args.index.now.keys = filter_same _ stays _ (λ x b f' k. search rules) _ _ c.retain.ensures.filtered in
     ap (λ (ks : List (ℕ × ℕ)). list_any (λ k. is_eq (pair_cmp (r, o) k)) ks) left
-    ∙ any-filter_same (λ k. is_eq (pair_cmp (r, o) k)) stays (is_some (get c.args.table.now.table o)) (λ k e. ap (λ (own : ℕ). is_some (get c.args.table.now.table own)) (sym (pair_of r o k e))) c.args.index.now.keys
+    ∙ any-filter_same (λ k. is_eq (pair_cmp (r, o) k)) stays (is_some (get c.args.table.now.table o))
+    (λ k e. ap (λ (own : ℕ). is_some (get c.args.table.now.table own)) (sym (pair_of r o k e))) c.args.index.now.keys

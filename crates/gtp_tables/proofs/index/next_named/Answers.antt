@@ -15,7 +15,8 @@ returns-else-eq-clause-none c = λ o less. by o less (contains pair_cmp c.args.i
     by o less true e =
         let r = c.range.ensures.in_range tt in
         let first = r.2 (c.args.remote, o) (past c.args.remote c.args.after o less, tt) e in
-        let high : IsLeBy pair_cmp c.in_ok-r.field-0.now (c.args.remote, o) = subst (λ (ks : List (ℕ × ℕ)). IfSome (slice_get ks 0) (λ k. IsLeBy pair_cmp k (c.args.remote, o))) c.in_ok-r.ensures.steps first in
+        let high : IsLeBy pair_cmp c.in_ok-r.field-0.now (c.args.remote, o) =
+        subst (λ (ks : List (ℕ × ℕ)). IfSome (slice_get ks 0) (λ k. IsLeBy pair_cmp k (c.args.remote, o))) c.in_ok-r.ensures.steps first in
         let inside = subst (λ (ks : List (ℕ × ℕ)). IfSome (slice_get ks 0) (IsKeyInRange pair_cmp (Excluded (c.args.remote, c.args.after)) Unbounded c.args.index.now)) c.in_ok-r.ensures.steps r.1 in
         absurd (squeezed_past c.in_ok-r.field-0.now c.args.remote c.args.after o inside.0.0 high (unequal c.in_ok-r.field-0.now.0 c.args.remote (sym c.eq.ensures ∙ c.if-eq.false)))
 
@@ -33,5 +34,7 @@ pub returns-then-eq-clause-lowest : goal.returns-then-eq-clause-lowest
 returns-then-eq-clause-lowest c = λ o less h.
     let r = c.range.ensures.in_range tt in
     let first = r.2 (c.args.remote, o) (past c.args.remote c.args.after o less, tt) h in
-    let high : IsLeBy pair_cmp c.in_ok-r.field-0.now (c.args.remote, o) = subst (λ (ks : List (ℕ × ℕ)). IfSome (slice_get ks 0) (λ k. IsLeBy pair_cmp k (c.args.remote, o))) c.in_ok-r.ensures.steps first in
-    own_after c.args.remote c.in_ok-r.field-0.now.1 o (subst (λ (n : ℕ). IsLeBy pair_cmp (n, c.in_ok-r.field-0.now.1) (c.args.remote, o)) (same_number c.in_ok-r.field-0.now.0 c.args.remote (sym c.eq.ensures ∙ c.if-eq.true)) high)
+    let high : IsLeBy pair_cmp c.in_ok-r.field-0.now (c.args.remote, o) =
+    subst (λ (ks : List (ℕ × ℕ)). IfSome (slice_get ks 0) (λ k. IsLeBy pair_cmp k (c.args.remote, o))) c.in_ok-r.ensures.steps first in
+    own_after c.args.remote c.in_ok-r.field-0.now.1 o (subst (λ (n : ℕ). IsLeBy pair_cmp (n, c.in_ok-r.field-0.now.1) (c.args.remote, o))
+    (same_number c.in_ok-r.field-0.now.0 c.args.remote (sym c.eq.ensures ∙ c.if-eq.true)) high)

@@ -23,7 +23,10 @@ loop-rest-preserved c =
     let shorter : length c.in-Some.tail.now < length c.loop-rest.rest.now = element_shorter c.loop-rest.rest.now (element_of c.in-Some.element) c.in-Some.tail.now here in
     record {
       within = omega (arith, c.loop-rest.invariant.within);
-      found = ap (λ f. found_before f (elements_at c.args.end c.in-Some.tail.now)) c.and-found.ensures ∙ (found_on (found_of c.loop-rest.found) c.args.end c.loop-rest.rest.now (element_of c.in-Some.element) c.in-Some.tail.now here ∙ c.loop-rest.invariant.found);
+      found =
+          ap (λ f. found_before f (elements_at c.args.end c.in-Some.tail.now)) c.and-found.ensures
+          ∙ (found_on (found_of c.loop-rest.found) c.args.end c.loop-rest.rest.now (element_of c.in-Some.element) c.in-Some.tail.now here
+          ∙ c.loop-rest.invariant.found);
     }
 
 pub returns : goal.returns

@@ -6,7 +6,9 @@ use Rattle.gtp_v2.proofs.check.check_from.Goals as goal
 pub returns-in_err-now : goal.returns-in_err-now
 returns-in_err-now c =
     let p = err_from_is_err_and c.from_residual.result c.from_residual.ensures.1 in
-    rw (p.1, p.2) (sym c.loop-line.invariant ∙ lines_stop c.loop-line.so_far c.args.lines.now c.loop-line.line-index no_line c.args.elements.now c.in_err-now.field-0.0 c.loop-line-test.true c.in_err-now.ensures)
+    rw (p.1, p.2) (sym c.loop-line.invariant
+    ∙ lines_stop c.loop-line.so_far c.args.lines.now c.loop-line.line-index no_line c.args.elements.now c.in_err-now.field-0.0 c.loop-line-test.true
+    c.in_err-now.ensures)
 
 pub loop-line-preserved : goal.loop-line-preserved
 loop-line-preserved c =

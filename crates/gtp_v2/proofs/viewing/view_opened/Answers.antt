@@ -5,9 +5,12 @@ use Rattle.gtp_v2.proofs.viewing.view_opened.Goals as goal
 
 pub returns-clause-lies : goal.returns-clause-lies
 returns-clause-lies c =
-    viewed_lies (c.args.first ∷ c.args.kind ∷ c.args.high ∷ c.args.low ∷ c.args.rest.now) (headed_of c.in-Ok.header) c.in-Ok-view_content.elements c.in-Ok.ensures (record { reads = c.in-Ok-view_content.ensures.reads; walked = c.in-Ok-view_content.ensures.elements })
+    viewed_lies (c.args.first ∷ c.args.kind ∷ c.args.high ∷ c.args.low ∷ c.args.rest.now) (headed_of c.in-Ok.header) c.in-Ok-view_content.elements
+    c.in-Ok.ensures (record { reads = c.in-Ok-view_content.ensures.reads; walked = c.in-Ok-view_content.ensures.elements })
 
 pub returns-in-Err-view_content-clause-place : goal.returns-in-Err-view_content-clause-place
 returns-in-Err-view_content-clause-place c =
-    let within = fault_place (c.args.first ∷ c.args.kind ∷ c.args.high ∷ c.args.low ∷ c.args.rest.now) (headed_of c.in-Ok.header) c.in-Err-view_content.fault c.in-Ok.ensures c.in-Err-view_content.ensures.reads in
+    let within =
+    fault_place (c.args.first ∷ c.args.kind ∷ c.args.high ∷ c.args.low ∷ c.args.rest.now) (headed_of c.in-Ok.header) c.in-Err-view_content.fault
+    c.in-Ok.ensures c.in-Err-view_content.ensures.reads in
     omega (arith, within)

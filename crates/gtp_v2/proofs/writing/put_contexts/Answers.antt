@@ -8,4 +8,5 @@ use Rattle.gtp_v2.proofs.writing.put_contexts.Goals as goal
 pub returns-clause-kinds : goal.returns-clause-kinds
 returns-clause-kinds g c =
     let all : take c.loop-context.context-index c.args.contexts.now ≡ c.args.contexts.now = take_all c.loop-context.context-index c.args.contexts.now (omega arith) in
-    All-map (RowsHaveKinds g.C.Context.rows) g.C.Context.values c.args.contexts.now (subst (All (λ context. RowsHaveKinds g.C.Context.rows (g.C.Context.values context))) all c.loop-context.invariant.1)
+    All-map (RowsHaveKinds g.C.Context.rows) g.C.Context.values c.args.contexts.now
+    (subst (All (λ context. RowsHaveKinds g.C.Context.rows (g.C.Context.values context))) all c.loop-context.invariant.1)

@@ -11,7 +11,8 @@ pub loop-value-preserved : goal.loop-value-preserved
 unfolding several_encoding
 loop-value-preserved g c =
     let i = c.loop-value.value-index in
-    let text : c.put_value.new.out.items ≡ c.args.out.now.items ++ several_encoding g.T.IeValue.KIND c.args.instance (map g.T.IeValue.value (take (i + 1) c.args.values.now)) = grind (arith, common_steps) in
+    let text : c.put_value.new.out.items ≡ c.args.out.now.items ++ several_encoding g.T.IeValue.KIND c.args.instance (map g.T.IeValue.value (take (i + 1) c.args.values.now)) =
+    grind (arith, common_steps) in
     let kind = g.T.IeValue.KIND in (
       text,
       All-more (λ value. HasKind kind (g.T.IeValue.value value)) c.args.values.now i c.value-item.result c.loop-value-test.true c.loop-value.invariant.1

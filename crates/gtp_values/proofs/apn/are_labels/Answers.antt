@@ -13,7 +13,8 @@ loop-octet-preserved c =
       | then-left-eq0+else-not-is_label_length w ↦
           let none : c.loop-octet.left ≡ 0 = grind (arith, nat_tests) in
           let long : is_label_length (get_or octets i 0) ≡ true = search rules in
-          ap (λ (n : ℕ). are_labels_from n (drop (i + 1) octets)) w.left-is ∙ (at_length octets i c.loop-octet-test.true long ∙ (ap (λ (n : ℕ). are_labels_from n (drop i octets)) (sym none) ∙ c.loop-octet.invariant))
+          ap (λ (n : ℕ). are_labels_from n (drop (i + 1) octets)) w.left-is
+          ∙ (at_length octets i c.loop-octet-test.true long ∙ (ap (λ (n : ℕ). are_labels_from n (drop i octets)) (sym none) ∙ c.loop-octet.invariant))
       | else-left-eq0+else-not-is_label_octet w ↦
           let some : 0 < c.loop-octet.left = grind (arith, nat_tests) in
           let good : is_label_octet (get_or octets i 0) ≡ true = search rules in

@@ -49,7 +49,8 @@ detach_spec 𝓤 𝓛 𝓜 𝓡 wired =
     f.Key.name fn (code.unfolded 𝓤 H 𝓜 𝓡 wired) (λ z are.
     let h = z.0.3.0 in let a = z.0.3.1.0 in let us = z.0.4.0 in let vs = z.0.4.1.0 in
     let Post : Val → SProp 𝓤 = W.post z in let Run : List Val → SProp 𝓤 = λ ws. WpFn 𝓤 H 𝓣.C 𝓣.Λ fn ws Post in
-    qed 𝓛 ((‵ ftrue ⊛ ‵ (owns (types_at f.ended.signature.params z.0.0) z.0.3 z.0.4)) ∷ raw (fact 𝓤 (IsSome h.value)) ∷ []) ∵ move ! (1 ∷ []) $ heard ! (IsSome h.value) (λ some. let x = (full R h.value some).0 in let ex = (full R h.value some).1 in split ! $ move ! (1 ∷ []) $ fsplit ! $
+    qed 𝓛 ((‵ ftrue ⊛ ‵ (owns (types_at f.ended.signature.params z.0.0) z.0.3 z.0.4)) ∷ raw (fact 𝓤 (IsSome h.value)) ∷ []) ∵ move ! (1 ∷ []) $ heard
+    ! (IsSome h.value) (λ some. let x = (full R h.value some).0 in let ex = (full R h.value some).1 in split ! $ move ! (1 ∷ []) $ fsplit ! $
     -- [the place; the allocator, in two entries; the tokens]
     peeks ! B _ (shows 𝓛 B) h us (λ is. fsplit ! $ drop ! $ rewrite ! 0 (λ (v : Option R.Denot). ‵ (held h.at v)) ex refl $
     fpick ! (λ g. in_a_block ! h.at (λ p. boxed p x g) (fst∗ 𝓤 (never 𝓤) (sem 𝓛 (ghosts.dealloc_token g (bare (lone R.mir)) null_ptr))) (λ b o e.

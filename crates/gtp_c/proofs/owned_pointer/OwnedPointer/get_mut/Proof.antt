@@ -65,7 +65,8 @@ get_mut_spec 𝓤 𝓛 𝓜 𝓡 wired =
     let κ = κs.0 in let q = qs.0 in let b = a.0.ref_ptr.0 in let o = a.0.ref_ptr.1 in let γ = a.0.ghost_name in let h = a.0.now in let vs = mut_vals a.0 in
     let y : W.Ghost = ((κs, qs, bounds, a, (vs, tt)), tt) in
     qed 𝓛 (((‵ (flft κ q) ⊛ ‵ ftrue) ⊛ ‵ ((MutRef (named 0) κ B).own_val a.0 vs) ⊛ ‵ ftrue) ∷ raw (fact 𝓤 (IsSome h.value)) ∷ []) ∵
-    move ! (1 ∷ []) $ heard ! (IsSome h.value) (λ filled. let x = (full R h.value filled).0 in let same = (full R h.value filled).1 in split ! $ split ! $ move ! (2 ∷ []) $ split ! $ keep ! (0 ∷ 2 ∷ []) $
+    move ! (1 ∷ []) $ heard ! (IsSome h.value) (λ filled. let x = (full R h.value filled).0 in let same = (full R h.value filled).1 in split ! $
+    split ! $ move ! (2 ∷ []) $ split ! $ keep ! (0 ∷ 2 ∷ []) $
     enter ! _ _ _ _ _ $ alloc_all ! (λ l. pass_all ! refl ((tt, tt), tt) $
     fsplit3 ! $ drop ! $ opens ! tt B b o (λ us.
     move ! (1 ∷ []) $ peeks ! B _ (shows 𝓛 B) h us (λ is. fsplit ! $ move ! (1 ∷ []) $ rewrite ! 0 (λ (v : Option R.Denot). ‵ (held h.at v)) same refl $

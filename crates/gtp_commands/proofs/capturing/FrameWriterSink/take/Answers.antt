@@ -7,5 +7,9 @@ pub returns-in-Err-clause-err : goal.returns-in-Err-clause-err
 returns-in-Err-clause-err g c =
     let unwritten = c.unwritten.ensures in
     let write = g.W.Write.contents in
-    let front = subst (WritesFront (write c.args.self.now.out.inner) (write c.write_all.new.self.inner)) c.deref.ensures.value c.in-Err.ensures.front in
-    (c.unwritten.result, refl, unwritten_why c.args.self.now _ c.in-Err.failed.kind c.unwritten.result c.in-Err.ensures.count unwritten.closed unwritten.write unwritten.kind, λ which. (c.in-Ok.shown.text.items, c.in-Ok.shown.faulty, record { chosen = search rules; shown = c.in-Ok.ensures; fault = search rules }, front))
+    let front = subst (WritesFront (write c.args.self.now.out.inner) (write c.write_all.new.self.inner)) c.deref.ensures.value c.in-Err.ensures.front in (
+      c.unwritten.result,
+      refl,
+      unwritten_why c.args.self.now _ c.in-Err.failed.kind c.unwritten.result c.in-Err.ensures.count unwritten.closed unwritten.write unwritten.kind,
+      λ which. (c.in-Ok.shown.text.items, c.in-Ok.shown.faulty, record { chosen = search rules; shown = c.in-Ok.ensures; fault = search rules }, front),
+    )

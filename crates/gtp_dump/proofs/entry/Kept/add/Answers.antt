@@ -34,5 +34,7 @@ returns-clause-held c start lines counted kept =
           subst (λ (s : Kept). IsKept start (record s { lines = s.lines + 1 }) (lines ++ line ∷ [])) (sym w.self-is) (kept_more start lines line c.args.self _ kept refl refl octets so_far)
       | else-is_none w ↦
           let some : is_none c.args.self.wrong ≡ false = search rules in
-          subst (λ (s : Kept). IsKept start (record s { lines = s.lines + 1 }) (lines ++ line ∷ [])) (sym w.self-is) (kept_more start lines line c.args.self _ kept refl refl octets (after_wrong start lines line c.args.self c.args.self.size c.args.self.digits.items c.args.self.wrong refl some kept.so_far))
+          subst (λ (s : Kept). IsKept start (record s { lines = s.lines + 1 }) (lines ++ line ∷ [])) (sym w.self-is)
+          (kept_more start lines line c.args.self _ kept refl refl octets
+          (after_wrong start lines line c.args.self c.args.self.size c.args.self.digits.items c.args.self.wrong refl some kept.so_far))
     ]

@@ -11,24 +11,34 @@ few_places place points within few = omega (arith, within, few)
 pub bounds-self-inside-place : goal.bounds-self-inside-place
 bounds-self-inside-place c =
     let points = c.self.inside.access_points.items in
-    few_places c.in-Some.place (length points) (place_within c.args.access_point.now points c.in-Some.place (subst (λ (ps : List (List ℕ)). IsPlaceOf c.args.access_point.now ps c.in-Some.place) c.as_slice.ensures.value c.in-Some.ensures.some)) c.self.invariant.few
+    few_places c.in-Some.place (length points) (place_within c.args.access_point.now points c.in-Some.place
+    (subst (λ (ps : List (List ℕ)). IsPlaceOf c.args.access_point.now ps c.in-Some.place) c.as_slice.ensures.value c.in-Some.ensures.some))
+    c.self.invariant.few
 
 pub offset_bounds-self-inside-place : goal.offset_bounds-self-inside-place
 offset_bounds-self-inside-place c =
     let points = c.self.inside.access_points.items in
-    let small = few_places c.in-Some.place (length points) (place_within c.args.access_point.now points c.in-Some.place (subst (λ (ps : List (List ℕ)). IsPlaceOf c.args.access_point.now ps c.in-Some.place) c.as_slice.ensures.value c.in-Some.ensures.some)) c.self.invariant.few in
+    let small =
+    few_places c.in-Some.place (length points) (place_within c.args.access_point.now points c.in-Some.place
+    (subst (λ (ps : List (List ℕ)). IsPlaceOf c.args.access_point.now ps c.in-Some.place) c.as_slice.ensures.value c.in-Some.ensures.some))
+    c.self.invariant.few in
     omega (arith, small)
 
 pub listed : goal.listed
 listed c =
     let points = c.self.inside.access_points.items in
-    let small = few_places c.in-Some.place (length points) (place_within c.args.access_point.now points c.in-Some.place (subst (λ (ps : List (List ℕ)). IsPlaceOf c.args.access_point.now ps c.in-Some.place) c.as_slice.ensures.value c.in-Some.ensures.some)) c.self.invariant.few in
+    let small =
+    few_places c.in-Some.place (length points) (place_within c.args.access_point.now points c.in-Some.place
+    (subst (λ (ps : List (List ℕ)). IsPlaceOf c.args.access_point.now ps c.in-Some.place) c.as_slice.ensures.value c.in-Some.ensures.some))
+    c.self.invariant.few in
     let all : length c.self.inside.templates.places ≡ 16 = search rules in
     omega (arith, small, all)
 
 pub returns-clause-ok : goal.returns-clause-ok
 returns-clause-ok c = (
-  λ is. subst (λ (s : Settings). Among c.args.access_point.now s.config.access_points) c.self.view_is (place_among c.args.access_point.now c.self.inside.access_points.items c.in-Some.place (subst (λ (ps : List (List ℕ)). IsPlaceOf c.args.access_point.now ps c.in-Some.place) c.as_slice.ensures.value c.in-Some.ensures.some)),
+  λ is. subst (λ (s : Settings). Among c.args.access_point.now s.config.access_points) c.self.view_is
+      (place_among c.args.access_point.now c.self.inside.access_points.items c.in-Some.place
+      (subst (λ (ps : List (List ℕ)). IsPlaceOf c.args.access_point.now ps c.in-Some.place) c.as_slice.ensures.value c.in-Some.ensures.some)),
   λ among. refl,
 )
 

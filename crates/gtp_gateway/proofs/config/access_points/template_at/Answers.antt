@@ -16,7 +16,8 @@ loop-place-preserved c =
     let room = has_place place (length points) (length places) c.loop-place-test.true c.requires in
     elim c.if-eq.branch [
       | then-eq+in_default w ↦ c.loop-place.invariant ∙ template_absent name points places place name _ c.loop-place-test.true room w.in_default.is
-      | else-eq w ↦ c.loop-place.invariant ∙ template_otherwise name points places place _ None c.loop-place-test.true room (subst (λ (x : List ℕ). x ≡ name → ⊥) c.index-access_points-place.is (are_apart _ name (sym c.eq.ensures ∙ w.if-eq.false)))
+      | else-eq w ↦ c.loop-place.invariant ∙ template_otherwise name points places place _ None c.loop-place-test.true room
+          (subst (λ (x : List ℕ). x ≡ name → ⊥) c.index-access_points-place.is (are_apart _ name (sym c.eq.ensures ∙ w.if-eq.false)))
     ]
 
 pub returns-in-Some : goal.returns-in-Some
@@ -26,4 +27,5 @@ returns-in-Some c =
     let name = c.args.name.now in
     let place = c.loop-place.place in
     let room = has_place place (length points) (length places) c.loop-place-test.true c.requires in
-    sym (c.loop-place.invariant ∙ template_found name points places place _ _ c.loop-place-test.true room c.in-Some.template (sym c.index-access_points-place.is ∙ same_text _ name (sym c.if-eq.true ∙ c.eq.ensures)) c.in-Some.is)
+    sym (c.loop-place.invariant ∙ template_found name points places place _ _ c.loop-place-test.true room c.in-Some.template
+    (sym c.index-access_points-place.is ∙ same_text _ name (sym c.if-eq.true ∙ c.eq.ensures)) c.in-Some.is)

@@ -9,4 +9,6 @@ pub returns-clause-tied : goal.returns-clause-tied
 returns-clause-tied c = subst NodeMatchesQueues c.self.view_is (tied_of c.self.inside.parts)
 
 pub returns-clause-once : goal.returns-clause-once
-returns-clause-once c = subst (λ (s : GatewayState). OneAnswerPerRequest s.node) c.self.view_is (held_once (state_of c.self.inside.parts) (tied_of c.self.inside.parts) c.is_full-held_full.ensures.always.apart)
+returns-clause-once c =
+    subst (λ (s : GatewayState). OneAnswerPerRequest s.node) c.self.view_is
+    (held_once (state_of c.self.inside.parts) (tied_of c.self.inside.parts) c.is_full-held_full.ensures.always.apart)

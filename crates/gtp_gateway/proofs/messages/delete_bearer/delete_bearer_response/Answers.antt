@@ -35,7 +35,8 @@ context_values : (cs : List RemovalResponseContext) → map removal_response_con
 context_values [] = refl
 context_values (c ∷ cs) = λ i. removal_response_context_values c ∷ context_values cs i
 
-linked_values : (linked : Option EbiValue) → option_to_list (option_map (λ (x : EbiValue). OfEbi x.0) linked) ≡ where_there (λ (x : ℕ). OfEbi x) (first_in number_of (option_to_list (option_map (λ (x : EbiValue). OfEbi x.0) linked)))
+linked_values : (linked : Option EbiValue) → option_to_list (option_map (λ (x : EbiValue). OfEbi x.0) linked)
+    ≡ where_there (λ (x : ℕ). OfEbi x) (first_in number_of (option_to_list (option_map (λ (x : EbiValue). OfEbi x.0) linked)))
 linked_values None = refl
 linked_values (Some e) = refl
 
@@ -45,20 +46,57 @@ linked_read (Some e) = refl
 
 -- what it says
 delete_bearer_said : (header : Teid) (number : ℕ) (cause : Cause) (linked : Option EbiValue) (cs : List RemovalResponseContext) (counter : Counter)
-    → control_message (record { teid = Some header; seq = number; priority = None; body = bodies.DeleteBearerResponse (record { cause = cause; linked_ebi = linked; contexts = cs; recovery = Some (record { 0 = counter }) }) })
-    ≡ Delete_bearer_response (record { header = header; number = number; cause = cause; linked = option_map (λ (e : EbiValue). e.0) linked; contexts = map removed_bearer cs; recovery = Some counter.0 })
+    → control_message (record {
+      teid = Some header;
+      seq = number;
+      priority = None;
+      body = bodies.DeleteBearerResponse (record { cause = cause; linked_ebi = linked; contexts = cs; recovery = Some (record { 0 = counter }) });
+    })
+    ≡ Delete_bearer_response
+    (record {
+      header = header;
+      number = number;
+      cause = cause;
+      linked = option_map (λ (e : EbiValue). e.0) linked;
+      contexts = map removed_bearer cs;
+      recovery = Some counter.0;
+    })
 unfolding row_in contexts_in
-delete_bearer_said header number cause linked cs counter = λ i. Delete_bearer_response (record { header = header; number = number; cause = cause; linked = linked_read linked i; contexts = removed_read cs i; recovery = Some counter.0 })
+delete_bearer_said header number cause linked cs counter =
+    λ i. Delete_bearer_response (record
+    { header = header; number = number; cause = cause; linked = linked_read linked i; contexts = removed_read cs i; recovery = Some counter.0 })
 
 -- it is one that a gateway sends
 delete_bearer_own : (header : Teid) (number : ℕ) (cause : Cause) (linked : Option EbiValue) (cs : List RemovalResponseContext) (counter : Counter) → length cs ≤ 11
-    → IsOwn (record { teid = Some header; seq = number; priority = None; body = bodies.DeleteBearerResponse (record { cause = cause; linked_ebi = linked; contexts = cs; recovery = Some (record { 0 = counter }) }) })
+    → IsOwn (record {
+      teid = Some header;
+      seq = number;
+      priority = None;
+      body = bodies.DeleteBearerResponse (record { cause = cause; linked_ebi = linked; contexts = cs; recovery = Some (record { 0 = counter }) });
+    })
 unfolding row_in contexts_in
 delete_bearer_own header number cause linked cs counter few =
     record {
       header = search rules;
       kind = tt;
-      marks = (refl, (omega arith, (tt, ((tt, contexts_marked (after (after start (Plain (OfCause cause ∷ []))) (Plain (option_to_list (option_map (λ (x : EbiValue). OfEbi x.0) linked)))).accepting cs), (tt, tt)))));
+      marks = (
+        refl,
+        (
+          omega arith,
+          (
+            tt,
+            (
+              (
+                tt,
+                contexts_marked
+                    (after (after start (Plain (OfCause cause ∷ []))) (Plain (option_to_list (option_map (λ (x : EbiValue). OfEbi x.0) linked)))).accepting
+                    cs,
+              ),
+              (tt, tt),
+            ),
+          ),
+        ),
+      );
       few = omega (arith, few, length-map cs removal_response_context_values);
       control = refl;
       own = tt;
@@ -66,10 +104,19 @@ delete_bearer_own header number cause linked cs counter few =
     }
 
 pub returns-clause-own : goal.returns-clause-own
-returns-clause-own c = delete_bearer_own c.args.header c.args.seq c.plain_cause.result c.map.result c.of.result c.args.counter (subst (λ (cs : List RemovalResponseContext). length cs ≤ 11) (sym c.of.ensures) c.requires)
+returns-clause-own c =
+    delete_bearer_own c.args.header c.args.seq c.plain_cause.result c.map.result c.of.result c.args.counter
+    (subst (λ (cs : List RemovalResponseContext). length cs ≤ 11) (sym c.of.ensures) c.requires)
 
 pub returns-clause-says : goal.returns-clause-says
 returns-clause-says c =
     let linked : option_map (λ (e : EbiValue). e.0) c.map.result ≡ c.args.linked = search rules in
     delete_bearer_said c.args.header c.args.seq c.plain_cause.result c.map.result c.of.result c.args.counter
-    ∙ (λ i. Delete_bearer_response (record { header = c.args.header; number = c.args.seq; cause = c.plain_cause.ensures i; linked = linked i; contexts = map removed_bearer (c.of.ensures i); recovery = Some c.args.counter.0 }))
+    ∙ (λ i. Delete_bearer_response (record {
+      header = c.args.header;
+      number = c.args.seq;
+      cause = c.plain_cause.ensures i;
+      linked = linked i;
+      contexts = map removed_bearer (c.of.ensures i);
+      recovery = Some c.args.counter.0;
+    }))

@@ -15,4 +15,6 @@ returns-clause-node c =
     ∙ ap (holding c.args.arrival.now (control_message c.args.message.now ∷ [])) (c.in_ok-apply.ensures.node ∙ ap (λ (s : GatewayState). changed_by c.args.change s.node) c.ready_answer.ensures.same)
 
 pub returns-clause-goes : goal.returns-clause-goes
-returns-clause-goes c = readied_goes c.args.arrival.now (state_of c.args.self.now) _ (state_of c.apply.new.self) c.send_answer.new.self c.in_ok-ready.ready.answer.items c.ready_answer.ensures.same c.apply.ensures.waits c.send_answer.ensures.queues
+returns-clause-goes c =
+    readied_goes c.args.arrival.now (state_of c.args.self.now) _ (state_of c.apply.new.self) c.send_answer.new.self c.in_ok-ready.ready.answer.items
+    c.ready_answer.ensures.same c.apply.ensures.waits c.send_answer.ensures.queues

@@ -18,6 +18,16 @@ returns-clause-taken c =
     let a = c.args.answer.now in
     let message : Message = control_message c.delete_bearer_response-message.result in
     let said : message ≡ Delete_bearer_response (record { header = a.header; number = c.args.seq; cause = cause_of a.cause; linked = a.linked; contexts = []; recovery = Some node.counter }) =
-    c.delete_bearer_response-message.ensures.says ∙ (λ i. Delete_bearer_response (record { header = a.header; number = c.args.seq; cause = cause_of a.cause; linked = a.linked; contexts = map removed_bearer (c.new-contexts.ensures.items i); recovery = Some (c.counter-counter.ensures i) })) in
-    answers (λ n e. e ≡ delete_bearer_effect arrival c.args.seq a n) arrival (state_of old) (state_of c.answer.new.self) c.sent.result c.in_ok-out.out message a.cause (changed_by a.change node) c.sent.ensures c.in_ok-out.ensures.sent c.in_ok-out.ensures.back c.in_ok-out.ensures.node c.in_ok-out.ensures.role
+    c.delete_bearer_response-message.ensures.says
+    ∙ (λ i. Delete_bearer_response (record {
+      header = a.header;
+      number = c.args.seq;
+      cause = cause_of a.cause;
+      linked = a.linked;
+      contexts = map removed_bearer (c.new-contexts.ensures.items i);
+      recovery = Some (c.counter-counter.ensures i);
+    })) in
+    answers (λ n e. e ≡ delete_bearer_effect arrival c.args.seq a n) arrival (state_of old) (state_of c.answer.new.self) c.sent.result c.in_ok-out.out
+    message a.cause (changed_by a.change node) c.sent.ensures c.in_ok-out.ensures.sent c.in_ok-out.ensures.back c.in_ok-out.ensures.node
+    c.in_ok-out.ensures.role
     (λ i. answered arrival (said i) a.cause (changed_by a.change node))

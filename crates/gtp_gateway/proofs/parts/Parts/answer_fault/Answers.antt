@@ -24,13 +24,25 @@ returns-clause-taken c = λ peer new.
     let fault = fault_of f in
     let cause = defect_cause (defect_of f.defect) in
     let m : Message = refusing f.kind (faulty_header node f.kind fault) f.seq (cause_at cause f.element f.instance) node.counter in
-    let said : control_message c.in_ok-message.message ≡ m = c.in_ok-message.ensures.says ∙ (λ i. refusing f.kind (c.faulty_header-header.ensures i) f.seq ((c.fault_cause-cause.ensures ∙ ap (λ n. cause_at n f.element f.instance) c.cause.ensures) i) (c.counter-counter.ensures i)) in
+    let said : control_message c.in_ok-message.message ≡ m =
+    c.in_ok-message.ensures.says ∙ (λ i. refusing f.kind (c.faulty_header-header.ensures i) f.seq
+    ((c.fault_cause-cause.ensures ∙ ap (λ n. cause_at n f.element f.instance) c.cause.ensures) i) (c.counter-counter.ensures i)) in
     let sent = c.in_ok-out.ensures.sent ∙ (λ i. datagram_of node.config (record { destination = c.args.arrival.now.source; messages = said i ∷ [] })) in
-    let shown : c.sent.result ≡ record { out = Some c.in_ok-out.out; report = plain_report (Answered cause) } = c.sent.ensures ∙ ap (λ n. record { out = Some c.in_ok-out.out; report = plain_report (Answered n) }) c.cause-2.ensures in
+    let shown : c.sent.result ≡ record { out = Some c.in_ok-out.out; report = plain_report (Answered cause) } =
+    c.sent.ensures ∙ ap (λ n. record { out = Some c.in_ok-out.out; report = plain_report (Answered n) }) c.cause-2.ensures in
     subst (λ (s : ControlStep). IsFaultEffect c.args.arrival.now (Faulty fault) old s) (sym shown)
     (record {
       effect = faulted c.args.arrival.now fault node;
       takes = fault_answered node c.args.arrival.now fault old.role c.requires peer new;
-      tells = record { sent = one_sent node.config _ _ sent (subst (λ m. ReadsBack (m ∷ [])) said c.in_ok-out.ensures.back); outcome = refl; alone = refl; heard = refl; restart = refl; made = refl; all = refl };
+      tells =
+          record {
+            sent = one_sent node.config _ _ sent (subst (λ m. ReadsBack (m ∷ [])) said c.in_ok-out.ensures.back);
+            outcome = refl;
+            alone = refl;
+            heard = refl;
+            restart = refl;
+            made = refl;
+            all = refl;
+          };
       stays = refl;
     })

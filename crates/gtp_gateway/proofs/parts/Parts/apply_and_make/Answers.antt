@@ -18,7 +18,8 @@ pub apply_verdict-requires-clause-can : goal.apply_verdict-requires-clause-can
 apply_verdict-requires-clause-can c =
     let n = node_of c.args.self.now in
     let made = succeeded c.add.result c.in_ok-map_err.ensures.variant c.add.ensures.ok in
-    subst (λ (bearers : FiniteMap Bearer). CanApply c.args.verdict (node_heard c.args.heard (record n { bearers = bearers }))) (sym made) (can_settle_more c.args.heard c.args.verdict n c.args.teid c.args.bearer c.requires.stands c.requires.can)
+    subst (λ (bearers : FiniteMap Bearer). CanApply c.args.verdict (node_heard c.args.heard (record n { bearers = bearers }))) (sym made)
+    (can_settle_more c.args.heard c.args.verdict n c.args.teid c.args.bearer c.requires.stands c.requires.can)
 
 pub returns-then-is_err-clause-err : goal.returns-then-is_err-clause-err
 returns-then-is_err-clause-err c =
@@ -26,7 +27,9 @@ returns-then-is_err-clause-err c =
     let t = c.args.teid in
     let made = succeeded c.add.result c.in_ok-map_err.ensures.variant c.add.ensures.ok in
     let left = failed c.apply_verdict.result (c.is_err.ensures.negation ∙ ap not c.if-is_err.true) c.apply_verdict.ensures.err in
-    let back = c.remove.ensures ∙ ap (λ (s : GatewayState). remove s.node.bearers t) left ∙ ap (λ (m : FiniteMap Bearer). remove m t) made ∙ taken_back n.bearers t c.args.bearer (none_above n.bearers t c.requires.drawn.1) in
+    let back =
+    c.remove.ensures ∙ ap (λ (s : GatewayState). remove s.node.bearers t) left ∙ ap (λ (m : FiniteMap Bearer). remove m t) made
+    ∙ taken_back n.bearers t c.args.bearer (none_above n.bearers t c.requires.drawn.1) in
     λ i. record (left i) { node = record (left i).node { bearers = back i } }
 
 pub returns-clause-node : goal.returns-clause-node

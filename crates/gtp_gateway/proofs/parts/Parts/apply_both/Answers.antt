@@ -15,4 +15,5 @@ apply_and_make-requires-clause-stands c =
     let r = c.args.request.now in
     let t = g.drawn.teid in
     let can = subst (λ (a : CreateBearerAnswer). CanGive (get (node_after_first c.args.heard c.args.verdict c.args.seq n).sessions r.header) a n) c.in-Granted.is c.requires.given in
-    subst (λ (b : Bearer). MayStand c.args.heard c.args.verdict t b n) (sym c.granted_bearer-bearer.ensures) (may_stand c.args.heard c.args.verdict c.args.seq n t (granted_to r g.identity) can.0 c.requires.of c.requires.can can.3.above can.1)
+    subst (λ (b : Bearer). MayStand c.args.heard c.args.verdict t b n) (sym c.granted_bearer-bearer.ensures)
+    (may_stand c.args.heard c.args.verdict c.args.seq n t (granted_to r g.identity) can.0 c.requires.of c.requires.can can.3.above can.1)

@@ -17,6 +17,9 @@ returns-clause-waits c =
     elim c.match-verdict.branch [
       | in-Drops w ↦ subst (λ (g : Parts). RequestsWaitOn old (state_of g)) (sym w.self-is) w.hear.ensures.waits
       | in-Finishes w ↦ subst (λ (g : Parts). RequestsWaitOn old (state_of g)) (sym w.self-is) (wait_on old _ _ w.hear-in-Finishes.ensures.waits w.finish.ensures.removes.waits)
-      | in-OpensSession+in_ok-open_bearer-in-OpensSession w ↦ subst (λ (g : Parts). RequestsWaitOn old (state_of g)) (sym w.self-is) (wait_on old (state_of w.open_bearer.new.self) _ w.open_bearer.ensures.waits (from (state_of w.open_bearer.new.self) _ _ refl w.finish_number.ensures.removes.waits))
-      | in-OpensBearer+in_ok-open_bearer-in-OpensBearer w ↦ subst (λ (g : Parts). RequestsWaitOn old (state_of g)) (sym w.self-is) (wait_on old _ _ w.open_bearer-in-OpensBearer.ensures.waits w.finish_number-in-OpensBearer.ensures.removes.waits)
+      | in-OpensSession+in_ok-open_bearer-in-OpensSession w ↦ subst (λ (g : Parts). RequestsWaitOn old (state_of g)) (sym w.self-is)
+          (wait_on old (state_of w.open_bearer.new.self) _ w.open_bearer.ensures.waits
+          (from (state_of w.open_bearer.new.self) _ _ refl w.finish_number.ensures.removes.waits))
+      | in-OpensBearer+in_ok-open_bearer-in-OpensBearer w ↦ subst (λ (g : Parts). RequestsWaitOn old (state_of g)) (sym w.self-is)
+          (wait_on old _ _ w.open_bearer-in-OpensBearer.ensures.waits w.finish_number-in-OpensBearer.ensures.removes.waits)
     ]

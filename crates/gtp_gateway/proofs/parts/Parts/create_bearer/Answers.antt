@@ -38,7 +38,8 @@ returns-in_default-clause-refused c = λ why.
     (stops s.node _ TeidsUsed refl c.in_default.ensures.none why)
 
 -- where a TEID is left, the last rule decides
-by_last : (c : After-next_number) (r : Result Begun CommandFault) → IsLastRefused (state_of c.args.self.now) r → IsRefusedWhere (Create_bearer c.args.session c.args.tft.now c.args.qos.now) (state_of c.args.self.now) r
+by_last : (c : After-next_number) (r : Result Begun CommandFault) → IsLastRefused (state_of c.args.self.now) r
+    → IsRefusedWhere (Create_bearer c.args.session c.args.tft.now c.args.qos.now) (state_of c.args.self.now) r
 by_last c r rule = λ why.
     let s = state_of c.args.self.now in
     let session = c.args.session in

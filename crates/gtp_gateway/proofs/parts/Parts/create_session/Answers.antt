@@ -37,7 +37,8 @@ returns-in_default-clause-refused c = λ why.
     stops node _ TeidsUsed refl c.in_default.ensures.none why))
 
 -- where there is room for a session and two TEIDs are left, the last rule decides
-by_last : (c : After-next_number) (r : Result Begun CommandFault) → IsLastRefused (state_of c.args.self.now) r → IsRefusedWhere (Create_session (specification c.args.spec.now)) (state_of c.args.self.now) r
+by_last : (c : After-next_number) (r : Result Begun CommandFault) → IsLastRefused (state_of c.args.self.now) r
+    → IsRefusedWhere (Create_session (specification c.args.spec.now)) (state_of c.args.self.now) r
 by_last c r rule = λ why.
     let s = state_of c.args.self.now in
     let spec : Specification = specification c.args.spec.now in
@@ -49,7 +50,8 @@ by_last c r rule = λ why.
 
 pub returns-in_err-seq-clause-refused : goal.returns-in_err-seq-clause-refused
 returns-in_err-seq-clause-refused c =
-    by_last (goal.at.returns-in_err-seq-clause-refused c).After-next_number c.from_residual.result (as_err (state_of c.args.self.now) c.in_err-seq.field-0.0 c.from_residual.result c.from_residual.ensures.1 c.in_err-seq.ensures.refused)
+    by_last (goal.at.returns-in_err-seq-clause-refused c).After-next_number c.from_residual.result
+    (as_err (state_of c.args.self.now) c.in_err-seq.field-0.0 c.from_residual.result c.from_residual.ensures.1 c.in_err-seq.ensures.refused)
 
 pub returns-clause-refused : goal.returns-clause-refused
 returns-clause-refused c = by_last (goal.at.returns-clause-refused c).After-next_number c.send_request.result c.send_request.ensures.refused
@@ -65,7 +67,26 @@ returns-clause-done c =
     done_by (Create_session spec) seq _ (request_to_create_session drawn c.args.spec.now seq old.node) c.send_request.result old (state_of c.send_request.new.self)
     c.in_ok-request.ensures.says (λ teid. refl)
     (λ e room asks. subst (λ (role : Role). SessionBegun role spec old.node e) (sym role)
-    (inr (yes c.has_session_room.ensures c.if-not-has_session_room.false, inr (two.left, inr (room, record { control = drawn.control; user = drawn.user; number = seq; control_free = two.control_free; user_free = two.user_free; apart = two.apart; number_free = asks.number_free; gives = asks.gives })))))
+    (inr (
+      yes c.has_session_room.ensures c.if-not-has_session_room.false,
+      inr (
+        two.left,
+        inr (
+          room,
+          record {
+            control = drawn.control;
+            user = drawn.user;
+            number = seq;
+            control_free = two.control_free;
+            user_free =
+                two.user_free;
+            apart = two.apart;
+            number_free = asks.number_free;
+            gives = asks.gives;
+          },
+        ),
+      ),
+    )))
     c.send_request.ensures.done
 
 -- the TEIDs that were drawn can be used

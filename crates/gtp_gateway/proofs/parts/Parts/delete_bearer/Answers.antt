@@ -31,7 +31,8 @@ returns-then-not-are_active-clause-refused c = λ why.
     (stops node _ NotActive refl (no c.are_active.ensures c.if-not-are_active.true) why)))
 
 -- of an active bearer of an active session the last rule decides
-by_last : (c : After-next_number) (r : Result Begun CommandFault) → IsLastRefused (state_of c.args.self.now) r → IsRefusedWhere (Delete_bearer c.args.session c.args.identity) (state_of c.args.self.now) r
+by_last : (c : After-next_number) (r : Result Begun CommandFault) → IsLastRefused (state_of c.args.self.now) r
+    → IsRefusedWhere (Delete_bearer c.args.session c.args.identity) (state_of c.args.self.now) r
 by_last c r rule = λ why.
     let s = state_of c.args.self.now in
     let session = c.args.session in
@@ -47,7 +48,8 @@ by_last c r rule = λ why.
 
 pub returns-in_err-seq-clause-refused : goal.returns-in_err-seq-clause-refused
 returns-in_err-seq-clause-refused c =
-    by_last (goal.at.returns-in_err-seq-clause-refused c).After-next_number c.from_residual.result (as_err (state_of c.args.self.now) c.in_err-seq.field-0.0 c.from_residual.result c.from_residual.ensures.1 c.in_err-seq.ensures.refused)
+    by_last (goal.at.returns-in_err-seq-clause-refused c).After-next_number c.from_residual.result
+    (as_err (state_of c.args.self.now) c.in_err-seq.field-0.0 c.from_residual.result c.from_residual.ensures.1 c.in_err-seq.ensures.refused)
 
 pub returns-in_err-request-clause-refused : goal.returns-in_err-request-clause-refused
 returns-in_err-request-clause-refused c =
@@ -66,7 +68,8 @@ returns-clause-done c =
     let d = c.in-Some-dedicated in
     let is = d.ensures.some in
     let seq = c.in_ok-seq.seq in
-    done_by (Delete_bearer session identity) seq _ (request_to_delete_bearer d.named c.args.session c.in-Some.at identity seq) c.send_request.result old (state_of c.send_request.new.self) c.in_ok-request.ensures.says (λ teid. refl)
+    done_by (Delete_bearer session identity) seq _ (request_to_delete_bearer d.named c.args.session c.in-Some.at identity seq) c.send_request.result
+    old (state_of c.send_request.new.self) c.in_ok-request.ensures.says (λ teid. refl)
     (λ e room asks. subst (λ (role : Role). BearerDeleted role session identity old.node e) (sym role)
     (inr (
       record { session = c.in-Some.at; stands = sym c.get.ensures ∙ c.in-Some.is },

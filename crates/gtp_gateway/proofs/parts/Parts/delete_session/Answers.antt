@@ -20,21 +20,29 @@ pub returns-in_err-at-clause-refused : goal.returns-in_err-at-clause-refused
 returns-in_err-at-clause-refused c =
     let s = state_of c.args.self.now in
     let session = c.args.session in
-    refused_first Serving s session (Asked Serving s session (ClosesSession s.node session) (delete_session_goes_on s.node session)) c.in_err-at.field-0.0 c.from_residual.result c.from_residual.ensures.1 c.in_err-at.ensures.refused
+    refused_first Serving s session (Asked Serving s session (ClosesSession s.node session) (delete_session_goes_on s.node session))
+    c.in_err-at.field-0.0 c.from_residual.result c.from_residual.ensures.1 c.in_err-at.ensures.refused
 
 pub returns-in_err-seq-clause-refused : goal.returns-in_err-seq-clause-refused
 returns-in_err-seq-clause-refused c =
-    last_refused Serving (state_of c.args.self.now) c.args.session (ClosesSession (node_of c.args.self.now) c.args.session) (delete_session_goes_on (node_of c.args.self.now) c.args.session) c.in_ok-at.at c.from_residual-in_err-seq.result c.in_ok-at.ensures.active
+    last_refused Serving (state_of c.args.self.now) c.args.session (ClosesSession (node_of c.args.self.now) c.args.session)
+    (delete_session_goes_on (node_of c.args.self.now) c.args.session) c.in_ok-at.at c.from_residual-in_err-seq.result c.in_ok-at.ensures.active
     (as_err (state_of c.args.self.now) c.in_err-seq.field-0.0 c.from_residual-in_err-seq.result c.from_residual-in_err-seq.ensures.1 c.in_err-seq.ensures.refused)
 
 pub returns-clause-refused : goal.returns-clause-refused
-returns-clause-refused c = last_refused Serving (state_of c.args.self.now) c.args.session (ClosesSession (node_of c.args.self.now) c.args.session) (delete_session_goes_on (node_of c.args.self.now) c.args.session) c.in_ok-at.at c.send_request.result c.in_ok-at.ensures.active c.send_request.ensures.refused
+returns-clause-refused c =
+    last_refused Serving (state_of c.args.self.now) c.args.session (ClosesSession (node_of c.args.self.now) c.args.session)
+    (delete_session_goes_on (node_of c.args.self.now) c.args.session) c.in_ok-at.at c.send_request.result c.in_ok-at.ensures.active
+    c.send_request.ensures.refused
 
 pub returns-clause-done : goal.returns-clause-done
 returns-clause-done c =
     let s = state_of c.args.self.now in
     let session = c.args.session in
     let seq = c.in_ok-seq.seq in
-    done_by (Delete_session session) seq _ (request_to_delete_session session c.in_ok-at.at seq) c.send_request.result s (state_of c.send_request.new.self) c.request_to_delete_session.ensures.says (λ teid. refl)
-    (λ e room asks. reaches Serving s session (Asked Serving s session (ClosesSession s.node session) (delete_session_goes_on s.node session)) c.in_ok-at.at e c.in_ok-at.ensures.active (inr (room, record { number = seq; number_free = asks.number_free; gives = asks.gives })))
+    done_by (Delete_session session) seq _ (request_to_delete_session session c.in_ok-at.at seq) c.send_request.result s
+    (state_of c.send_request.new.self) c.request_to_delete_session.ensures.says (λ teid. refl)
+    (λ e room asks.
+    reaches Serving s session (Asked Serving s session (ClosesSession s.node session) (delete_session_goes_on s.node session)) c.in_ok-at.at e
+    c.in_ok-at.ensures.active (inr (room, record { number = seq; number_free = asks.number_free; gives = asks.gives })))
     c.send_request.ensures.done

@@ -8,7 +8,8 @@ pub returns-in-Ok-clause-some : goal.returns-in-Ok-clause-some
 returns-in-Ok-clause-some c =
     let old = c.args.self.now in
     let e = c.in-Ok.ensures in
-    one_drawn (state_of old) c.requires.whole old.draws.count refl c.draw.new.self c.in-Ok.teid (record { small = e.ok.0 refl; value = e.value; counted = e.counted; numbered = e.numbered; undrawn = e.undrawn; drawn = e.drawn })
+    one_drawn (state_of old) c.requires.whole old.draws.count refl c.draw.new.self c.in-Ok.teid
+    (record { small = e.ok.0 refl; value = e.value; counted = e.counted; numbered = e.numbered; undrawn = e.undrawn; drawn = e.drawn })
 
 pub returns-in-Err-clause-none : goal.returns-in-Err-clause-none
 returns-in-Err-clause-none c =

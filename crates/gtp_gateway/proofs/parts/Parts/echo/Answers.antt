@@ -16,7 +16,9 @@ echo_goes_on old why sends = asks_on why sends.gives refl
 pub returns-in_err-seq-clause-refused : goal.returns-in_err-seq-clause-refused
 returns-in_err-seq-clause-refused c = λ why.
     let old = state_of c.args.self.now in
-    last old _ (SendsEcho old.node) why (as_err (state_of c.args.self.now) c.in_err-seq.field-0.0 c.from_residual.result c.from_residual.ensures.1 c.in_err-seq.ensures.refused) (echo_goes_on old.node why)
+    last old _ (SendsEcho old.node) why
+    (as_err (state_of c.args.self.now) c.in_err-seq.field-0.0 c.from_residual.result c.from_residual.ensures.1 c.in_err-seq.ensures.refused)
+    (echo_goes_on old.node why)
 
 pub returns-clause-refused : goal.returns-clause-refused
 returns-clause-refused c = λ why.

@@ -33,7 +33,8 @@ loop-n-preserved c =
         | in_default w ↦ subst (λ (g : Parts). RequestsWaitOn old (state_of g)) (sym w.self-is) at.waits
       ];
       only = elim c.match-n.branch [
-        | in-Some w ↦ subst (λ (g : Parts). OnlyTablesChange c.args.self.now g) (sym w.self-is) (only_tables_twice c.args.self.now c.loop-n.self w.remove_bearer.new.self at.only w.remove_bearer.ensures.removes.only)
+        | in-Some w ↦ subst (λ (g : Parts). OnlyTablesChange c.args.self.now g) (sym w.self-is)
+            (only_tables_twice c.args.self.now c.loop-n.self w.remove_bearer.new.self at.only w.remove_bearer.ensures.removes.only)
         | in_default w ↦ subst (λ (g : Parts). OnlyTablesChange c.args.self.now g) (sym w.self-is) at.only
       ];
     }

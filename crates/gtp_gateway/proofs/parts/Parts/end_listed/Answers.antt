@@ -40,7 +40,9 @@ returns-clause-taken c =
     let room : HasHeldRoom old.node = record { few = held_few c.args.self.now.held.pairs (λ many. omega (arith, many, c.requires.few)) } in
     IfOk-weaker c.end_named.result _ _
     (λ step ends.
-    row_as (DeleteBearerJudged arrival (delete_bearer_by r ids)) (DeleteBearerAsked arrival (delete_bearer_by r (identities_of c.args.view.now.message))) arrival old.role old.node step (state_of c.end_named.new.self)
+    row_as (DeleteBearerJudged arrival (delete_bearer_by r ids))
+    (DeleteBearerAsked arrival (delete_bearer_by r (identities_of c.args.view.now.message))) arrival old.role old.node step
+    (state_of c.end_named.new.self)
     (λ e judged. inr (room, subst (λ (l : List ℕ). DeleteBearerJudged arrival (delete_bearer_by r l) old.node e) read judged))
     ends)
     c.end_named.ensures.taken

@@ -45,10 +45,17 @@ returns-clause-done c =
     let bearer = c.args.bearer in
     let stands : get node.bearers bearer ≡ Some at = sym c.get.ensures ∙ c.in-Some.is in
     let said = c.end_marker-message.ensures.says ∙ ap (λ t. End_marker t) c.written_teid.ensures in
-    let effect : Effect = record { out = says (user_end node.config.peer.user) (End_marker (written at.remote)); outcome = Came_to GoneOut; node = record node { bearers = insert node.bearers bearer (ended_bearer at) } } in
+    let effect : Effect =
+    record {
+      out = says (user_end node.config.peer.user) (End_marker (written at.remote));
+      outcome = Came_to GoneOut;
+      node = record node { bearers = insert node.bearers bearer (ended_bearer at) };
+    } in
     record {
       effect = effect;
-      step = subst (λ (role : Role). EndMarked role bearer node effect) (sym role) (inr (record { bearer = at; stands = stands }, inr (yes c.is_active.ensures c.if-not-is_active.false, inr (c.if-at.false, refl))));
+      step =
+          subst (λ (role : Role). EndMarked role bearer node effect) (sym role)
+          (inr (record { bearer = at; stands = stands }, inr (yes c.is_active.ensures c.if-not-is_active.false, inr (c.if-at.false, refl))));
       sent = one_sent node.config _ _ (c.in_ok-out.ensures.sent ∙ (λ i. datagram_of node.config (record { destination = user_end node.config.peer.user; messages = said i ∷ [] })))
           (subst (λ (m : Message). ReadsBack (m ∷ [])) said c.in_ok-out.ensures.back);
       outcome = refl;

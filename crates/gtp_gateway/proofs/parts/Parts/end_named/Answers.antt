@@ -27,12 +27,21 @@ returns-clause-taken c =
     let value : ns ≡ c.in_ok-named.named.items = c.as_slice-bearers.ensures.value in
     let names : NamesEach old.node r.header [] ns = subst (λ (l : List NamedBearer). NamesEach old.node r.header [] l) (sym value) c.in_ok-named.ensures.names in
     let same : map identity_named ns ≡ map number_in ids = ap (map identity_named) value ∙ c.in_ok-named.ensures.identities in
-    let m : Message = Delete_bearer_response (record { header = header; number = r.seq; cause = cause_of (delete_bearer_cause (map removed_by ns)); linked = None; contexts = map removed_by ns; recovery = Some old.node.counter }) in
+    let m : Message =
+    Delete_bearer_response (record {
+      header = header;
+      number = r.seq;
+      cause = cause_of (delete_bearer_cause (map removed_by ns));
+      linked = None;
+      contexts = map removed_by ns;
+      recovery = Some old.node.counter;
+    }) in
     let said : control_message c.in_ok-message.message ≡ m = c.in_ok-message.ensures.says in
     let ready = c.in_ok-ready.ensures in
     let config = ap (λ s. s.config) c.end_each.ensures.only.config ∙ ap (λ (s : GatewayState). s.node.config) c.ready_answer.ensures.same in
     let left = c.end_each.ensures.node ∙ ap (λ (s : GatewayState). without_each ns s.node) c.ready_answer.ensures.same in
-    answers (DeleteBearerJudged arrival (delete_bearer_by r (map number_in ids))) arrival old (state_of c.send_answer.new.self) c.sent.result c.send_answer.result m c.cause_of_all.result (without_each ns old.node) c.sent.ensures
+    answers (DeleteBearerJudged arrival (delete_bearer_by r (map number_in ids))) arrival old (state_of c.send_answer.new.self) c.sent.result
+    c.send_answer.result m c.cause_of_all.result (without_each ns old.node) c.sent.ensures
     (c.send_answer.ensures.sent ∙ (λ i. record { plane = Control; from = control_end (config i).own.control; to = arrival.source; octets = (ready.octets ∙ ap spelled said) i }))
     (subst (λ m. ReadsBack (m ∷ [])) said ready.back)
     (c.send_answer.ensures.node ∙ (λ i. holding arrival ((ready.read ∙ ap (λ m. m ∷ []) said) i) (left i)))
@@ -41,4 +50,6 @@ returns-clause-taken c =
     (ends_judged arrival r old.node header ids ns c.requires.asked c.requires.short same names))
 
 pub returns-clause-goes : goal.returns-clause-goes
-returns-clause-goes c = readied_goes c.args.arrival.now (state_of c.args.self.now) _ (state_of c.end_each.new.self) c.send_answer.new.self c.in_ok-ready.ready.answer.items c.ready_answer.ensures.same c.end_each.ensures.waits c.send_answer.ensures.queues
+returns-clause-goes c =
+    readied_goes c.args.arrival.now (state_of c.args.self.now) _ (state_of c.end_each.new.self) c.send_answer.new.self
+    c.in_ok-ready.ready.answer.items c.ready_answer.ensures.same c.end_each.ensures.waits c.send_answer.ensures.queues

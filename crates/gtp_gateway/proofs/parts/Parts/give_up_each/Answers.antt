@@ -38,10 +38,13 @@ loop-entry-preserved c =
     let due = c.args.due.now in
     let seq : ℕ = c.entry-item.result.0 in
     let rest = map number (drop (at.entry-index + 1) due) in
-    let first : map number (drop at.entry-index due) ≡ seq ∷ rest = ap (map number) (drop_more due at.entry-index c.entry-item.result c.loop-entry-test.true) ∙ ap (λ g. number g ∷ rest) (sym c.entry-item.is) in
+    let first : map number (drop at.entry-index due) ≡ seq ∷ rest =
+    ap (map number) (drop_more due at.entry-index c.entry-item.result c.loop-entry-test.true) ∙ ap (λ g. number g ∷ rest) (sym c.entry-item.is) in
     let one : List ℕ = cond c.give_up.result (seq ∷ []) [] in
     let told : c.else-give_up.gave_up.items ≡ at.gave_up.items ++ one = elim c.else-give_up.branch [
-      | else-give_up-via-then-give_up+else-is_err w ↦ ap (λ v. v.items) w.gave_up-is ∙ pushed at.gave_up.items w.push.new.self.items seq (is_ok w.push.result) c.give_up.result w.push.ensures.items (w.is_err.ensures.negation ∙ ap not w.if-is_err.false) w.if-give_up.true
+      | else-give_up-via-then-give_up+else-is_err w ↦ ap (λ v. v.items) w.gave_up-is
+          ∙ pushed at.gave_up.items w.push.new.self.items seq (is_ok w.push.result) c.give_up.result w.push.ensures.items
+          (w.is_err.ensures.negation ∙ ap not w.if-is_err.false) w.if-give_up.true
       | else-give_up-via-else-give_up w ↦ ap (λ v. v.items) w.gave_up-is ∙ not_pushed at.gave_up.items seq c.give_up.result w.if-give_up.false
     ] in
     let before = length-drop at.entry-index due in
@@ -54,7 +57,9 @@ loop-entry-preserved c =
           (goes_on seq rest c.give_up.result (node_of at.self) (node_of c.give_up.new.self) others new c.give_up.ensures.node given)));
       waits = wait_on (state_of c.args.self.now) (state_of at.self) (state_of c.give_up.new.self) at.invariant.waits c.give_up.ensures.waits;
       room = elim c.else-give_up.branch [
-        | else-give_up-via-then-give_up+else-is_err w ↦ rw w.gave_up-is (let more = one_more (is_ok w.push.result) (vec_len at.gave_up) (vec_len w.push.new.self) w.push.ensures.len in omega (arith, more, before, after, at.invariant.room, w.push.ensures.capacity, c.loop-entry-test.true))
+        | else-give_up-via-then-give_up+else-is_err w ↦ rw w.gave_up-is
+            (let more = one_more (is_ok w.push.result) (vec_len at.gave_up) (vec_len w.push.new.self) w.push.ensures.len in
+            omega (arith, more, before, after, at.invariant.room, w.push.ensures.capacity, c.loop-entry-test.true))
         | else-give_up-via-else-give_up w ↦ rw w.gave_up-is (omega (arith, before, after, at.invariant.room))
       ];
       only = only_tables_twice c.args.self.now at.self c.give_up.new.self at.invariant.only c.give_up.ensures.only;

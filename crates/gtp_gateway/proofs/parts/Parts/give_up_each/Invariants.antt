@@ -13,7 +13,8 @@ abbrev pub invariant-loop-entry : goal.invariant-loop-entry
 invariant-loop-entry l =
     let number : ℕ × Purpose → ℕ = λ g. g.0 in
     record {
-      each : (others : List ℕ) (new : Node) → GivesUpEach (node_of l.self) (map number (drop l.entry-index l.due)) others new → GivesUpEach (node_of l.fn.self) (map number l.due) (l.gave_up.items ++ others) new;
+      each : (others : List ℕ) (new : Node) → GivesUpEach (node_of l.self) (map number (drop l.entry-index l.due)) others new
+          → GivesUpEach (node_of l.fn.self) (map number l.due) (l.gave_up.items ++ others) new;
       waits : RequestsWaitOn (state_of l.fn.self) (state_of l.self);
       room : vec_len l.gave_up + length (drop l.entry-index l.due) ≤ vec_capacity l.gave_up;
       only : OnlyTablesChange l.fn.self l.self;

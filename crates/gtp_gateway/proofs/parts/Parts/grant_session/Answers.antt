@@ -29,9 +29,12 @@ returns-clause-granted c =
       goes = c.send_answer-out.ensures.sent ∙ (λ i. record { plane = Control; from = control_end (config i).own.control; to = c.args.arrival.now.source; octets = (ready.octets ∙ ap spelled said) i });
       read = subst (λ m. ReadsBack (m ∷ [])) said ready.back;
       becomes = c.send_answer-out.ensures.node
-          ∙ (λ i. holding c.args.arrival.now ((ready.read ∙ ap (λ m. m ∷ []) said) i) ((c.in_ok-make_granted.ensures.node ∙ ap (λ (s : GatewayState). changed_by change (node_heard c.args.heard s.node)) same) i));
+          ∙ (λ i. holding c.args.arrival.now ((ready.read ∙ ap (λ m. m ∷ []) said) i)
+          ((c.in_ok-make_granted.ensures.node ∙ ap (λ (s : GatewayState). changed_by change (node_heard c.args.heard s.node)) same) i));
       role = c.send_answer-out.ensures.role ∙ c.make_granted.ensures.only.role ∙ ap (λ (s : GatewayState). s.role) same;
     }
 
 pub returns-clause-goes : goal.returns-clause-goes
-returns-clause-goes c = readied_goes c.args.arrival.now (state_of c.args.self.now) _ (state_of c.make_granted.new.self) c.send_answer-out.new.self c.in_ok-ready.ready.answer.items c.ready_answer.ensures.same c.make_granted.ensures.waits c.send_answer-out.ensures.queues
+returns-clause-goes c =
+    readied_goes c.args.arrival.now (state_of c.args.self.now) _ (state_of c.make_granted.new.self) c.send_answer-out.new.self
+    c.in_ok-ready.ready.answer.items c.ready_answer.ensures.same c.make_granted.ensures.waits c.send_answer-out.ensures.queues

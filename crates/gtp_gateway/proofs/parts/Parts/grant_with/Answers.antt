@@ -27,7 +27,11 @@ use Rattle.gtp_gateway.proofs.parts.Parts.grant_with.Goals as goal
 
 -- the state, with these requests
 abbrev with_requests : GatewayState → Requests Purpose → GatewayState
-with_requests s r = record s { node = record s.node { pending = pending_in r.waiting }; queues = record s.queues { timers = record s.queues.timers { t3 = r.t3; n3 = r.n3 }; next = r.next; waiting = r.waiting } }
+with_requests s r =
+    record s {
+      node = record s.node { pending = pending_in r.waiting };
+      queues = record s.queues { timers = record s.queues.timers { t3 = r.t3; n3 = r.n3 }; next = r.next; waiting = r.waiting };
+    }
 
 -- the answer and the request were prepared, which changed nothing
 prepared : (c : After-make_granted_with) → with_requests (state_of c.ready_octets.new.self) c.reserve.new.self ≡ state_of c.args.self.now
@@ -43,7 +47,9 @@ begin_kept-requires-clause-prepared c =
     let next = c.make_granted_with.ensures.next ∙ ap (λ (s : GatewayState). s.queues.next) same in
     let waiting = made.waiting ∙ ap (λ (s : GatewayState). waiting_heard c.args.heard s.node.sessions s.queues.waiting) same in
     record {
-      number = subst (λ (n : ℕ). IsNextFree n granted.queues.waiting c.args.added.now.seq) (sym next) (subst (λ (ws : List (Waiting Purpose)). IsNextFree old.queues.next ws c.args.added.now.seq) (sym waiting) c.requires.add.number);
+      number =
+          subst (λ (n : ℕ). IsNextFree n granted.queues.waiting c.args.added.now.seq) (sym next)
+          (subst (λ (ws : List (Waiting Purpose)). IsNextFree old.queues.next ws c.args.added.now.seq) (sym waiting) c.requires.add.number);
       count = subst (λ (ws : List (Waiting Purpose)). length ws < 256) (sym waiting) c.requires.add.few;
       room = made.ready (ap (λ (r : Requests Purpose). r.has_room) more);
     }
@@ -58,9 +64,17 @@ returns-clause-granted c =
     let encoded = c.in_ok-encoded.ensures in
     let made = c.in_ok-make_granted_with.ensures in
     let same = prepared (goal.at.returns-clause-granted c).After-make_granted_with in
-    let config : c.begin_kept.new.self.config.config ≡ old.node.config = ap (λ (s : Settings). s.config) (c.begin_kept.ensures.only.config ∙ c.make_granted_with.ensures.only.config) ∙ ap (λ (s : GatewayState). s.node.config) same in
-    let makes : node_of c.make_granted_with.new.self ≡ made_with r g a (node_heard c.args.heard old.node) = made.node ∙ ap (λ (s : GatewayState). made_with r g a (node_heard c.args.heard s.node)) same in
-    let left = c.begin_kept.ensures.node ∙ (λ i. record (makes i) { pending = insert (makes i).pending a.seq (about (record { asked = CreateBearer; session = Some g.drawn.control; bearer = Some a.drawn.teid; is_named = c.is_there.result }) (encoded.alone i)) }) in
+    let config : c.begin_kept.new.self.config.config ≡ old.node.config =
+    ap (λ (s : Settings). s.config) (c.begin_kept.ensures.only.config ∙ c.make_granted_with.ensures.only.config)
+    ∙ ap (λ (s : GatewayState). s.node.config) same in
+    let makes : node_of c.make_granted_with.new.self ≡ made_with r g a (node_heard c.args.heard old.node) =
+    made.node ∙ ap (λ (s : GatewayState). made_with r g a (node_heard c.args.heard s.node)) same in
+    let left =
+    c.begin_kept.ensures.node ∙ (λ i. record (makes i) {
+      pending = insert (makes i).pending a.seq
+          (about (record { asked = CreateBearer; session = Some g.drawn.control; bearer = Some a.drawn.teid; is_named = c.is_there.result })
+          (encoded.alone i));
+    }) in
     record {
       sent = c.send_answer-out.result;
       is = c.answered.ensures ∙ (λ i. record { out = Some c.send_answer-out.result; report = record (plain_report (Answered (c.session_cause.ensures i))) { made = true } });
@@ -80,14 +94,26 @@ returns-clause-goes c =
     let same = prepared (goal.at.returns-clause-goes c).After-make_granted_with in
     let next = c.make_granted_with.ensures.next ∙ ap (λ (s : GatewayState). s.queues.next) same in
     let waiting = c.in_ok-make_granted_with.ensures.waiting ∙ ap (λ (s : GatewayState). waiting_heard c.args.heard s.node.sessions s.queues.waiting) same in
-    let free = subst (λ (n : ℕ). IsNextFree n granted.queues.waiting a.seq) (sym next) (subst (λ (ws : List (Waiting Purpose)). IsNextFree old.queues.next ws a.seq) (sym waiting) c.requires.add.number) in
-    let config : c.make_granted_with.new.self.config.config ≡ old.node.config = ap (λ (s : Settings). s.config) c.make_granted_with.ensures.only.config ∙ ap (λ (s : GatewayState). s.node.config) same in
+    let free =
+    subst (λ (n : ℕ). IsNextFree n granted.queues.waiting a.seq) (sym next)
+    (subst (λ (ws : List (Waiting Purpose)). IsNextFree old.queues.next ws a.seq) (sym waiting) c.requires.add.number) in
+    let config : c.make_granted_with.new.self.config.config ≡ old.node.config =
+    ap (λ (s : Settings). s.config) c.make_granted_with.ensures.only.config ∙ ap (λ (s : GatewayState). s.node.config) same in
     let encoded = c.in_ok-encoded.ensures in
     let g = c.args.grant.now in
-    let begun_new : IsNewFor (record { number = a.seq; purpose = record { asked = CreateBearer; session = Some g.drawn.control; bearer = Some a.drawn.teid; is_named = c.is_there.result }; to = control_end c.make_granted_with.new.self.config.config.peer.control; octets = c.in_ok-encoded.encoded.second.items }) old = record {
+    let begun_new : IsNewFor (record {
+      number = a.seq;
+      purpose = record
+          { asked = CreateBearer; session = Some g.drawn.control; bearer = Some a.drawn.teid; is_named = c.is_there.result };
+      to = control_end
+          c.make_granted_with.new.self.config.config.peer.control;
+      octets = c.in_ok-encoded.encoded.second.items;
+    }) old = record {
       to = ap (λ (k : Config). control_end k.peer.control) config;
       spelled = encoded.alone_kept;
-      other = new_request old c.args.grant.now.drawn a c.args.heard c.requires.whole c.requires.add refl _ (asked_with (session_granted c.args.request.now c.args.grant.now) a old.node) refl encoded.alone;
+      other =
+          new_request old c.args.grant.now.drawn a c.args.heard c.requires.whole c.requires.add refl _
+          (asked_with (session_granted c.args.request.now c.args.grant.now) a old.node) refl encoded.alone;
     } in
     begun_goes c.args.arrival.now old granted begun (state_of c.send_answer-out.new.self) a.seq _ _ _ c.in_ok-ready.ready.answer.items
     (subst (λ (s : GatewayState). RequestsWaitOn s granted) same c.make_granted_with.ensures.waits) free begun_new c.begin_kept.ensures.queues

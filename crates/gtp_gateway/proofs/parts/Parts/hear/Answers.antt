@@ -14,7 +14,9 @@ use Rattle.gtp_gateway.proofs.UserRows.{all_stay, all_wait}
 use Rattle.gtp_gateway.proofs.parts.Parts.hear.Goals as goal
 
 -- what is heard changes nothing
-nothing_changes : (n : Node) (sessions : FiniteMap Session) (ws : List (Waiting Purpose)) (heard : Heard) → (heard ≡ Nothing) ⊎ (((x : Counter) × (heard ≡ Same x)) ⊎ ((x : Counter) × (heard ≡ Earlier x))) → (n ≡ node_heard heard n) × (ws ≡ waiting_heard heard sessions ws)
+nothing_changes : (n : Node) (sessions : FiniteMap Session) (ws : List (Waiting Purpose)) (heard : Heard)
+    → (heard ≡ Nothing) ⊎ (((x : Counter) × (heard ≡ Same x)) ⊎ ((x : Counter) × (heard ≡ Earlier x)))
+    → (n ≡ node_heard heard n) × (ws ≡ waiting_heard heard sessions ws)
 nothing_changes n sessions ws heard (inl is) = (ap (λ (h : Heard). node_heard h n) (sym is), all_stay ws ∙ ap (λ (h : Heard). waiting_heard h sessions ws) (sym is))
 nothing_changes n sessions ws heard (inr (inl (x, is))) = (ap (λ (h : Heard). node_heard h n) (sym is), all_stay ws ∙ ap (λ (h : Heard). waiting_heard h sessions ws) (sym is))
 nothing_changes n sessions ws heard (inr (inr (x, is))) = (ap (λ (h : Heard). node_heard h n) (sym is), all_stay ws ∙ ap (λ (h : Heard). waiting_heard h sessions ws) (sym is))

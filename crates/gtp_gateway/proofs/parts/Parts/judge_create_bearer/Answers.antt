@@ -30,7 +30,8 @@ returns-then-not-request-clause-judged c = λ node stands. record {
       let old = node in
       meets (record { session = c.in-Some.session; stands = ap (get old.sessions) says.header ∙ (stands.session ∙ c.in-Some.is) })
       (meets (yes c.is_active.ensures c.if-not-is_active.false)
-      (breaks (no says.alone c.if-not-request.true) (λ i. answering false request (refusing types.CreateBearerRequest (c.written_teid-header.ensures i) q.number (cause_of 94) old.counter ∷ []) 94 old)));
+      (breaks (no says.alone c.if-not-request.true) (λ i. answering false request
+      (refusing types.CreateBearerRequest (c.written_teid-header.ensures i) q.number (cause_of 94) old.counter ∷ []) 94 old)));
   chosen = refl;
 }
 
@@ -41,7 +42,9 @@ returns-then-not-is_default-clause-judged c = λ node stands. record {
       meets (record { session = c.in-Some.session; stands = ap (get old.sessions) says.header ∙ (stands.session ∙ c.in-Some.is) })
       (meets (yes c.is_active.ensures c.if-not-is_active.false)
       (meets (yes says.alone c.if-not-request.false)
-      (breaks (λ linked. no c.is_default.ensures c.if-not-is_default.true (sym says.linked ∙ linked)) (λ i. answering false request (refusing types.CreateBearerRequest (c.written_teid-header.ensures i) q.number (cause_of 64) old.counter ∷ []) 64 old))));
+      (breaks (λ linked. no c.is_default.ensures c.if-not-is_default.true (sym says.linked ∙ linked))
+      (λ i. answering false request (refusing types.CreateBearerRequest (c.written_teid-header.ensures i) q.number (cause_of 64) old.counter ∷ []) 64
+      old))));
   chosen = refl;
 }
 
@@ -53,7 +56,12 @@ returns-in_default-choose-clause-judged c = λ node stands. record {
       (meets (yes c.is_active.ensures c.if-not-is_active.false)
       (meets (yes says.alone c.if-not-request.false)
       (meets (says.linked ∙ yes c.is_default.ensures c.if-not-is_default.false)
-      (breaks (λ free. none_free old c.args.request.now.header (all_there c.args.request.now.header c.args.view.now.bearers old.bearers (stands.identities (ap (λ (o : Option Session). is_some o) c.in-Some.is)) (c.in_default-choose.ensures.none (draws_there c.args.request.now.header c.args.found c.args.view.now.bearers (node_of c.args.self.now) old stands free.1))) (subst (λ (t : ℕ). HasFreeIdentity old t) says.header free.0)) (λ i. answering false request (Create_bearer_response (no_resources old q (c.written_teid-header.ensures i)) ∷ []) 73 old)))));
+      (breaks (λ free. none_free old c.args.request.now.header
+      (all_there c.args.request.now.header c.args.view.now.bearers old.bearers
+      (stands.identities (ap (λ (o : Option Session). is_some o) c.in-Some.is))
+      (c.in_default-choose.ensures.none (draws_there c.args.request.now.header c.args.found c.args.view.now.bearers (node_of c.args.self.now) old
+      stands free.1))) (subst (λ (t : ℕ). HasFreeIdentity old t) says.header free.0))
+      (λ i. answering false request (Create_bearer_response (no_resources old q (c.written_teid-header.ensures i)) ∷ []) 73 old)))));
   chosen = tt;
 }
 
@@ -62,9 +70,17 @@ returns-clause-judged c = λ node stands. record {
   judged = λ request q says.
       let old = node in
       let grant = c.in-Some-choose.grant in
-      let chosen = granted_there c.args.request.now.header c.args.found c.args.view.now.bearers (node_of c.args.self.now) old grant stands (ap (λ (o : Option Session). is_some o) c.in-Some.is) c.in-Some-choose.ensures.identity c.in-Some-choose.ensures.drawn in
+      let chosen =
+      granted_there c.args.request.now.header c.args.found c.args.view.now.bearers (node_of c.args.self.now) old grant stands
+      (ap (λ (o : Option Session). is_some o) c.in-Some.is) c.in-Some-choose.ensures.identity c.in-Some-choose.ensures.drawn in
       let teid = grant.drawn.teid in
-      let free : IsFreeIdentity old q.header grant.identity = record { range = record { low = chosen.identity.range.least; high = chosen.identity.range.most }; unused = subst (λ (t : ℕ). (k : ℕ) (b : Bearer) → get old.bearers k ≡ Some b → b.session ≡ t → b.identity ≡ Some grant.identity → ⊥) (sym says.header) chosen.identity.unused } in
+      let free : IsFreeIdentity old q.header grant.identity =
+      record {
+        range = record { low = chosen.identity.range.least; high = chosen.identity.range.most };
+        unused =
+            subst (λ (t : ℕ). (k : ℕ) (b : Bearer) → get old.bearers k ≡ Some b → b.session ≡ t → b.identity ≡ Some grant.identity → ⊥) (sym says.header)
+            chosen.identity.unused;
+      } in
       meets (record { session = c.in-Some.session; stands = ap (get old.sessions) says.header ∙ (stands.session ∙ c.in-Some.is) })
       (meets (yes c.is_active.ensures c.if-not-is_active.false)
       (meets (yes says.alone c.if-not-request.false)
@@ -84,7 +100,19 @@ returns-clause-judged c = λ node stands. record {
               recovery = Some old.counter;
             }) ∷ [])
             16
-            (record old { drawn = teid ∷ old.drawn; bearers = insert old.bearers teid (record { remote = Some (sym says.user i).teid; session = sym says.header i; identity = Some grant.identity; kind = Dedicated; state = Active; ended = false }) });
+            (record old {
+              drawn = teid ∷ old.drawn;
+              bearers = insert old.bearers teid (record {
+                remote = Some (sym says.user i).teid;
+                session = sym says.header i;
+                identity = Some grant.identity;
+                kind = Dedicated;
+                state = Active;
+                ended = false;
+              });
+            });
       })))));
-  chosen = granted_there c.args.request.now.header c.args.found c.args.view.now.bearers (node_of c.args.self.now) node c.in-Some-choose.grant stands (ap (λ (o : Option Session). is_some o) c.in-Some.is) c.in-Some-choose.ensures.identity c.in-Some-choose.ensures.drawn;
+  chosen =
+      granted_there c.args.request.now.header c.args.found c.args.view.now.bearers (node_of c.args.self.now) node c.in-Some-choose.grant stands
+      (ap (λ (o : Option Session). is_some o) c.in-Some.is) c.in-Some-choose.ensures.identity c.in-Some-choose.ensures.drawn;
 }

@@ -25,7 +25,12 @@ pub returns-in_default-context : goal.returns-in_default-context
 returns-in_default-context c =
     let n = node_heard c.args.heard (node_of c.args.self.now) in
     let k = c.in-Some-fits_create_bearer in
-    record { judged = λ x says. not_one n c.args.answer.now x says c.in-Some.purpose c.in-Some.ensures.some k.asked k.ensures.some (yes c.accepts.ensures c.if-not-accepts.false) c.in_default-context.is; can = tt }
+    record {
+      judged = λ x says.
+          not_one n c.args.answer.now x says c.in-Some.purpose c.in-Some.ensures.some k.asked k.ensures.some (yes c.accepts.ensures c.if-not-accepts.false)
+          c.in_default-context.is;
+      can = tt;
+    }
 
 pub returns-then-not-accepts-2 : goal.returns-then-not-accepts-2
 returns-then-not-accepts-2 c =
@@ -33,7 +38,10 @@ returns-then-not-accepts-2 c =
     let k = c.in-Some-fits_create_bearer in
     subst (JudgesCreateBearerResponse c.args.answer.now n) (sym c.rejects-then-not-accepts-2.ensures)
     (record {
-      judged = λ x says. bearer_refused n c.args.answer.now x says c.in-Some.purpose c.in-Some.ensures.some k.asked k.ensures.some (yes c.accepts.ensures c.if-not-accepts.false) c.in-Some-context.context c.in-Some-context.is (no c.accepts-2.ensures c.if-not-accepts-2.true);
+      judged =
+          λ x says. bearer_refused n c.args.answer.now x says c.in-Some.purpose c.in-Some.ensures.some k.asked k.ensures.some
+          (yes c.accepts.ensures c.if-not-accepts.false) c.in-Some-context.context c.in-Some-context.is
+          (no c.accepts-2.ensures c.if-not-accepts-2.true);
       can = tt;
     })
 
@@ -42,7 +50,10 @@ returns-then-not-returns_bearer c =
     let n = node_heard c.args.heard (node_of c.args.self.now) in
     let k = c.in-Some-fits_create_bearer in
     record {
-      judged = λ x says. not_returned n c.args.answer.now x says c.in-Some.purpose c.in-Some.ensures.some k.asked k.ensures.some (yes c.accepts.ensures c.if-not-accepts.false) c.in-Some-context.context c.in-Some-context.is (yes c.accepts-2.ensures c.if-not-accepts-2.false) (no c.returns_bearer.ensures c.if-not-returns_bearer.true);
+      judged =
+          λ x says. not_returned n c.args.answer.now x says c.in-Some.purpose c.in-Some.ensures.some k.asked k.ensures.some
+          (yes c.accepts.ensures c.if-not-accepts.false) c.in-Some-context.context c.in-Some-context.is
+          (yes c.accepts-2.ensures c.if-not-accepts-2.false) (no c.returns_bearer.ensures c.if-not-returns_bearer.true);
       can = tt;
     }
 
@@ -52,7 +63,11 @@ returns-in_default-openable c =
     let k = c.in-Some-fits_create_bearer in
     let view = c.view_after-view in
     record {
-      judged = λ x says. clashes n c.args.answer.now x says c.in-Some.purpose c.in-Some.ensures.some k.asked k.ensures.some (yes c.accepts.ensures c.if-not-accepts.false) c.in-Some-context.context c.in-Some-context.is (yes c.accepts-2.ensures c.if-not-accepts-2.false) (yes c.returns_bearer.ensures c.if-not-returns_bearer.false) view.result.sessions view.result.bearers view.ensures.sessions view.ensures.bearers c.in_default-openable.ensures.none;
+      judged =
+          λ x says. clashes n c.args.answer.now x says c.in-Some.purpose c.in-Some.ensures.some k.asked k.ensures.some
+          (yes c.accepts.ensures c.if-not-accepts.false) c.in-Some-context.context c.in-Some-context.is
+          (yes c.accepts-2.ensures c.if-not-accepts-2.false) (yes c.returns_bearer.ensures c.if-not-returns_bearer.false) view.result.sessions
+          view.result.bearers view.ensures.sessions view.ensures.bearers c.in_default-openable.ensures.none;
       can = tt;
     }
 
@@ -78,11 +93,18 @@ returns c =
     let there : get n.bearers k.asked.bearer ≡ Some b = ap (λ (bs : FiniteMap Bearer). get bs k.asked.bearer) (sym view.ensures.bearers) ∙ (sym c.bearer.ensures ∙ c.in-Some-bearer.is) in
     let of : get n.sessions k.asked.session ≡ Some can.at = ap (λ (ss : FiniteMap Session). get ss k.asked.session) (sym view.ensures.sessions) ∙ can.stands in
     record {
-      judged = λ x says. bearer_opens n r x says c.in-Some.purpose c.in-Some.ensures.some k.asked k.ensures.some (yes c.accepts.ensures c.if-not-accepts.false) c.in-Some-context.context c.in-Some-context.is (yes c.accepts-2.ensures c.if-not-accepts-2.false) (yes c.returns_bearer.ensures c.if-not-returns_bearer.false) view.result.sessions view.result.bearers view.ensures.sessions view.ensures.bearers can b there e.identity e.ensures.some.0 c.opened_dedicated.result c.opened_dedicated.ensures;
+      judged =
+          λ x says.
+          bearer_opens n r x says c.in-Some.purpose c.in-Some.ensures.some k.asked k.ensures.some (yes c.accepts.ensures c.if-not-accepts.false)
+          c.in-Some-context.context c.in-Some-context.is (yes c.accepts-2.ensures c.if-not-accepts-2.false)
+          (yes c.returns_bearer.ensures c.if-not-returns_bearer.false) view.result.sessions view.result.bearers view.ensures.sessions
+          view.ensures.bearers can b there e.identity e.ensures.some.0 c.opened_dedicated.result c.opened_dedicated.ensures;
       can = record {
         bearer = b;
         stands = there;
-        blank = bearer_blank c.args.self.now.role c.args.heard old c.requires.whole r.response.seq c.in-Some.purpose c.in-Some.ensures.some r.response k.asked k.ensures.some can.at of can.not_closing b there;
+        blank =
+            bearer_blank c.args.self.now.role c.args.heard old c.requires.whole r.response.seq c.in-Some.purpose c.in-Some.ensures.some r.response
+            k.asked k.ensures.some can.at of can.not_closing b there;
         of = ap (λ (y : Bearer). y.session) c.opened_dedicated.ensures;
       };
     }

@@ -32,7 +32,9 @@ module _ (r : SessionRequest) (q : CreateSessionRequest) (says : SaysCreateSessi
     points config = config.access_points
 
     serves : Among r.access_point node.config.access_points → configured
-    serves among = subst (λ (ps : List (List ℕ)). Among q.access_point ps) (ap points (sym (config_stays heard node))) (subst (λ (p : List ℕ). Among p node.config.access_points) (sym says.access_point) among)
+    serves among =
+        subst (λ (ps : List (List ℕ)). Among q.access_point ps) (ap points (sym (config_stays heard node)))
+        (subst (λ (p : List ℕ). Among p node.config.access_points) (sym says.access_point) among)
 
     served : configured → Among r.access_point node.config.access_points
     served among = subst (λ (p : List ℕ). Among p node.config.access_points) says.access_point (subst (λ (ps : List (List ℕ)). Among q.access_point ps) (ap points (config_stays heard node)) among)

@@ -21,7 +21,12 @@ returns-then-not-accepts c =
     let n = node_heard c.args.heard (node_of c.args.self.now) in
     let k = c.in-Some-fits_create_session in
     subst (JudgesCreateSessionResponse c.args.answer.now n) (sym c.rejects.ensures)
-    (record { judged = λ a says. is_refused n c.args.answer.now a says c.in-Some.purpose c.in-Some.ensures.some k.asked k.ensures.some (no c.accepts.ensures c.if-not-accepts.true); can = tt; of = of_session n c.args.answer.now.response.seq c.in-Some.purpose c.in-Some.ensures.some c.args.answer.now.response k.asked k.ensures.some })
+    (record {
+      judged = λ a says. is_refused n c.args.answer.now a says c.in-Some.purpose c.in-Some.ensures.some k.asked k.ensures.some
+          (no c.accepts.ensures c.if-not-accepts.true);
+      can = tt;
+      of = of_session n c.args.answer.now.response.seq c.in-Some.purpose c.in-Some.ensures.some c.args.answer.now.response k.asked k.ensures.some;
+    })
 
 pub returns-in_default-described : goal.returns-in_default-described
 returns-in_default-described c =
@@ -29,7 +34,9 @@ returns-in_default-described c =
     let k = c.in-Some-fits_create_session in
     let view = c.view_after-view in
     record {
-      judged = λ a says. not_described n c.args.answer.now a says c.in-Some.purpose c.in-Some.ensures.some k.asked k.ensures.some (yes c.accepts.ensures c.if-not-accepts.false) view.result.sessions view.ensures.sessions c.in_default-described.ensures.none;
+      judged =
+          λ a says. not_described n c.args.answer.now a says c.in-Some.purpose c.in-Some.ensures.some k.asked k.ensures.some
+          (yes c.accepts.ensures c.if-not-accepts.false) view.result.sessions view.ensures.sessions c.in_default-described.ensures.none;
       can = tt;
       of = tt;
     }
@@ -42,7 +49,10 @@ returns-then-not-accepts-2 c =
     let d = c.in-Some-described in
     subst (JudgesCreateSessionResponse c.args.answer.now n) (sym c.rejects-then-not-accepts-2.ensures)
     (record {
-      judged = λ a says. default_refused n c.args.answer.now a says c.in-Some.purpose c.in-Some.ensures.some k.asked k.ensures.some (yes c.accepts.ensures c.if-not-accepts.false) view.result.sessions view.ensures.sessions d.described d.ensures.some (no c.accepts-2.ensures c.if-not-accepts-2.true);
+      judged =
+          λ a says. default_refused n c.args.answer.now a says c.in-Some.purpose c.in-Some.ensures.some k.asked k.ensures.some
+          (yes c.accepts.ensures c.if-not-accepts.false) view.result.sessions view.ensures.sessions d.described d.ensures.some
+          (no c.accepts-2.ensures c.if-not-accepts-2.true);
       can = tt;
       of = of_session n c.args.answer.now.response.seq c.in-Some.purpose c.in-Some.ensures.some c.args.answer.now.response k.asked k.ensures.some;
     })
@@ -68,7 +78,10 @@ returns c =
     let there : get n.bearers k.asked.bearer ≡ Some b = ap (λ (bs : FiniteMap Bearer). get bs k.asked.bearer) (sym view.ensures.bearers) ∙ (sym c.bearer.ensures ∙ c.in-Some-bearer.is) in
     let stands : get n.sessions k.asked.session ≡ Some d.described.session = ap (λ (ss : FiniteMap Session). get ss k.asked.session) (sym view.ensures.sessions) ∙ d.ensures.some.stands in
     record {
-      judged = λ a says. opens n r a says c.in-Some.purpose c.in-Some.ensures.some k.asked k.ensures.some (yes c.accepts.ensures c.if-not-accepts.false) view.result.sessions view.ensures.sessions d.described d.ensures.some (yes c.accepts-2.ensures c.if-not-accepts-2.false) b there c.opened_session.result c.opened_session.ensures c.opened_default.result c.opened_default.ensures;
+      judged =
+          λ a says. opens n r a says c.in-Some.purpose c.in-Some.ensures.some k.asked k.ensures.some (yes c.accepts.ensures c.if-not-accepts.false)
+          view.result.sessions view.ensures.sessions d.described d.ensures.some (yes c.accepts-2.ensures c.if-not-accepts-2.false) b there
+          c.opened_session.result c.opened_session.ensures c.opened_default.result c.opened_default.ensures;
       can = (
         ap (λ (o : Option Session). is_some o) stands,
         record {

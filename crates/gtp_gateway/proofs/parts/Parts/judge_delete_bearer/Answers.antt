@@ -22,10 +22,20 @@ returns-then-not-is_default c = record {
       let old = node_of c.args.self.now in
       meets (record { session = c.in-Some.session; stands = sym c.get.ensures ∙ c.in-Some.is })
       (meets (no c.is_pending.ensures c.if-is_pending.false)
-      (subst (λ (o : Option ℕ). DeleteBearerTaken request (delete_bearer_by c.args.request.now ids) o old c.in-Some.session (delete_bearer_effect request c.args.request.now.seq (record { header = c.written_teid-header.result; cause = 64; linked = None; change = Stays }) old)) (sym c.in-Some-linked.is)
+      (subst (λ (o : Option ℕ). DeleteBearerTaken request (delete_bearer_by c.args.request.now ids) o old c.in-Some.session
+      (delete_bearer_effect request c.args.request.now.seq
+      (record { header = c.written_teid-header.result; cause = 64; linked = None; change = Stays }) old)) (sym c.in-Some-linked.is)
       (inl (
         no c.is_default.ensures c.if-not-is_default.true,
-        λ i. answered request (Delete_bearer_response (record { header = c.written_teid-header.ensures i; number = c.args.request.now.seq; cause = cause_of 64; linked = None; contexts = []; recovery = Some old.counter })) 64 old,
+        λ i. answered request (Delete_bearer_response
+            (record {
+              header = c.written_teid-header.ensures i;
+              number = c.args.request.now.seq;
+              cause = cause_of 64;
+              linked = None;
+              contexts = [];
+              recovery = Some old.counter;
+            })) 64 old,
       ))));
   can = tt;
 }
@@ -36,10 +46,25 @@ returns c = record {
       let old = node_of c.args.self.now in
       meets (record { session = c.in-Some.session; stands = sym c.get.ensures ∙ c.in-Some.is })
       (meets (no c.is_pending.ensures c.if-is_pending.false)
-      (subst (λ (o : Option ℕ). DeleteBearerTaken request (delete_bearer_by c.args.request.now ids) o old c.in-Some.session (delete_bearer_effect request c.args.request.now.seq (record { header = c.written_teid-header.result; cause = 16; linked = Some c.in-Some-linked.linked; change = RemovesSession c.args.request.now.header }) old)) (sym c.in-Some-linked.is)
+      (subst (λ (o : Option ℕ). DeleteBearerTaken request (delete_bearer_by c.args.request.now ids) o old c.in-Some.session
+      (delete_bearer_effect request c.args.request.now.seq
+      (record {
+        header = c.written_teid-header.result;
+        cause = 16;
+        linked = Some c.in-Some-linked.linked;
+        change = RemovesSession
+            c.args.request.now.header;
+      }) old)) (sym c.in-Some-linked.is)
       (inr (
         yes c.is_default.ensures c.if-not-is_default.false,
-        λ i. answered request (Delete_bearer_response (record { header = c.written_teid-header.ensures i; number = c.args.request.now.seq; cause = cause_of 16; linked = Some c.in-Some-linked.linked; contexts = []; recovery = Some old.counter })) 16 (without_session old c.args.request.now.header),
+        λ i. answered request (Delete_bearer_response (record {
+          header = c.written_teid-header.ensures i;
+          number = c.args.request.now.seq;
+          cause = cause_of 16;
+          linked = Some c.in-Some-linked.linked;
+          contexts = [];
+          recovery = Some old.counter;
+        })) 16 (without_session old c.args.request.now.header),
       ))));
   can = tt;
 }

@@ -13,7 +13,9 @@ returns-then-not-is_linked_to c = record {
   judged = λ request.
       let old = node_of c.args.self.now in
       meets (record { session = c.in-Some.session; stands = sym c.get.ensures ∙ c.in-Some.is })
-      (breaks (λ linked. no c.is_linked_to.ensures c.if-not-is_linked_to.true linked) (λ i. answered request (Delete_session_response (record { header = c.written_teid-header.ensures i; number = c.args.request.now.seq; cause = cause_of 64; recovery = Some old.counter })) 64 old));
+      (breaks (λ linked. no c.is_linked_to.ensures c.if-not-is_linked_to.true linked) (λ i. answered request (Delete_session_response
+      (record { header = c.written_teid-header.ensures i; number = c.args.request.now.seq; cause = cause_of 64; recovery = Some old.counter })) 64
+      old));
   can = tt;
 }
 
@@ -23,6 +25,8 @@ returns c = record {
       let old = node_of c.args.self.now in
       meets (record { session = c.in-Some.session; stands = sym c.get.ensures ∙ c.in-Some.is })
       (meets (yes c.is_linked_to.ensures c.if-not-is_linked_to.false)
-      (λ i. answered request (Delete_session_response (record { header = c.written_teid-header.ensures i; number = c.args.request.now.seq; cause = cause_of 16; recovery = Some old.counter })) 16 (without_session old c.args.request.now.header)));
+      (λ i. answered request (Delete_session_response (record
+      { header = c.written_teid-header.ensures i; number = c.args.request.now.seq; cause = cause_of 16; recovery = Some old.counter })) 16
+      (without_session old c.args.request.now.header)));
   can = tt;
 }

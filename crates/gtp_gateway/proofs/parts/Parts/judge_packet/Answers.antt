@@ -27,7 +27,8 @@ returns-then-not-may_come c =
     let target = c.args.target in
     let at : HasBearer old.node target = record { bearer = c.in-Some.at; stands = sym c.get.ensures ∙ c.in-Some.is } in
     subst (λ (j : Judged). IsJudgedBy (PacketCame old.role target c.args.payload.now) old j old) (sym c.dropped-then-not-may_come.ensures)
-    (drops (PacketCame old.role target c.args.payload.now) old refl AfterEnd (inr (at, inr (yes c.is_active.ensures c.if-not-is_active.false, inl (no c.may_come.ensures c.if-not-may_come.true, refl)))))
+    (drops (PacketCame old.role target c.args.payload.now) old refl AfterEnd
+    (inr (at, inr (yes c.is_active.ensures c.if-not-is_active.false, inl (no c.may_come.ensures c.if-not-may_come.true, refl)))))
 
 pub returns : goal.returns
 returns c =
@@ -41,7 +42,15 @@ returns c =
     record {
       effect = record { out = record nothing { accepted = entry ∷ [] }; outcome = Came_to Accepted; node = old.node };
       takes = inr (at, inr (yes c.is_active.ensures c.if-not-is_active.false, inr (yes c.may_come.ensures c.if-not-may_come.false, record { of = of; gives = refl })));
-      tells = record { sent = none_sent old.node.config; outcome = refl; report = refl; accepted = (entry, record { at = at; of = of; is = refl }, refl); packet = (λ is. refl, λ some. refl); all = refl };
+      tells =
+          record {
+            sent = none_sent old.node.config;
+            outcome = refl;
+            report = refl;
+            accepted = (entry, record { at = at; of = of; is = refl }, refl);
+            packet = (λ is. refl, λ some. refl);
+            all = refl;
+          };
       becomes = refl;
       role = refl;
       same = λ _. refl;

@@ -26,7 +26,9 @@ has_room a b same few = omega (arith, same, few)
 -- what the pools have for this type, as the tables say it and as the machine does
 module _ (n : Node) (pdn : ℕ) (sessions : FiniteMap Session) (pools : Pools) (asked : Asked) (same : sessions ≡ n.sessions) (of : pools ≡ n.config.pools) (by : asked ≡ asked_by pdn) where
   may_give : (address : PdnAddress) → IsLowestGiven sessions pools asked address → (other : ℕ) → other ≡ pdn → IsGiven n other address
-  may_give address lowest other is = subst (λ (k : ℕ). IsGiven n k address) (sym is) (lowest_given n sessions pools same of pdn address (subst (λ (k : Asked). IsLowestGiven sessions pools k address) by lowest))
+  may_give address lowest other is =
+      subst (λ (k : ℕ). IsGiven n k address) (sym is)
+      (lowest_given n sessions pools same of pdn address (subst (λ (k : Asked). IsLowestGiven sessions pools k address) by lowest))
 
   may_not_give : AreUsedUp sessions pools asked → (other : ℕ) → other ≡ pdn → CanGive n other → ⊥
   may_not_give used other is can = none_given n sessions pools same of pdn (subst (λ (k : Asked). AreUsedUp sessions pools k) by used) (subst (λ (k : ℕ). CanGive n k) is can)
@@ -42,7 +44,12 @@ returns-in-Ok c =
     let lowest = c.in-Ok.ensures.free in
     let given = may_give left c.args.pdn.0 _ _ _ same pools c.asked_by.ensures address lowest in
     record {
-      judged = λ request q is of. meets (record { few = has_room _ _ (ap (λ (m : FiniteMap Session). len m) same) (no c.is_full.ensures c.if-is_full.false) }, draws_left c.args.heard node 2 drawn.left)
+      judged =
+          λ request q is of.
+          meets (
+            record { few = has_room _ _ (ap (λ (m : FiniteMap Session). len m) same) (no c.is_full.ensures c.if-is_full.false) },
+            draws_left c.args.heard node 2 drawn.left,
+          )
           (meets (can_be_had left q.pdn address (given q.pdn is))
           (record {
             control = c.in-Some.drawn.control;
@@ -73,7 +80,12 @@ returns-in-Err c =
     let none = may_not_give left c.args.pdn.0 _ _ _ same pools c.asked_by.ensures c.in-Err.ensures.none in
     subst (λ (v : CreateSessionVerdict). JudgesRoom c.args.identity c.args.pdn.0 c.args.access_point.now c.args.heard (state_of c.args.self.now) v) (sym c.refused-in-Err.ensures)
     (record {
-      judged = λ request q is of. meets (record { few = has_room _ _ (ap (λ (m : FiniteMap Session). len m) same) (no c.is_full.ensures c.if-is_full.false) }, draws_left c.args.heard node 2 drawn.left)
+      judged =
+          λ request q is of.
+          meets (
+            record { few = has_room _ _ (ap (λ (m : FiniteMap Session). len m) same) (no c.is_full.ensures c.if-is_full.false) },
+            draws_left c.args.heard node 2 drawn.left,
+          )
           (breaks (none q.pdn is) refl);
       is = refl;
     })

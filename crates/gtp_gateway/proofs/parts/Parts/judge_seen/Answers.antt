@@ -17,4 +17,6 @@ returns-in-Some c =
     let old = state_of c.args.self.now in
     let m = c.args.seen.now in
     let said : users.packet_in m.content ≡ Some (c.in-Some.packet.0, c.in-Some.packet.1.now) = sym c.packet.ensures ∙ ap (option_map (λ p. (p.0, p.1.now))) c.in-Some.is in
-    subst (λ (content : users.Content). IsJudgedBy (UserTaken old.role c.args.source.now (user_content_message m.seq content)) old c.judge_packet.result old) (is_packet m.content c.in-Some.packet.0 c.in-Some.packet.1.now said) c.judge_packet.ensures
+    subst
+    (λ (content : users.Content). IsJudgedBy (UserTaken old.role c.args.source.now (user_content_message m.seq content)) old c.judge_packet.result old)
+    (is_packet m.content c.in-Some.packet.0 c.in-Some.packet.1.now said) c.judge_packet.ensures

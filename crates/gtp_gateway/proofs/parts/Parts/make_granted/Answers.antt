@@ -18,7 +18,9 @@ add-requires-2-clause-rises c =
     let bearer = bearer_granted c.args.request.now g in
     let stands = ap (λ r. r.table) (succeeded c.reserve_one.result c.in_ok-map_err.ensures.variant c.reserve_one.ensures.ok) in
     let made = succeeded c.add.result c.in_ok-map_err-2.ensures.variant c.add.ensures.ok ∙ ap (λ (b : Bearer). insert node.bearers g.drawn.user b) c.granted_bearer.ensures in
-    let heard = c.hear.ensures.node ∙ (λ i. node_heard c.args.heard (record node { sessions = stands i; bearers = made i })) ∙ heard_with c.args.heard node g.drawn.user bearer (none_above node.sessions g.drawn.control c.requires.can.control_above) in
+    let heard =
+    c.hear.ensures.node ∙ (λ i. node_heard c.args.heard (record node { sessions = stands i; bearers = made i }))
+    ∙ heard_with c.args.heard node g.drawn.user bearer (none_above node.sessions g.drawn.control c.requires.can.control_above) in
     subst (λ (sessions : FiniteMap Session). IsAbove sessions g.drawn.control) (sym (ap (λ (n : Node). n.sessions) heard)) (still_above c.args.heard node g.drawn.control c.requires.can.control_above)
 
 pub returns-clause-node : goal.returns-clause-node
@@ -29,7 +31,9 @@ returns-clause-node c =
     let can = c.requires.can in
     let stands = ap (λ r. r.table) (succeeded c.reserve_one.result c.in_ok-map_err.ensures.variant c.reserve_one.ensures.ok) in
     let made = succeeded c.add.result c.in_ok-map_err-2.ensures.variant c.add.ensures.ok ∙ ap (λ (b : Bearer). insert node.bearers g.drawn.user b) c.granted_bearer.ensures in
-    let heard = c.hear.ensures.node ∙ (λ i. node_heard c.args.heard (record node { sessions = stands i; bearers = made i })) ∙ heard_with c.args.heard node g.drawn.user bearer (none_above node.sessions g.drawn.control can.control_above) in
+    let heard =
+    c.hear.ensures.node ∙ (λ i. node_heard c.args.heard (record node { sessions = stands i; bearers = made i }))
+    ∙ heard_with c.args.heard node g.drawn.user bearer (none_above node.sessions g.drawn.control can.control_above) in
     let counter = can.are.counter ∙ sym (counter_stays c.args.heard node) in
     let drawn = can.are.drawn ∙ (λ i. g.drawn.user ∷ g.drawn.control ∷ sym (drawn_stays c.args.heard node) i) in
     let sessions = c.add-2.ensures.table ∙ (λ i. insert (heard i).sessions g.drawn.control (c.granted_session.ensures i)) in

@@ -14,4 +14,12 @@ contexts_said (n ∷ ns) = λ i. removed_by n ∷ contexts_said ns i
 pub returns-clause-says : goal.returns-clause-says
 returns-clause-says c =
     let contexts = ap (map removed_bearer) c.in_ok-contexts.ensures ∙ contexts_said c.args.named.now in
-    c.delete_bearer_response.ensures.says ∙ (λ i. Delete_bearer_response (record { header = c.args.header; number = c.args.seq; cause = cause_of (c.cause_of_all-cause.ensures i); linked = None; contexts = contexts i; recovery = Some (c.counter-counter.ensures i) }))
+    c.delete_bearer_response.ensures.says ∙ (λ i. Delete_bearer_response
+    (record {
+      header = c.args.header;
+      number = c.args.seq;
+      cause = cause_of (c.cause_of_all-cause.ensures i);
+      linked = None;
+      contexts = contexts i;
+      recovery = Some (c.counter-counter.ensures i);
+    }))

@@ -26,4 +26,5 @@ returns-in-Some-clause-refused c = begun (state_of c.args.self.now) (returns-in-
 pub returns-in-None-clause-refused : goal.returns-in-None-clause-refused
 returns-in-None-clause-refused c =
     let old = c.args.self.now in
-    full (state_of old) (has_none (node_of old) old.pending.waiting c.number_after.ensures.distinct refl (subst (λ (ws : List (Waiting Purpose)). 256 ≤ length ws) (filter_all old.pending.waiting) c.in-None.ensures.none))
+    full (state_of old) (has_none (node_of old) old.pending.waiting c.number_after.ensures.distinct refl
+    (subst (λ (ws : List (Waiting Purpose)). 256 ≤ length ws) (filter_all old.pending.waiting) c.in-None.ensures.none))

@@ -12,7 +12,9 @@ use Rattle.gtp_gateway.proofs.UserRows.{all_stay}
 use Rattle.gtp_gateway.proofs.parts.Parts.number_after.Goals as goal
 
 -- where no later counter is heard, all requests wait on
-wait_on : (sessions : FiniteMap Session) (ws : List (Waiting Purpose)) (heard : Heard) → (heard ≡ Nothing) ⊎ (((x : Counter) × (heard ≡ First x)) ⊎ (((x : Counter) × (heard ≡ Same x)) ⊎ ((x : Counter) × (heard ≡ Earlier x)))) → ws ≡ waiting_heard heard sessions ws
+wait_on : (sessions : FiniteMap Session) (ws : List (Waiting Purpose)) (heard : Heard)
+    → (heard ≡ Nothing) ⊎ (((x : Counter) × (heard ≡ First x)) ⊎ (((x : Counter) × (heard ≡ Same x)) ⊎ ((x : Counter) × (heard ≡ Earlier x))))
+    → ws ≡ waiting_heard heard sessions ws
 wait_on sessions ws heard (inl is) = all_stay ws ∙ ap (λ (h : Heard). waiting_heard h sessions ws) (sym is)
 wait_on sessions ws heard (inr (inl (x, is))) = all_stay ws ∙ ap (λ (h : Heard). waiting_heard h sessions ws) (sym is)
 wait_on sessions ws heard (inr (inr (inl (x, is)))) = all_stay ws ∙ ap (λ (h : Heard). waiting_heard h sessions ws) (sym is)

@@ -10,7 +10,8 @@ use Rattle.gtp_gateway.proofs.parts.Parts.ready_answer.Goals as goal
 pub returns-clause-kept : goal.returns-clause-kept
 returns-clause-kept c =
     let octets = c.in_ok-octets.octets.items in
-    then_ok (λ (ready : ReadyAnswer). ready.answer.items ≡ octets) (λ (ready : ReadyAnswer). AreSpelledAll ready.answer.items) (λ ready is. subst AreSpelledAll (sym is) (alone_kept octets c.in_ok-octets.ensures.kept)) c.ready_octets.result c.ready_octets.ensures.answer
+    then_ok (λ (ready : ReadyAnswer). ready.answer.items ≡ octets) (λ (ready : ReadyAnswer). AreSpelledAll ready.answer.items)
+    (λ ready is. subst AreSpelledAll (sym is) (alone_kept octets c.in_ok-octets.ensures.kept)) c.ready_octets.result c.ready_octets.ensures.answer
 
 pub returns-clause-read : goal.returns-clause-read
 returns-clause-read c =

@@ -36,14 +36,24 @@ returns-in-Control-clause-packet c =
     subst (λ (r : Step). IsSome r.accepted → new ≡ old) (sym c.from.ensures) (λ some. absurd cc)
 
 -- the reply is what the datagram comes to
-taken : (source : Endpoint) (octets : List ℕ) (old new : Parts) (reply : Reply) (step : Step) → UserComes source octets (state_of old) (node_of old) (replied reply (node_of old)) → state_of new ≡ state_of old → IsReplyBy reply new.config.config step → IsUserTaken source octets (state_of old) step (state_of new)
+taken : (source : Endpoint) (octets : List ℕ) (old new : Parts) (reply : Reply) (step : Step)
+    → UserComes source octets (state_of old) (node_of old) (replied reply (node_of old)) → state_of new ≡ state_of old
+    → IsReplyBy reply new.config.config step → IsUserTaken source octets (state_of old) step (state_of new)
 taken source octets old new reply step takes same sends = replies (UserComes source octets (state_of old)) (state_of old) reply step (state_of new) refl takes same sends
 
 pub returns-clause-received : goal.returns-clause-received
-returns-clause-received c = IfOk-weaker c.reply_user.result _ _ (λ step sends. as_received c.args.plane c.args.source c.args.octets.now (state_of c.args.self.now) (state_of c.judge_user.new.self) step step c.in-User.is refl (taken c.args.source c.args.octets.now c.args.self.now c.judge_user.new.self c.in-Replies.reply step c.in-Replies.ensures.0 c.in-Replies.ensures.1 sends)) c.reply_user.ensures
+returns-clause-received c =
+    IfOk-weaker c.reply_user.result _ _ (λ step sends.
+    as_received c.args.plane c.args.source c.args.octets.now (state_of c.args.self.now) (state_of c.judge_user.new.self) step step c.in-User.is refl
+    (taken c.args.source c.args.octets.now c.args.self.now c.judge_user.new.self c.in-Replies.reply step c.in-Replies.ensures.0
+    c.in-Replies.ensures.1 sends)) c.reply_user.ensures
 
 pub returns-clause-queues : goal.returns-clause-queues
-returns-clause-queues c = IfOk-weaker c.reply_user.result _ _ (λ step sends. as_timed c.args.plane c.args.source c.args.octets.now (state_of c.args.self.now) (state_of c.judge_user.new.self) step step c.in-User.is refl (taken c.args.source c.args.octets.now c.args.self.now c.judge_user.new.self c.in-Replies.reply step c.in-Replies.ensures.0 c.in-Replies.ensures.1 sends) (tied_of c.judge_user.new.self)) c.reply_user.ensures
+returns-clause-queues c =
+    IfOk-weaker c.reply_user.result _ _ (λ step sends.
+    as_timed c.args.plane c.args.source c.args.octets.now (state_of c.args.self.now) (state_of c.judge_user.new.self) step step c.in-User.is refl
+    (taken c.args.source c.args.octets.now c.args.self.now c.judge_user.new.self c.in-Replies.reply step c.in-Replies.ensures.0
+    c.in-Replies.ensures.1 sends) (tied_of c.judge_user.new.self)) c.reply_user.ensures
 
 pub returns-clause-memory : goal.returns-clause-memory
 returns-clause-memory c =

@@ -18,7 +18,9 @@ returns-clause-refused c =
     let old = state_of c.args.self.now in
     let ready = c.in_ok-ready.ensures in
     let m : Message = refusing types.CreateSessionRequest c.args.request.now.control.teid c.args.request.now.seq c.args.cause old.node.counter in
-    let said : control_message c.in_ok-message.message ≡ m = c.in_ok-message.ensures.says ∙ (λ i. refusing types.CreateSessionRequest (c.teid-header.ensures i) c.args.request.now.seq c.args.cause (c.counter-counter.ensures i)) in
+    let said : control_message c.in_ok-message.message ≡ m =
+    c.in_ok-message.ensures.says
+    ∙ (λ i. refusing types.CreateSessionRequest (c.teid-header.ensures i) c.args.request.now.seq c.args.cause (c.counter-counter.ensures i)) in
     let same : state_of c.ready_answer.new.self ≡ old = c.ready_answer.ensures.same in
     let config : c.hear.new.self.config.config ≡ old.node.config = ap (λ (s : Settings). s.config) c.hear.ensures.only.config ∙ ap (λ (s : GatewayState). s.node.config) same in
     record {
@@ -32,4 +34,6 @@ returns-clause-refused c =
     }
 
 pub returns-clause-goes : goal.returns-clause-goes
-returns-clause-goes c = readied_goes c.args.arrival.now (state_of c.args.self.now) _ (state_of c.hear.new.self) c.send_answer-out.new.self c.in_ok-ready.ready.answer.items c.ready_answer.ensures.same c.hear.ensures.waits c.send_answer-out.ensures.queues
+returns-clause-goes c =
+    readied_goes c.args.arrival.now (state_of c.args.self.now) _ (state_of c.hear.new.self) c.send_answer-out.new.self
+    c.in_ok-ready.ready.answer.items c.ready_answer.ensures.same c.hear.ensures.waits c.send_answer-out.ensures.queues

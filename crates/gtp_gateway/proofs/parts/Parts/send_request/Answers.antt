@@ -25,7 +25,10 @@ returns-clause-done c =
       effect = asks node seq (about r.purpose r.message) r.teid (changed_by r.change node);
       room = c.requires.room;
       asks = record { number_free = record { unused = none_pending old.pending.waiting seq c.requires.number.free; small = small_number _ _ seq c.requires.number }; gives = refl };
-      sent = one_sent node.config _ _ (c.in_ok-out.ensures.sent ∙ ap (λ (k : Config). datagram_of k (record { destination = control_end k.peer.control; messages = r.message ∷ [] })) config) c.in_ok-out.ensures.back;
+      sent =
+          one_sent node.config _ _ (c.in_ok-out.ensures.sent
+          ∙ ap (λ (k : Config). datagram_of k (record { destination = control_end k.peer.control; messages = r.message ∷ [] })) config)
+          c.in_ok-out.ensures.back;
       outcome = refl;
       becomes = c.in_ok-out.ensures.node ∙ ap (λ (s : GatewayState). asking r.change seq r.purpose r.message s.node) same;
       role = c.begin_request.ensures.role ∙ ap (λ (s : GatewayState). s.role) same;

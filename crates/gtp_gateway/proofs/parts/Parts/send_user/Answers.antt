@@ -47,8 +47,21 @@ returns-clause-done c =
     let few : length payload ≤ 65000 = c.if-payload-gt-LONGEST_PAYLOAD.false in
     let said = c.packet-message.ensures.says ∙ ap (λ t. Packet_data t payload) c.written_teid.ensures in
     record {
-      effect = record { out = record (says (user_end node.config.peer.user) (Packet_data (written at.remote) payload)) { handed = entry_for (written at.remote) payload of.session.subscriber at.identity ∷ [] }; outcome = Came_to GoneOut; node = node };
-      step = inr (record { bearer = at; stands = stands }, inr (yes c.is_active.ensures c.if-not-is_active.false, inr (yes c.may_go.ensures c.if-not-may_go.false, inr (few, record { of = of; gives = refl }))));
+      effect =
+          record {
+            out = record (says (user_end node.config.peer.user) (Packet_data (written at.remote) payload))
+                { handed = entry_for (written at.remote) payload of.session.subscriber at.identity ∷ [] };
+            outcome = Came_to GoneOut;
+            node = node;
+          };
+      step =
+          inr (
+            record { bearer = at; stands = stands },
+            inr (
+              yes c.is_active.ensures c.if-not-is_active.false,
+              inr (yes c.may_go.ensures c.if-not-may_go.false, inr (few, record { of = of; gives = refl })),
+            ),
+          );
       sent = one_sent node.config _ _ (c.in_ok-out.ensures.sent ∙ (λ i. datagram_of node.config (record { destination = user_end node.config.peer.user; messages = said i ∷ [] })))
           (subst (λ (m : Message). ReadsBack (m ∷ [])) said c.in_ok-out.ensures.back);
       outcome = refl;

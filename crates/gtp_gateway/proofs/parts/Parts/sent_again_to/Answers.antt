@@ -37,7 +37,8 @@ returns-clause-some c =
     let sends : c.in_ok-from_slice.field-0.items ≡ spelled_all messages = c.in_ok-from_slice.ensures.items ∙ (kept.is ∙ ap spelled_all (sym pair.answer)) in
     let out : Sent = record { plane = Control; from = c.control_end_of.result; to = arrival.source; octets = c.in_ok-from_slice.field-0 } in
     let sent : datagram_by out ≡ datagram_of config (record { destination = arrival.source; messages = messages }) =
-    ◌∙◌ {A = Datagram} (λ i. record { plane = Control; from = from i; to = arrival.source; octets = sends i }) (λ i. record { plane = plane i; from = own_end config (plane i); to = arrival.source; octets = spelled_all messages }) in
+    ◌∙◌ {A = Datagram} (λ i. record { plane = Control; from = from i; to = arrival.source; octets = sends i })
+    (λ i. record { plane = plane i; from = own_end config (plane i); to = arrival.source; octets = spelled_all messages }) in
     subst (λ (a : Arrival). IsSentAgain a (state_of c.args.self.now).node out) c.arrival.view_is
     (record {
       held = pair.pair;

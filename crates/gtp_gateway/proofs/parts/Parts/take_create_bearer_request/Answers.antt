@@ -24,7 +24,8 @@ pub returns-then-is_full-clause-taken : goal.returns-then-is_full-clause-taken
 returns-then-is_full-clause-taken c = λ q says.
     let old = c.args.self.now in
     let arrival = c.args.arrival.now in
-    drops (CreateBearerAsked arrival q) arrival (state_of old) c.dropped.result HeldFull c.dropped.ensures (inl (λ room. held_many old.held.pairs (yes c.is_full.ensures.full c.if-is_full.true) room.few, refl))
+    drops (CreateBearerAsked arrival q) arrival (state_of old) c.dropped.result HeldFull c.dropped.ensures
+    (inl (λ room. held_many old.held.pairs (yes c.is_full.ensures.full c.if-is_full.true) room.few, refl))
 
 pub returns-in_default-clause-taken : goal.returns-in_default-clause-taken
 returns-in_default-clause-taken c = λ q says.
@@ -34,7 +35,10 @@ returns-in_default-clause-taken c = λ q says.
     drops (CreateBearerAsked arrival q) arrival (state_of old) c.dropped-in_default.result ContextNotActive c.dropped-in_default.ensures
     (inr (
       record { few = held_few old.held.pairs (no c.is_full.ensures.full c.if-is_full.false) },
-      subst (λ (v : Option CreateBearerVerdict). BearerJudged arrival q node (create_bearer_effect arrival c.args.request.now q v node)) c.in_default.is ((c.judge_create_bearer.ensures.judged node (stands_itself node c.args.request.now.header c.get-found.result c.new-view.result.bearers c.get-found.ensures (ap (λ (x : Contexts). x.bearers) c.new-view.ensures))).judged arrival q says),
+      subst (λ (v : Option CreateBearerVerdict). BearerJudged arrival q node (create_bearer_effect arrival c.args.request.now q v node))
+          c.in_default.is ((c.judge_create_bearer.ensures.judged node
+          (stands_itself node c.args.request.now.header c.get-found.result c.new-view.result.bearers c.get-found.ensures
+          (ap (λ (x : Contexts). x.bearers) c.new-view.ensures))).judged arrival q says),
     ))
 
 pub returns-clause-taken : goal.returns-clause-taken
@@ -44,9 +48,15 @@ returns-clause-taken c = λ q says.
     let arrival = c.args.arrival.now in
     let r = c.args.request.now in
     let v = c.in-Some.verdict in
-    let judged = subst (λ (o : Option CreateBearerVerdict). BearerJudged arrival q node (create_bearer_effect arrival r q o node)) c.in-Some.is ((c.judge_create_bearer.ensures.judged node (stands_itself node c.args.request.now.header c.get-found.result c.new-view.result.bearers c.get-found.ensures (ap (λ (x : Contexts). x.bearers) c.new-view.ensures))).judged arrival q says) in
+    let judged =
+    subst (λ (o : Option CreateBearerVerdict). BearerJudged arrival q node (create_bearer_effect arrival r q o node)) c.in-Some.is
+    ((c.judge_create_bearer.ensures.judged node
+    (stands_itself node c.args.request.now.header c.get-found.result c.new-view.result.bearers c.get-found.ensures
+    (ap (λ (x : Contexts). x.bearers) c.new-view.ensures))).judged arrival q says) in
     let said : control_message c.in_ok-message.message ≡ bearer_answer v.answer v.header q node = c.in_ok-message.ensures.says q says in
-    answers_made (CreateBearerAsked arrival q) arrival (state_of old) (state_of c.answer.new.self) c.answered.result c.in_ok-out.out (control_message c.in_ok-message.message ∷ []) c.cause.result c.is_granted.result (changed_by c.change.result node) c.answered.ensures c.in_ok-out.ensures.sent c.in_ok-out.ensures.back c.in_ok-out.ensures.node c.in_ok-out.ensures.role
+    answers_made (CreateBearerAsked arrival q) arrival (state_of old) (state_of c.answer.new.self) c.answered.result c.in_ok-out.out
+    (control_message c.in_ok-message.message ∷ []) c.cause.result c.is_granted.result (changed_by c.change.result node) c.answered.ensures
+    c.in_ok-out.ensures.sent c.in_ok-out.ensures.back c.in_ok-out.ensures.node c.in_ok-out.ensures.role
     (inr (
       record { few = held_few old.held.pairs (no c.is_full.ensures.full c.if-is_full.false) },
       subst (λ e. BearerJudged arrival q node e) (λ i. answering (sym c.is_granted.ensures i) arrival (sym said i ∷ []) (sym c.cause.ensures i) (changed_by (sym c.change.ensures i) node)) judged,
@@ -56,14 +66,24 @@ pub returns-in_err-message-clause-memory : goal.returns-in_err-message-clause-me
 returns-in_err-message-clause-memory c = on_err c.from_residual.result (λ q says.
     let old = c.args.self.now in
     let node = node_of old in
-    let judged = subst (λ (o : Option CreateBearerVerdict). BearerJudged c.args.arrival.now q node (create_bearer_effect c.args.arrival.now c.args.request.now q o node)) c.in-Some.is ((c.judge_create_bearer.ensures.judged node (stands_itself node c.args.request.now.header c.get-found.result c.new-view.result.bearers c.get-found.ensures (ap (λ (x : Contexts). x.bearers) c.new-view.ensures))).judged c.args.arrival.now q says) in
+    let judged =
+    subst
+    (λ (o : Option CreateBearerVerdict). BearerJudged c.args.arrival.now q node (create_bearer_effect c.args.arrival.now c.args.request.now q o node))
+    c.in-Some.is ((c.judge_create_bearer.ensures.judged node
+    (stands_itself node c.args.request.now.header c.get-found.result c.new-view.result.bearers c.get-found.ensures
+    (ap (λ (x : Contexts). x.bearers) c.new-view.ensures))).judged c.args.arrival.now q says) in
     create_bearer_asked c.args.arrival.now q node _ _ _ _ (record { few = held_few old.held.pairs (no c.is_full.ensures.full c.if-is_full.false) }) judged)
 
 pub returns-in_err-out-clause-memory : goal.returns-in_err-out-clause-memory
 returns-in_err-out-clause-memory c = on_err c.from_residual-in_err-out.result (λ q says.
     let old = c.args.self.now in
     let node = node_of old in
-    let judged = subst (λ (o : Option CreateBearerVerdict). BearerJudged c.args.arrival.now q node (create_bearer_effect c.args.arrival.now c.args.request.now q o node)) c.in-Some.is ((c.judge_create_bearer.ensures.judged node (stands_itself node c.args.request.now.header c.get-found.result c.new-view.result.bearers c.get-found.ensures (ap (λ (x : Contexts). x.bearers) c.new-view.ensures))).judged c.args.arrival.now q says) in
+    let judged =
+    subst
+    (λ (o : Option CreateBearerVerdict). BearerJudged c.args.arrival.now q node (create_bearer_effect c.args.arrival.now c.args.request.now q o node))
+    c.in-Some.is ((c.judge_create_bearer.ensures.judged node
+    (stands_itself node c.args.request.now.header c.get-found.result c.new-view.result.bearers c.get-found.ensures
+    (ap (λ (x : Contexts). x.bearers) c.new-view.ensures))).judged c.args.arrival.now q says) in
     create_bearer_asked c.args.arrival.now q node _ _ _ _ (record { few = held_few old.held.pairs (no c.is_full.ensures.full c.if-is_full.false) }) judged)
 
 pub returns-clause-choices : goal.returns-clause-choices
@@ -72,5 +92,8 @@ returns-clause-choices c = λ made.
     let r = c.args.request.now in
     let v = c.in-Some.verdict in
     let granted : is_granted v.answer ≡ true = sym c.is_granted.ensures ∙ (sym (ap (λ (s : ControlStep). s.report.made) c.answered.ensures) ∙ made) in
-    lowest_bearer r v.answer old (node_of c.answer.new.self) (subst (λ (o : Option CreateBearerVerdict). ChoosesBearer r.header o old) c.in-Some.is (c.judge_create_bearer.ensures.judged old (stands_itself old c.args.request.now.header c.get-found.result c.new-view.result.bearers c.get-found.ensures (ap (λ (x : Contexts). x.bearers) c.new-view.ensures))).chosen)
+    lowest_bearer r v.answer old (node_of c.answer.new.self)
+    (subst (λ (o : Option CreateBearerVerdict). ChoosesBearer r.header o old) c.in-Some.is (c.judge_create_bearer.ensures.judged old
+    (stands_itself old c.args.request.now.header c.get-found.result c.new-view.result.bearers c.get-found.ensures
+    (ap (λ (x : Contexts). x.bearers) c.new-view.ensures))).chosen)
     (ap (λ (n : Node). n.bearers) c.in_ok-out.ensures.node ∙ ap (λ (k : Change). (changed_by k old).bearers) c.change.ensures) granted

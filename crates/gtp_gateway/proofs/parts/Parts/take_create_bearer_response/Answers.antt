@@ -16,10 +16,15 @@ returns-clause-taken c =
     let r = c.args.answer.now in
     let v = c.judge_create_bearer_response-verdict.result in
     let n = node_heard c.args.heard old.node in
-    if_ok (λ step is becomes request x says. settled (CreateBearerAnswered x) request c.args.heard old new v r.response.seq step is becomes c.apply_verdict.ensures.only.role (subst (λ (i : ℕ). CreateBearerAnswered x n (effect_by v i n)) says.number (c.judge_create_bearer_response-verdict.ensures.judged x says))) c.apply_verdict.result c.apply_verdict.ensures.step c.apply_verdict.ensures.node
+    if_ok (λ step is becomes request x says.
+    settled (CreateBearerAnswered x) request c.args.heard old new v r.response.seq step is becomes c.apply_verdict.ensures.only.role
+    (subst (λ (i : ℕ). CreateBearerAnswered x n (effect_by v i n)) says.number (c.judge_create_bearer_response-verdict.ensures.judged x says)))
+    c.apply_verdict.result c.apply_verdict.ensures.step c.apply_verdict.ensures.node
 
 pub returns-clause-memory : goal.returns-clause-memory
 returns-clause-memory c =
     let v = c.judge_create_bearer_response-verdict.result in
     let n = node_heard c.args.heard (state_of c.args.self.now).node in
-    on_err_weaker c.apply_verdict.result (λ opened x says. create_bearer_answered x n (effect_by v x.number n) (ap (λ o. Came_to o) opened) (c.judge_create_bearer_response-verdict.ensures.judged x says)) c.apply_verdict.ensures.memory
+    on_err_weaker c.apply_verdict.result (λ opened x says.
+    create_bearer_answered x n (effect_by v x.number n) (ap (λ o. Came_to o) opened) (c.judge_create_bearer_response-verdict.ensures.judged x says))
+    c.apply_verdict.ensures.memory

@@ -34,7 +34,8 @@ returns-then-is_full-clause-taken c = λ q says.
     let old = c.args.self.now in
     let left = node_heard c.args.heard (node_of old) in
     let arrival = c.args.arrival.now in
-    ends (CreateSessionAsked arrival q) arrival (record (state_of old) { node = left }) (state_of c.hear.new.self) c.dropped.result (Dropped HeldFull) left c.dropped.ensures c.hear.ensures.node c.hear.ensures.only.role
+    ends (CreateSessionAsked arrival q) arrival (record (state_of old) { node = left }) (state_of c.hear.new.self) c.dropped.result (Dropped HeldFull)
+    left c.dropped.ensures c.hear.ensures.node c.hear.ensures.only.role
     (inl (λ room. held_many old.held.pairs (yes c.is_full.ensures.full c.if-is_full.true) (subst (λ (held : List Held). length held < 4096) (held_stays c.args.heard (node_of old)) room.few), refl))
 
 pub returns-in-Refused-clause-taken : goal.returns-in-Refused-clause-taken
@@ -66,7 +67,9 @@ returns-in-Granted-clause-taken c =
     answered_so (CreateSessionAsked arrival q) arrival _ (session_cause r.pdn.0 g.address) true _ left old step (state_of c.grant_session.new.self) (config_stays c.args.heard old.node) a
     (inr (
       room,
-      subst (λ (e : Effect). SessionJudged arrival q left e) (λ i. making arrival (sym (grant_same r q says c.args.heard old.node g chosen.identity_is) i ∷ []) (session_cause (says.pdn i) g.address) (sym (made_same r q says c.args.heard old.node g chosen.identity_is) i))
+      subst (λ (e : Effect). SessionJudged arrival q left e)
+          (λ i. making arrival (sym (grant_same r q says c.args.heard old.node g chosen.identity_is) i ∷ []) (session_cause (says.pdn i) g.address)
+          (sym (made_same r q says c.args.heard old.node g chosen.identity_is) i))
           (subst (λ (v : CreateSessionVerdict). SessionJudged arrival q left (create_session_effect arrival q v left)) c.in-Granted.is (c.judge_create_session.ensures.judged arrival q says)),
     )))
     c.grant_session.ensures.granted
@@ -85,27 +88,37 @@ returns-in-GrantedWith-clause-taken c =
     answered_so (CreateSessionAsked arrival q) arrival _ (session_cause r.pdn.0 g.address) true _ left old step (state_of c.grant_with.new.self) (config_stays c.args.heard old.node) a
     (inr (
       room,
-      subst (λ (e : Effect). SessionJudged arrival q left e) (λ i. making arrival (sym (both_same r q says c.args.heard old.node g chosen.0.identity_is x) i) (session_cause (says.pdn i) g.address) (sym (begun_same r q says c.args.heard old.node g chosen.0.identity_is x) i))
+      subst (λ (e : Effect). SessionJudged arrival q left e)
+          (λ i. making arrival (sym (both_same r q says c.args.heard old.node g chosen.0.identity_is x) i) (session_cause (says.pdn i) g.address)
+          (sym (begun_same r q says c.args.heard old.node g chosen.0.identity_is x) i))
           (subst (λ (v : CreateSessionVerdict). SessionJudged arrival q left (create_session_effect arrival q v left)) c.in-GrantedWith.is (c.judge_create_session.ensures.judged arrival q says)),
     )))
     c.grant_with.ensures.granted
 
 pub returns-in-GrantedWith-clause-memory : goal.returns-in-GrantedWith-clause-memory
-returns-in-GrantedWith-clause-memory c = on_err c.grant_with.result (λ q. create_session_asked c.args.arrival.now q _ (room_left c.args.self.now c.args.heard (no c.is_full.ensures.full c.if-is_full.false)))
+returns-in-GrantedWith-clause-memory c =
+    on_err c.grant_with.result
+    (λ q. create_session_asked c.args.arrival.now q _ (room_left c.args.self.now c.args.heard (no c.is_full.ensures.full c.if-is_full.false)))
 
 pub returns-in-GrantedWith-clause-choices : goal.returns-in-GrantedWith-clause-choices
 returns-in-GrantedWith-clause-choices c =
     let r = c.args.request.now in
     let old = node_of c.args.self.now in
     let chosen = subst (λ (v : CreateSessionVerdict). IsVerdict r.default.identity r.pdn.0 v c.args.heard (state_of c.args.self.now)) c.in-GrantedWith.is c.judge_create_session.ensures.is in
-    IfOk-weaker c.grant_with.result _ _ (λ step a made. lowest_session r.default.identity r.pdn.0 r c.in-GrantedWith.grant c.args.heard old (node_of c.grant_with.new.self) chosen.0 (ap (λ (n : Node). n.sessions) a.becomes)) c.grant_with.ensures.granted
+    IfOk-weaker c.grant_with.result _ _
+    (λ step a made. lowest_session r.default.identity r.pdn.0 r c.in-GrantedWith.grant c.args.heard old (node_of c.grant_with.new.self) chosen.0
+    (ap (λ (n : Node). n.sessions) a.becomes)) c.grant_with.ensures.granted
 
 pub returns-in-Granted-clause-memory : goal.returns-in-Granted-clause-memory
-returns-in-Granted-clause-memory c = on_err c.grant_session.result (λ q. create_session_asked c.args.arrival.now q _ (room_left c.args.self.now c.args.heard (no c.is_full.ensures.full c.if-is_full.false)))
+returns-in-Granted-clause-memory c =
+    on_err c.grant_session.result
+    (λ q. create_session_asked c.args.arrival.now q _ (room_left c.args.self.now c.args.heard (no c.is_full.ensures.full c.if-is_full.false)))
 
 pub returns-in-Granted-clause-choices : goal.returns-in-Granted-clause-choices
 returns-in-Granted-clause-choices c =
     let r = c.args.request.now in
     let old = node_of c.args.self.now in
     let chosen = subst (λ (v : CreateSessionVerdict). IsVerdict r.default.identity r.pdn.0 v c.args.heard (state_of c.args.self.now)) c.in-Granted.is c.judge_create_session.ensures.is in
-    IfOk-weaker c.grant_session.result _ _ (λ step a made. lowest_session r.default.identity r.pdn.0 r c.in-Granted.grant c.args.heard old (node_of c.grant_session.new.self) chosen (ap (λ (n : Node). n.sessions) a.becomes)) c.grant_session.ensures.granted
+    IfOk-weaker c.grant_session.result _ _
+    (λ step a made. lowest_session r.default.identity r.pdn.0 r c.in-Granted.grant c.args.heard old (node_of c.grant_session.new.self) chosen
+    (ap (λ (n : Node). n.sessions) a.becomes)) c.grant_session.ensures.granted

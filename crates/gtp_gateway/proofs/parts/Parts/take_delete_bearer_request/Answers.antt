@@ -21,7 +21,8 @@ pub returns-then-is_full-clause-taken : goal.returns-then-is_full-clause-taken
 returns-then-is_full-clause-taken c =
     let old = c.args.self.now in
     let arrival = c.args.arrival.now in
-    drops (DeleteBearerAsked arrival (delete_bearer_by c.args.request.now (identities_of c.args.view.now.message))) arrival (state_of old) c.dropped.result HeldFull c.dropped.ensures (inl (λ room. held_many old.held.pairs (yes c.is_full.ensures.full c.if-is_full.true) room.few, refl))
+    drops (DeleteBearerAsked arrival (delete_bearer_by c.args.request.now (identities_of c.args.view.now.message))) arrival (state_of old)
+    c.dropped.result HeldFull c.dropped.ensures (inl (λ room. held_many old.held.pairs (yes c.is_full.ensures.full c.if-is_full.true) room.few, refl))
 
 pub returns-in-NotOpened-clause-taken : goal.returns-in-NotOpened-clause-taken
 returns-in-NotOpened-clause-taken c =
@@ -40,7 +41,8 @@ returns-in-Answered-clause-taken c =
     let room : HasHeldRoom old.node = record { few = held_few c.args.self.now.held.pairs (no c.is_full.ensures.full c.if-is_full.false) } in
     IfOk-weaker c.answer_delete_bearer.result _ _
     (λ step taken.
-    row_as (λ n e. e ≡ delete_bearer_effect arrival r.seq c.in-Answered.answer n) (DeleteBearerAsked arrival (delete_bearer_by r ids)) arrival old.role old.node step (state_of c.answer_delete_bearer.new.self)
+    row_as (λ n e. e ≡ delete_bearer_effect arrival r.seq c.in-Answered.answer n) (DeleteBearerAsked arrival (delete_bearer_by r ids)) arrival
+    old.role old.node step (state_of c.answer_delete_bearer.new.self)
     (λ e is. inr (room, subst (λ (x : Effect). DeleteBearerJudged arrival (delete_bearer_by r ids) old.node x) (sym is) (c.in-Answered.ensures.judged arrival ids)))
     taken)
     c.answer_delete_bearer.ensures.taken
@@ -49,7 +51,9 @@ pub returns-in-Answered-clause-memory : goal.returns-in-Answered-clause-memory
 returns-in-Answered-clause-memory c = on_err c.answer_delete_bearer.result (λ ids.
     let node = node_of c.args.self.now in
     let d = delete_bearer_by c.args.request.now ids in
-    delete_bearer_asked c.args.arrival.now d node (record { few = held_few c.args.self.now.held.pairs (no c.is_full.ensures.full c.if-is_full.false) }) (delete_bearer_opened c.args.arrival.now d node _ _ _ (c.in-Answered.ensures.judged c.args.arrival.now ids)))
+    delete_bearer_asked c.args.arrival.now d node (record
+    { few = held_few c.args.self.now.held.pairs (no c.is_full.ensures.full c.if-is_full.false) })
+    (delete_bearer_opened c.args.arrival.now d node _ _ _ (c.in-Answered.ensures.judged c.args.arrival.now ids)))
 
 pub returns-in-Bearers-clause-memory : goal.returns-in-Bearers-clause-memory
 returns-in-Bearers-clause-memory c = on_err c.end_listed.result (λ ids.

@@ -31,7 +31,8 @@ returns-then-is_full-clause-taken c =
     let old = c.args.self.now in
     let d = delete_session_by c.args.request.now in
     let arrival = c.args.arrival.now in
-    drops (DeleteSessionAsked arrival d) arrival (state_of old) c.dropped.result HeldFull c.dropped.ensures (inl (λ room. held_many old.held.pairs (yes c.is_full.ensures.full c.if-is_full.true) room.few, refl))
+    drops (DeleteSessionAsked arrival d) arrival (state_of old) c.dropped.result HeldFull c.dropped.ensures
+    (inl (λ room. held_many old.held.pairs (yes c.is_full.ensures.full c.if-is_full.true) room.few, refl))
 
 pub returns-clause-taken : goal.returns-clause-taken
 returns-clause-taken c =
@@ -41,8 +42,12 @@ returns-clause-taken c =
     let arrival = c.args.arrival.now in
     let v = c.judge_delete_session-verdict.result in
     let m : Message = Delete_session_response (record { header = v.header; number = d.number; cause = cause_of v.cause; recovery = Some node.counter }) in
-    let said : control_message c.delete_session_response-message.result ≡ m = c.delete_session_response-message.ensures.says ∙ (λ i. Delete_session_response (record { header = v.header; number = d.number; cause = c.plain_cause.ensures i; recovery = Some (c.counter.ensures i) })) in
-    answers (DeleteSessionAsked arrival d) arrival (state_of old) (state_of c.answer.new.self) c.sent.result c.in_ok-out.out (control_message c.delete_session_response-message.result) v.cause (changed_by v.change node) c.sent.ensures c.in_ok-out.ensures.sent c.in_ok-out.ensures.back c.in_ok-out.ensures.node c.in_ok-out.ensures.role
+    let said : control_message c.delete_session_response-message.result ≡ m =
+    c.delete_session_response-message.ensures.says ∙ (λ i. Delete_session_response
+    (record { header = v.header; number = d.number; cause = c.plain_cause.ensures i; recovery = Some (c.counter.ensures i) })) in
+    answers (DeleteSessionAsked arrival d) arrival (state_of old) (state_of c.answer.new.self) c.sent.result c.in_ok-out.out
+    (control_message c.delete_session_response-message.result) v.cause (changed_by v.change node) c.sent.ensures c.in_ok-out.ensures.sent
+    c.in_ok-out.ensures.back c.in_ok-out.ensures.node c.in_ok-out.ensures.role
     (inr (
       record { few = held_few old.held.pairs (no c.is_full.ensures.full c.if-is_full.false) },
       subst (λ (k : Message). DeleteSessionJudged arrival d node (answered arrival k v.cause (changed_by v.change node))) (sym said) (c.judge_delete_session-verdict.ensures.judged arrival),

@@ -16,14 +16,16 @@ use Rattle.gtp_gateway.specs.receive.Response.{FitsAsked}
 use Rattle.gtp_gateway.specs.messages.Spelled.{is_asked, is_for}
 use Rattle.gtp_gateway.proofs.parts.Parts.take_delete_session_response.Goals as goal
 
-delete_session_there : (purpose : Purpose) (m : Message) (r : Response) (d : DeleteSessionResponse) → is_for purpose m ≡ true → d.header ≡ r.header → d.cause ≡ r.cause → FitsAsked DeleteSession (Some r) purpose → FitsDeleteSession (about purpose m) d
+delete_session_there : (purpose : Purpose) (m : Message) (r : Response) (d : DeleteSessionResponse) → is_for purpose m ≡ true → d.header ≡ r.header → d.cause ≡ r.cause
+    → FitsAsked DeleteSession (Some r) purpose → FitsDeleteSession (about purpose m) d
 delete_session_there purpose m r d meant at of (is, names) = by m (asked_there purpose DeleteSession m is meant)
   where
     by : (m : Message) → is_asked DeleteSession purpose m ≡ true → FitsDeleteSession (about purpose m) d
     by (Delete_session_request q) told = record { request = q; asked = refl; named = names_there purpose (Delete_session_request q) r d.header d.cause told at of names }
     by m told = absurd cc
 
-delete_session_here : (purpose : Purpose) (m : Message) (r : Response) (d : DeleteSessionResponse) → is_for purpose m ≡ true → d.header ≡ r.header → d.cause ≡ r.cause → FitsDeleteSession (about purpose m) d → FitsAsked DeleteSession (Some r) purpose
+delete_session_here : (purpose : Purpose) (m : Message) (r : Response) (d : DeleteSessionResponse) → is_for purpose m ≡ true → d.header ≡ r.header → d.cause ≡ r.cause
+    → FitsDeleteSession (about purpose m) d → FitsAsked DeleteSession (Some r) purpose
 delete_session_here purpose m r d meant at of fits =
     let is = by purpose.asked (asked_here purpose m (Delete_session_request fits.request) fits.asked meant) in
     (is.0, names_here purpose m r d.header d.cause (told_of purpose m (Delete_session_request fits.request) fits.asked is.1) at of fits.named)
@@ -36,6 +38,9 @@ pub returns-clause-taken : goal.returns-clause-taken
 returns-clause-taken c = λ request d at number of.
     let r = c.args.response.now in
     let old = c.args.self.now in
-    subst (λ (n : ℕ). IsRow (λ node. EndsRequest node n (λ at. FitsDeleteSession at.pending d) Closed) request old.role (state_of old).node c.end_request.result (state_of c.end_request.new.self)) (sym number)
-    (ended old r.seq DeleteSession (Some r) Closed request (λ p. FitsDeleteSession p d) (λ purpose m meant. (delete_session_there purpose m r d meant at of, delete_session_here purpose m r d meant at of))
+    subst (λ (n : ℕ).
+    IsRow (λ node. EndsRequest node n (λ at. FitsDeleteSession at.pending d) Closed) request old.role (state_of old).node c.end_request.result
+    (state_of c.end_request.new.self)) (sym number)
+    (ended old r.seq DeleteSession (Some r) Closed request (λ p. FitsDeleteSession p d)
+    (λ purpose m meant. (delete_session_there purpose m r d meant at of, delete_session_here purpose m r d meant at of))
     c.end_request.result (state_of c.end_request.new.self) c.end_request.ensures.ended)

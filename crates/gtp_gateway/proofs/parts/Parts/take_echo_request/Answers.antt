@@ -24,7 +24,18 @@ returns-clause-taken c = λ q number.
     (record {
       effect = echoed c.args.arrival.now q node;
       takes = refl;
-      tells = record { sent = one_sent node.config _ _ sent (subst (λ m. ReadsBack (m ∷ [])) says c.in_ok-out.ensures.back); outcome = refl; alone = refl; made = refl; heard = refl; learned = refl; untold = refl; unlearned = refl; all = refl };
+      tells =
+          record {
+            sent = one_sent node.config _ _ sent (subst (λ m. ReadsBack (m ∷ [])) says c.in_ok-out.ensures.back);
+            outcome = refl;
+            alone = refl;
+            made = refl;
+            heard = refl;
+            learned = refl;
+            untold = refl;
+            unlearned = refl;
+            all = refl;
+          };
       becomes = c.hear.ensures.node;
       role_stays = c.hear.ensures.only.role;
     })

@@ -32,4 +32,5 @@ pub returns-clause-taken : goal.returns-clause-taken
 returns-clause-taken c = λ request a number.
     let old = c.args.self.now in
     subst (λ (n : ℕ). IsRow (λ node. EndsRequest node n (λ at. IsEcho at.pending) Alive) request old.role (state_of old).node c.end_request.result (state_of c.end_request.new.self)) (sym number)
-    (ended old c.args.seq Echo None Alive request IsEcho (λ purpose m meant. (echo_there purpose m meant, echo_here purpose m meant)) c.end_request.result (state_of c.end_request.new.self) c.end_request.ensures.ended)
+    (ended old c.args.seq Echo None Alive request IsEcho (λ purpose m meant. (echo_there purpose m meant, echo_here purpose m meant))
+    c.end_request.result (state_of c.end_request.new.self) c.end_request.ensures.ended)

@@ -40,4 +40,6 @@ returns c =
     let target = c.args.target in
     let at : HasBearer old.node target = record { bearer = c.in-Some.at; stands = sym c.get.ensures ∙ c.in-Some.is } in
     subst (λ (role : Role). IsTakenBy (EndCame role target) old (plain_step Ended) new) (sym c.in-Serving.is)
-    (plain (EndCame Serving target) old Ended (record old.node { bearers = insert old.node.bearers target (ended_bearer c.in-Some.at) }) new (λ is. cc) (inr (at, inr (yes c.is_active.ensures c.if-not-is_active.false, refl))) c.replace_bearer.ensures.node c.replace_bearer.ensures.only.role (λ _. c.replace_bearer.ensures.queues) (all_wait old new c.replace_bearer.ensures.queues refl))
+    (plain (EndCame Serving target) old Ended (record old.node { bearers = insert old.node.bearers target (ended_bearer c.in-Some.at) }) new
+    (λ is. cc) (inr (at, inr (yes c.is_active.ensures c.if-not-is_active.false, refl))) c.replace_bearer.ensures.node
+    c.replace_bearer.ensures.only.role (λ _. c.replace_bearer.ensures.queues) (all_wait old new c.replace_bearer.ensures.queues refl))

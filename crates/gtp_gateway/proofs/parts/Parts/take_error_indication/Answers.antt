@@ -18,5 +18,6 @@ returns c =
     let remote = c.args.remote in
     let at = c.in-Some.ensures.found in
     let named : HasRemote old.node remote = record { key = c.in-Some.field-0; at = record { bearer = at.bearer; stands = at.stands }; named = at.has } in
-    plain (ErrorCame remote) old Broken (broken old.node remote) new (λ is. cc) (inr (named, refl)) c.end_bearers_of_remote.ensures.node c.end_bearers_of_remote.ensures.role (λ other. absurd (other refl))
+    plain (ErrorCame remote) old Broken (broken old.node remote) new (λ is. cc) (inr (named, refl)) c.end_bearers_of_remote.ensures.node
+    c.end_bearers_of_remote.ensures.role (λ other. absurd (other refl))
     (record { stays = λ w. not (goes_with_remote c.args.self.now.bearers remote w.purpose); queues = c.end_bearers_of_remote.ensures.queues; pending = refl })

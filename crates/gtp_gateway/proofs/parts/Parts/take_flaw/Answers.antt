@@ -22,7 +22,8 @@ returns-else-is_answered_by-clause-taken c = λ peer new.
     let f = c.in-Faulty.faulty in
     subst (λ (s : ControlStep). IsFaultEffect c.args.arrival.now (reading_of c.args.flaw.now) old s) (sym (c.undecodable-else-is_answered_by.ensures ∙ ap dropped_for c.number.ensures))
     (subst (λ (g : Flaw). IsFaultEffect c.args.arrival.now (reading_of g) old (dropped_for (fault_number (defect_of f.defect)))) (sym c.in-Faulty.is)
-    (drops_for c.args.arrival.now _ old (fault_number (defect_of f.defect)) (fault_unanswered old.node c.args.arrival.now (fault_of f) old.role (sym c.is_answered_by.ensures ∙ c.if-is_answered_by.false) peer new)))
+    (drops_for c.args.arrival.now _ old (fault_number (defect_of f.defect))
+    (fault_unanswered old.node c.args.arrival.now (fault_of f) old.role (sym c.is_answered_by.ensures ∙ c.if-is_answered_by.false) peer new)))
 
 pub returns-then-is_answered_by-clause-memory : goal.returns-then-is_answered_by-clause-memory
 returns-then-is_answered_by-clause-memory c = on_err c.answer_fault.result (λ peer.

@@ -43,7 +43,9 @@ pub returns-in_err-out-clause-memory : goal.returns-in_err-out-clause-memory
 returns-in_err-out-clause-memory c =
     let g = c.args.self.now in
     let s = state_after_first c.args.heard c.args.verdict c.args.seq (state_of g) in
-    on_err c.from_residual.result (inr (λ q says. again_needs c.args.arrival.now q s c.requires.serving (peer_there g c.args.arrival.now c.args.heard c.args.verdict c.args.seq c.requires.peer) g.held.pairs (settled_held c.args.heard c.args.verdict c.args.seq (node_of g)) c.in_err-out.ensures.memory))
+    on_err c.from_residual.result (inr (λ q says.
+    again_needs c.args.arrival.now q s c.requires.serving (peer_there g c.args.arrival.now c.args.heard c.args.verdict c.args.seq c.requires.peer)
+    g.held.pairs (settled_held c.args.heard c.args.verdict c.args.seq (node_of g)) c.in_err-out.ensures.memory))
 
 pub returns-in-Some-clause-taken : goal.returns-in-Some-clause-taken
 returns-in-Some-clause-taken c = λ q says.
@@ -51,7 +53,8 @@ returns-in-Some-clause-taken c = λ q says.
     let n = node_of g in
     let s = state_after_first c.args.heard c.args.verdict c.args.seq (state_of g) in
     let again = subst (λ (o : Option Sent). IfSome o (λ sent. IsSentAgain c.args.arrival.now n sent)) c.in-Some.is c.in_ok-out.ensures.some in
-    repeated_taken (Control_message (Create_bearer_request q)) c.args.arrival.now s (state_of c.apply_verdict.new.self) c.in-Some.out c.sent.result (peer_there g c.args.arrival.now c.args.heard c.args.verdict c.args.seq c.requires.peer)
+    repeated_taken (Control_message (Create_bearer_request q)) c.args.arrival.now s (state_of c.apply_verdict.new.self) c.in-Some.out c.sent.result
+    (peer_there g c.args.arrival.now c.args.heard c.args.verdict c.args.seq c.requires.peer)
     (again_there c.args.arrival.now n s.node c.in-Some.out (settled_held c.args.heard c.args.verdict c.args.seq n) (settled_config c.args.heard c.args.verdict c.args.seq n) again)
     c.sent.ensures c.in_ok-_settled.ensures.node c.apply_verdict.ensures.only.role
 
@@ -61,9 +64,14 @@ returns-then-is_full-clause-taken c = λ q says.
     let n = node_of g in
     let s = state_after_first c.args.heard c.args.verdict c.args.seq (state_of g) in
     let none = subst (λ (o : Option Sent). IfNone o (IsHeld c.args.arrival.now.source c.args.arrival.now.octets g.held.pairs → ⊥)) c.in_default.is c.in_ok-out.ensures.none in
-    drop_is_taken c.args.arrival.now q s c.requires.serving (peer_there g c.args.arrival.now c.args.heard c.args.verdict c.args.seq c.requires.peer) (new_there g c.args.arrival.now c.args.heard c.args.verdict c.args.seq none)
+    drop_is_taken c.args.arrival.now q s c.requires.serving (peer_there g c.args.arrival.now c.args.heard c.args.verdict c.args.seq c.requires.peer)
+    (new_there g c.args.arrival.now c.args.heard c.args.verdict c.args.seq none)
     c.dropped.result (state_of c.apply_verdict-then-is_full.new.self) (Dropped HeldFull) c.dropped.ensures c.in_ok-_settled-2.ensures.node c.apply_verdict-then-is_full.ensures.only.role
-    (inl (λ room. held_many g.held.pairs (yes c.is_full.ensures.full c.if-is_full.true) (subst (λ (h : List Held). length h < 4096) (settled_held c.args.heard c.args.verdict c.args.seq n) room.few), refl))
+    (inl (
+      λ room. held_many g.held.pairs (yes c.is_full.ensures.full c.if-is_full.true)
+          (subst (λ (h : List Held). length h < 4096) (settled_held c.args.heard c.args.verdict c.args.seq n) room.few),
+      refl,
+    ))
 
 pub returns-in_default-judge_second-clause-taken : goal.returns-in_default-judge_second-clause-taken
 returns-in_default-judge_second-clause-taken c = λ q says.
@@ -71,9 +79,12 @@ returns-in_default-judge_second-clause-taken c = λ q says.
     let s = state_after_first c.args.heard c.args.verdict c.args.seq (state_of g) in
     let arrival = c.args.arrival.now in
     let none = subst (λ (o : Option Sent). IfNone o (IsHeld arrival.source arrival.octets g.held.pairs → ⊥)) c.in_default.is c.in_ok-out.ensures.none in
-    let judged = subst (λ (o : Option CreateBearerVerdict). BearerJudged arrival q s.node (create_bearer_effect arrival c.args.request.now q o s.node)) c.in_default-judge_second.is ((c.judge_second.ensures.judged c.args.seq).judged arrival q says) in
+    let judged =
+    subst (λ (o : Option CreateBearerVerdict). BearerJudged arrival q s.node (create_bearer_effect arrival c.args.request.now q o s.node))
+    c.in_default-judge_second.is ((c.judge_second.ensures.judged c.args.seq).judged arrival q says) in
     drop_is_taken arrival q s c.requires.serving (peer_there g arrival c.args.heard c.args.verdict c.args.seq c.requires.peer) (new_there g arrival c.args.heard c.args.verdict c.args.seq none)
-    c.dropped-in_default-judge_second.result (state_of c.apply_verdict-in_default-judge_second.new.self) (Dropped ContextNotActive) c.dropped-in_default-judge_second.ensures c.in_ok-_settled-3.ensures.node c.apply_verdict-in_default-judge_second.ensures.only.role
+    c.dropped-in_default-judge_second.result (state_of c.apply_verdict-in_default-judge_second.new.self) (Dropped ContextNotActive)
+    c.dropped-in_default-judge_second.ensures c.in_ok-_settled-3.ensures.node c.apply_verdict-in_default-judge_second.ensures.only.role
     (inr (record { few = few_there g arrival c.args.heard c.args.verdict c.args.seq (held_few g.held.pairs (no c.is_full.ensures.full c.if-is_full.false)) }, judged))
 
 pub answer_second-requires-clause-fresh : goal.answer_second-requires-clause-fresh
@@ -88,6 +99,8 @@ returns-clause-memory c =
     let s = state_after_first c.args.heard c.args.verdict c.args.seq (state_of g) in
     let arrival = c.args.arrival.now in
     on_err c.answer_second.result (inr (λ q says.
-    let judged = subst (λ (o : Option CreateBearerVerdict). BearerJudged arrival q s.node (create_bearer_effect arrival c.args.request.now q o s.node)) c.in-Some-judge_second.is ((c.judge_second.ensures.judged c.args.seq).judged arrival q says) in
+    let judged =
+    subst (λ (o : Option CreateBearerVerdict). BearerJudged arrival q s.node (create_bearer_effect arrival c.args.request.now q o s.node))
+    c.in-Some-judge_second.is ((c.judge_second.ensures.judged c.args.seq).judged arrival q says) in
     answer_needs arrival q s c.requires.serving (peer_there g arrival c.args.heard c.args.verdict c.args.seq c.requires.peer) _ _ _ _
     (record { few = few_there g arrival c.args.heard c.args.verdict c.args.seq (held_few g.held.pairs (no c.is_full.ensures.full c.if-is_full.false)) }) judged))

@@ -21,14 +21,18 @@ returns-clause-ticked c =
     let config = old.config.config in
     let mid = c.give_up_each.new.self in
     let told : List ℕ = c.give_up_each.new.gave_up.items in
-    let each = subst (λ (l : List (ℕ × Purpose)). GivesUpEach (node_of old) (map (λ (g : ℕ × Purpose). g.0) l) told (node_of mid)) (c.as_slice-give_ups.ensures.value ∙ c.in-Ok.ensures.gave_up) c.give_up_each.ensures.each in
+    let each =
+    subst (λ (l : List (ℕ × Purpose)). GivesUpEach (node_of old) (map (λ (g : ℕ × Purpose). g.0) l) told (node_of mid))
+    (c.as_slice-give_ups.ensures.value ∙ c.in-Ok.ensures.gave_up) c.give_up_each.ensures.each in
     record {
       out = given_by (state_of old) told;
       ticks = ticks (state_of old) (state_of mid) told refl refl c.in-Ok.ensures.always.distinct c.in-Ok-due.ensures.always.apart c.give_up_each.ensures.waits each _
           (λ i. record (node_of mid) { pending = pending_in (c.tick.ensures.waiting i); held = map held_of (c.tick-2.ensures.pairs i) });
       tells = record {
         sent = record {
-          octets = c.in_ok-resent.ensures.sent ∙ (ap (map (datagram_again config)) c.in-Ok.ensures.resend ∙ (resent config old.pending.t3 old.pending.n3 old.pending.waiting old.asked ∙ ap (map (datagram_of config)) (sym (append-nil _))));
+          octets =
+              c.in_ok-resent.ensures.sent ∙ (ap (map (datagram_again config)) c.in-Ok.ensures.resend
+              ∙ (resent config old.pending.t3 old.pending.n3 old.pending.waiting old.asked ∙ ap (map (datagram_of config)) (sym (append-nil _))));
           read = subst (All SendingReads) (sym (append-nil _)) (resent_back config old.pending.t3 old.pending.n3 old.pending.waiting old.asked);
         };
         gave_up = sym (append-nil told);

@@ -10,7 +10,8 @@ use Rattle.gtp_gateway.proofs.receive.create_bearer_request.create_bearer_reques
 pub needed-requires-2 : goal.needed-requires-2
 needed-requires-2 c =
     let of = type_kind c.args.view.now.message.kind types.CreateBearerRequest c.requires in
-    first_has (λ es. is_some (optional_at 87 1 es) ≡ true) c.contexts-contexts.result c.in-Some.first c.next.new.self (c.contexts-contexts.ensures.needed 87 1 (ap (λ k. context_always_has k 87 1) of)) c.in-Some.ensures.steps
+    first_has (λ es. is_some (optional_at 87 1 es) ≡ true) c.contexts-contexts.result c.in-Some.first c.next.new.self
+    (c.contexts-contexts.ensures.needed 87 1 (ap (λ k. context_always_has k 87 1) of)) c.in-Some.ensures.steps
 
 pub returns : goal.returns
 returns c =

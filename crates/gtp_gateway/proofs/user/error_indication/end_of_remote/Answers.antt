@@ -29,7 +29,9 @@ loop-next-preserved c =
     let now = c.loop-next.bearers in
     let has : HasRemote now remote teid = subst (λ (o : Option Teid). IfSome o (λ t. HasRemote now remote t)) c.in-Some.is c.loop-next.invariant.has in
     let left : now ≡ bearers_left m remote (Some teid) = subst (λ (o : Option Teid). now ≡ bearers_left m remote o) c.in-Some.is c.loop-next.invariant.bearers in
-    let sessions : c.loop-next.sessions ≡ record old { table = sessions_left m old.table remote (Some teid) } = subst (λ (o : Option Teid). c.loop-next.sessions ≡ record old { table = sessions_left m old.table remote o }) c.in-Some.is c.loop-next.invariant.sessions in
+    let sessions : c.loop-next.sessions ≡ record old { table = sessions_left m old.table remote (Some teid) } =
+    subst (λ (o : Option Teid). c.loop-next.sessions ≡ record old { table = sessions_left m old.table remote o }) c.in-Some.is
+    c.loop-next.invariant.sessions in
     let next = c.next_of_remote-next.result in
     let after = c.next_of_remote-next.ensures.after in
     let lowest = subst (λ (x : FiniteMap Bearer). IfSome next (λ n. (t : ℕ) → teid < t → HasRemote x remote t → n ≤ t)) c.end_bearer.ensures.bearers c.next_of_remote-next.ensures.next in

@@ -21,10 +21,14 @@ loop-rest-preserved c =
     let same = c.slot_in_walk-slot.ensures.value in
     elim c.if-lefts-slot-eq0.branch as (λ _. Indexes c.args.base c.args.octets.now c.if-lefts-slot-eq0.lefts c.in-Some.after.now (c.loop-rest.at + (4 + length e.body))) [
       | then-lefts-slot-eq0 w ↦
-          rw (w.lefts-is, same) (index_noted c.args.base c.args.octets.now c.loop-rest.lefts c.loop-rest.rest.now c.loop-rest.at e c.in-Some.after.now found (subst (λ s. s < 22) same c.slot_in_walk-slot.ensures.range) (sym (ap (λ s. get_or c.loop-rest.lefts s 0) same) ∙ w.if-lefts-slot-eq0.true) c.loop-rest.invariant)
+          rw (w.lefts-is, same)
+          (index_noted c.args.base c.args.octets.now c.loop-rest.lefts c.loop-rest.rest.now c.loop-rest.at e c.in-Some.after.now found
+          (subst (λ s. s < 22) same c.slot_in_walk-slot.ensures.range) (sym (ap (λ s. get_or c.loop-rest.lefts s 0) same) ∙ w.if-lefts-slot-eq0.true)
+          c.loop-rest.invariant)
       | else-lefts-slot-eq0 w ↦
           let some : 0 < get_or c.loop-rest.lefts c.slot_in_walk-slot.result 0 = omega (arith, w.if-lefts-slot-eq0.false) in
-          rw w.lefts-is (index_known c.args.base c.args.octets.now c.loop-rest.lefts c.loop-rest.rest.now c.loop-rest.at e c.in-Some.after.now found (subst (λ s. 0 < get_or c.loop-rest.lefts s 0) same some) c.loop-rest.invariant)
+          rw w.lefts-is (index_known c.args.base c.args.octets.now c.loop-rest.lefts c.loop-rest.rest.now c.loop-rest.at e c.in-Some.after.now found
+          (subst (λ s. 0 < get_or c.loop-rest.lefts s 0) same some) c.loop-rest.invariant)
     ]
 
 pub returns-clause-stop : goal.returns-clause-stop

@@ -8,7 +8,8 @@ use Rattle.gtp_reliable.proofs.held.Held.keep.Goals as goal
 
 pub keep-requires-clause-free : goal.keep-requires-clause-free
 keep-requires-clause-free c = λ k lt same.
-    c.requires.free (subst (λ (a : Answers). IsHeld c.args.source c.args.request.items a.pairs) c.self.view_is (held_at c.self.inside.ticks c.args.source c.args.request.items c.self.inside.pairs.items k lt same))
+    c.requires.free (subst (λ (a : Answers). IsHeld c.args.source c.args.request.items a.pairs) c.self.view_is
+    (held_at c.self.inside.ticks c.args.source c.args.request.items c.self.inside.pairs.items k lt same))
 
 pub invariant_of-self : goal.invariant_of-self
 invariant_of-self c =

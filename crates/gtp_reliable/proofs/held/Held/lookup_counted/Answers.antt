@@ -15,7 +15,8 @@ returns-in-Ok-default-clause-found c =
     let indexed : IsIndex c.self.inside.first c.as_slice-index.result.now (questions ps) = search rules in
     let lt : c.place_of.result < length ps = omega (arith, c.place_of.ensures, same_count ps, indexed.names c.in-Ok-default.at 0 named.0) in
     subst (λ (v : Answers). HasAnswer s r c.as_slice.result.now v.pairs) c.self.view_is
-    (answer_at c.self.inside.ticks s r ps c.place_of.result c.index-pair.result.now c.as_slice.result.now lt c.index-pair.ensures (ap (question_at (questions ps)) c.place_of.ensures ∙ named.1) c.as_slice.ensures.value)
+    (answer_at c.self.inside.ticks s r ps c.place_of.result c.index-pair.result.now c.as_slice.result.now lt c.index-pair.ensures
+    (ap (question_at (questions ps)) c.place_of.ensures ∙ named.1) c.as_slice.ensures.value)
 
 pub returns-in-Ok-default-clause-only : goal.returns-in-Ok-default-clause-only
 returns-in-Ok-default-clause-only c = λ a h.
@@ -26,7 +27,8 @@ returns-in-Ok-default-clause-only c = λ a h.
     let indexed : IsIndex c.self.inside.first c.as_slice-index.result.now (questions ps) = search rules in
     let lt : c.place_of.result < length ps = omega (arith, c.place_of.ensures, same_count ps, indexed.names c.in-Ok-default.at 0 named.0) in
     one_answer s r c.as_slice.result.now a (map (seen c.self.inside.ticks) ps) c.self.invariant.0.apart
-    (answer_at c.self.inside.ticks s r ps c.place_of.result c.index-pair.result.now c.as_slice.result.now lt c.index-pair.ensures (ap (question_at (questions ps)) c.place_of.ensures ∙ named.1) c.as_slice.ensures.value)
+    (answer_at c.self.inside.ticks s r ps c.place_of.result c.index-pair.result.now c.as_slice.result.now lt c.index-pair.ensures
+    (ap (question_at (questions ps)) c.place_of.ensures ∙ named.1) c.as_slice.ensures.value)
     (subst (λ (v : Answers). HasAnswer s r a v.pairs) (sym c.self.view_is) h)
 
 pub returns-in-Err-default-clause-only : goal.returns-in-Err-default-clause-only

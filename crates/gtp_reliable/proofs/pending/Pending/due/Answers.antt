@@ -17,7 +17,9 @@ returns-in_err-due-clause-quiet g c = λ q.
     let t3 = c.self.inside.t3 in
     let ws = map (seen c.self.inside.ticks) c.self.inside.rows.rows in
     let all : All (λ w. w.waited + 1 < t3) (waiting_of c.self.inside.ticks c.self.inside.rows.rows) = subst (λ (r : Requests _). IsQuiet r) (sym c.self.view_is) q in
-    let calm : AllByRecursion (λ w. w.waited + 1 < t3) ws = from_age (λ (w : Waiting _). w.waited + 1 < t3) ws (each (λ (w : Waiting _). w.waited + 1 < t3) (waiting_of c.self.inside.ticks c.self.inside.rows.rows) all) in
+    let calm : AllByRecursion (λ w. w.waited + 1 < t3) ws =
+    from_age (λ (w : Waiting _). w.waited + 1 < t3) ws
+    (each (λ (w : Waiting _). w.waited + 1 < t3) (waiting_of c.self.inside.ticks c.self.inside.rows.rows) all) in
     let bad = c.in_err-due.ensures.quiet calm in
     absurd cc
 

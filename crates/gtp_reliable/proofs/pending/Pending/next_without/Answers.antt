@@ -35,7 +35,8 @@ pub returns-clause-some : goal.returns-clause-some
 returns-clause-some g c =
     let small = subst (λ (v : Requests _). v.next < numbers) c.self.view_is c.self.invariant.0.next in
     let free = sym c.is_other.ensures ∙ c.loop-number-test.false in
-    subst (λ n. IsNextFree c.args.self.now.next (others g.meets c.args.self.now.waiting) n) (sym c.new.ensures) (reached_free c.args.self.now.next (others g.meets c.args.self.now.waiting) c.loop-number.number small c.loop-number.invariant free)
+    subst (λ n. IsNextFree c.args.self.now.next (others g.meets c.args.self.now.waiting) n) (sym c.new.ensures)
+    (reached_free c.args.self.now.next (others g.meets c.args.self.now.waiting) c.loop-number.number small c.loop-number.invariant free)
 
 pub returns-then-count_others-ge-MOST-clause-none : goal.returns-then-count_others-ge-MOST-clause-none
 returns-then-count_others-ge-MOST-clause-none g c =

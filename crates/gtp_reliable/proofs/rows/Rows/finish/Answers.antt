@@ -8,7 +8,8 @@ pub index_mut-requires : goal.index_mut-requires
 index_mut-requires g c =
     let slots = c.self.inside.slots.items in
     let found : lookup (nat_eq c.args.number) c.self.inside.names.entries ≡ Some c.in-Some.slot = search rules in
-    let at : IsAt c.args.number c.self.inside.first c.in-Some.slot slots = slot_at c.args.number c.self.inside.first c.in-Some.slot slots (omega arith) (omega arith) (sym (c.self.invariant.names c.args.number) ∙ found) in
+    let at : IsAt c.args.number c.self.inside.first c.in-Some.slot slots =
+    slot_at c.args.number c.self.inside.first c.in-Some.slot slots (omega arith) (omega arith) (sym (c.self.invariant.names c.args.number) ∙ found) in
     omega (arith, c.place_of-at.ensures, at.within)
 
 pub invariant_of-self : goal.invariant_of-self
@@ -20,7 +21,8 @@ invariant_of-self g c =
     let at : IsAt c.args.number first c.in-Some.slot slots = slot_at c.args.number first c.in-Some.slot slots (omega arith) (omega arith) (sym (c.self.invariant.names c.args.number) ∙ found) in
     let is : get_or slots i None ≡ Some at.request = ap (λ (k : ℕ). get_or slots k None) c.place_of-at.ensures ∙ at.is in
     let rows : rows_of c.drop_gaps.new.slots.items ≡ rows_of (set slots i None) = search rules in
-    let taken : (n : ℕ) → lookup (nat_eq n) c.take_out.new.names.entries ≡ cond (nat_eq at.request.seq n) None (lookup (nat_eq n) c.self.inside.names.entries) = λ n. c.take_out.ensures.names n ∙ ap (λ (k : ℕ). cond (nat_eq k n) None (lookup (nat_eq n) c.self.inside.names.entries)) (sym at.number) in
+    let taken : (n : ℕ) → lookup (nat_eq n) c.take_out.new.names.entries ≡ cond (nat_eq at.request.seq n) None (lookup (nat_eq n) c.self.inside.names.entries) =
+    λ n. c.take_out.ensures.names n ∙ ap (λ (k : ℕ). cond (nat_eq k n) None (lookup (nat_eq n) c.self.inside.names.entries)) (sym at.number) in
     let places : (n : ℕ) → slot_of n c.drop_gaps.new.first c.drop_gaps.new.slots.items ≡ slot_of n first (set slots i None) = c.drop_gaps.ensures.names in
     record {
       names = λ n. cut_names c.self.inside.names.entries c.take_out.new.names.entries first slots i at.request c.self.invariant.names c.self.invariant.apart is taken n ∙ sym (places n);

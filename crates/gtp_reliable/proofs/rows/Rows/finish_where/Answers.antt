@@ -10,5 +10,8 @@ invariant_of-self g c = record {
   apart = subst AreApart (sym (c.drop_gaps.ensures.rows ∙ c.cut_where.ensures.rows)) (apart_filter (λ r. not (g.meets r.purpose)) (rows_of c.self.inside.slots.items) c.self.invariant.apart);
   front = c.drop_gaps.ensures.front;
   count = c.cut_where.ensures.count ∙ ap length (sym c.drop_gaps.ensures.rows);
-  room = λ e. let had = c.self.invariant.room e in let kept = c.cut_where.ensures.room in (omega (arith, had.0, kept.0, kept.1, c.drop_gaps.ensures.len, c.drop_gaps.ensures.capacity), omega (arith, had.1, kept.2));
+  room =
+      λ e. let had = c.self.invariant.room e in
+      let kept = c.cut_where.ensures.room in
+      (omega (arith, had.0, kept.0, kept.1, c.drop_gaps.ensures.len, c.drop_gaps.ensures.capacity), omega (arith, had.1, kept.2));
 }

@@ -38,10 +38,30 @@ invariant_of-self g c =
           ∙ (ap (slot_of n ((first + 1) % 2 ^ 64)) (sym pushed) ∙ sym (c.drop_gaps.ensures.names n))));
       apart = subst AreApart (sym (c.drop_gaps.ensures.rows ∙ ap rows_of pushed)) (back_apart rest r b apart refl);
       front = c.drop_gaps.ensures.front;
-      count = omega (arith, c.move_to.ensures.count, c.self.invariant.count, ap (λ l. length (rows_of l)) front, ap length c.drop_gaps.ensures.rows, ap (λ l. length (rows_of l)) pushed, back_count rest b);
+      count =
+          omega (
+            arith,
+            c.move_to.ensures.count,
+            c.self.invariant.count,
+            ap (λ l. length (rows_of l)) front,
+            ap length c.drop_gaps.ensures.rows,
+            ap (λ l. length (rows_of l)) pushed,
+            back_count rest b,
+          );
       room = λ e.
-          let had = c.self.invariant.room e in
-          (omega (arith, had.0, ap length front, c.push_back_reserved.ensures.len, c.push_back_reserved.ensures.capacity, c.pop_front.ensures.capacity, c.drop_gaps.ensures.len, c.drop_gaps.ensures.capacity), omega (arith, had.1, c.move_to.ensures.room));
+          let had = c.self.invariant.room e in (
+            omega (
+              arith,
+              had.0,
+              ap length front,
+              c.push_back_reserved.ensures.len,
+              c.push_back_reserved.ensures.capacity,
+              c.pop_front.ensures.capacity,
+              c.drop_gaps.ensures.len,
+              c.drop_gaps.ensures.capacity,
+            ),
+            omega (arith, had.1, c.move_to.ensures.room),
+          );
     }
 
 pub returns-clause-rows : goal.returns-clause-rows

@@ -17,14 +17,18 @@ pub index-requires : goal.index-requires
 index-requires g c =
     let slots = c.self.inside.slots.items in
     let found : lookup (nat_eq c.args.number) c.self.inside.names.entries ≡ Some c.in_ok-slot.slot.now = search rules in
-    let at : IsAt c.args.number c.self.inside.first c.in_ok-slot.slot.now slots = slot_at c.args.number c.self.inside.first c.in_ok-slot.slot.now slots (omega arith) (omega arith) (sym (c.self.invariant.names c.args.number) ∙ found) in
+    let at : IsAt c.args.number c.self.inside.first c.in_ok-slot.slot.now slots =
+    slot_at c.args.number c.self.inside.first c.in_ok-slot.slot.now slots (omega arith) (omega arith)
+    (sym (c.self.invariant.names c.args.number) ∙ found) in
     omega (arith, c.place_of.ensures, at.within)
 
 pub returns : goal.returns
 returns g c =
     let slots = c.self.inside.slots.items in
     let found : lookup (nat_eq c.args.number) c.self.inside.names.entries ≡ Some c.in_ok-slot.slot.now = search rules in
-    let at : IsAt c.args.number c.self.inside.first c.in_ok-slot.slot.now slots = slot_at c.args.number c.self.inside.first c.in_ok-slot.slot.now slots (omega arith) (omega arith) (sym (c.self.invariant.names c.args.number) ∙ found) in
+    let at : IsAt c.args.number c.self.inside.first c.in_ok-slot.slot.now slots =
+    slot_at c.args.number c.self.inside.first c.in_ok-slot.slot.now slots (omega arith) (omega arith)
+    (sym (c.self.invariant.names c.args.number) ∙ found) in
     let is : option_map (λ r. r.now) c.as_ref.result ≡ c.index.result.now = search rules in
     is ∙ (c.index.ensures ∙ (ap (λ i. get_or slots i c.index.result.now) c.place_of.ensures ∙ (get_or_default slots _ c.index.result.now None at.within ∙ (at.is ∙ (sym at.row
     ∙ ap (λ (q : Queued _). row_of c.args.number q.rows) c.self.view_is)))))

@@ -13,7 +13,9 @@ pub loop-turn-preserved : goal.loop-turn-preserved
 loop-turn-preserved g c =
     let due : front_is_due c.args.t3 c.args.now c.loop-turn.self.rows ≡ true = search rules in
     record {
-      rows = ticked_more c.args.t3 c.args.n3 c.args.now c.len-turn-end.result c.loop-turn._turn c.loop-turn.self.rows c.tick_front.new.self.rows _ c.loop-turn-test.true c.loop-turn.invariant.rows due c.tick_front.ensures.rows;
+      rows =
+          ticked_more c.args.t3 c.args.n3 c.args.now c.len-turn-end.result c.loop-turn._turn c.loop-turn.self.rows c.tick_front.new.self.rows _
+          c.loop-turn-test.true c.loop-turn.invariant.rows due c.tick_front.ensures.rows;
       room = c.tick_front.ensures.room ∙ c.loop-turn.invariant.room;
     }
 

@@ -10,6 +10,8 @@ abbrev pub invariant-loop-place : goal.invariant-loop-place
 invariant-loop-place l =
     let left = l.place-iterator in
     record {
-      lines : l.out.items ++ lines_from left.count (enumerate_from l.next (map sent_by l.rest)) (map event_of left.iter.a.rest.now) (map told_by left.iter.b.rest.now) ≡ l.fn.out.items ++ events_text (map event_of l.events) (map sent_by l.datagrams) (map told_by l.notes);
+      lines : l.out.items
+          ++ lines_from left.count (enumerate_from l.next (map sent_by l.rest)) (map event_of left.iter.a.rest.now) (map told_by left.iter.b.rest.now)
+          ≡ l.fn.out.items ++ events_text (map event_of l.events) (map sent_by l.datagrams) (map told_by l.notes);
       count : l.next + length l.rest ≡ length l.datagrams;
     }

@@ -15,4 +15,5 @@ loop-entry-preserved c new rest =
     let next : suc l.entry-index ≡ l.entry-index + 1 = omega arith in
     let cons : drop l.entry-index entries ≡ e ∷ drop (l.entry-index + 1) entries =
     drop-cons entries l.entry-index e c.loop-entry-test.true ∙ ((λ i. sym c.entry-item.is i ∷ drop (next i) entries)) in
-    l.invariant new (subst (λ es. Happen (past l.self) (flat_map events_in (map entry es)) new) (sym cons) (happen_on (past l.self) (events_in (entry e)) (past c.repeat.new.self) _ new c.in_ok-repeat.ensures rest))
+    l.invariant new (subst (λ es. Happen (past l.self) (flat_map events_in (map entry es)) new) (sym cons)
+    (happen_on (past l.self) (events_in (entry e)) (past c.repeat.new.self) _ new c.in_ok-repeat.ensures rest))

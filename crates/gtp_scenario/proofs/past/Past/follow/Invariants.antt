@@ -7,4 +7,6 @@ use Rattle.gtp_scenario.proofs.past.Past.follow.Given as goal
 
 -- where those that are left happen, all have happened
 abbrev pub invariant-loop-entry : goal.invariant-loop-entry
-invariant-loop-entry l = (new : Past) → Happen (past l.self) (flat_map events_in (map entry (drop l.entry-index l.entries))) new → Happen (past l.fn.self) (flat_map events_in (map entry l.entries)) new
+invariant-loop-entry l =
+    (new : Past) → Happen (past l.self) (flat_map events_in (map entry (drop l.entry-index l.entries))) new
+    → Happen (past l.fn.self) (flat_map events_in (map entry l.entries)) new

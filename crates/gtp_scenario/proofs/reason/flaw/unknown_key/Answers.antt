@@ -14,5 +14,7 @@ returns-in-Some c =
 
 pub returns-in-None : goal.returns-in-None
 returns-in-None c is =
-    let none : false ≡ is_some (as_object (view c.args.value.now)) = ap is_some (sym c.in-None.is) ∙ object_found c.value.inside.element c.members.result c.value.invariant c.members.ensures ∙ ap (λ ts. is_some (as_object (view ts))) c.value.view_is in
+    let none : false ≡ is_some (as_object (view c.args.value.now)) =
+    ap is_some (sym c.in-None.is) ∙ object_found c.value.inside.element c.members.result c.value.invariant c.members.ensures
+    ∙ ap (λ ts. is_some (as_object (view ts))) c.value.view_is in
     absurd cc

@@ -18,6 +18,9 @@ loop-value-preserved c =
     let left = items_view c.next.new.self in
     let fits : is_template names (view c.in-Some.value) ≡ true = at_none c.in_ok-flaw.field-0 _ _ c.in_ok-flaw.ensures c.in_default-2.is in
     record {
-      at = λ k. ap (λ n. get_item (n + k) (items_view c.args.values)) c.in-Some-checked_add.ensures.1 ∙ next_place c.loop-value.place (items_view c.args.values) (items_view c.loop-value.values) left (view c.in-Some.value) c.loop-value.invariant.at c.in-Some.ensures.value k;
+      at =
+          λ k. ap (λ n. get_item (n + k) (items_view c.args.values)) c.in-Some-checked_add.ensures.1
+          ∙ next_place c.loop-value.place (items_view c.args.values) (items_view c.loop-value.values) left (view c.in-Some.value)
+          c.loop-value.invariant.at c.in-Some.ensures.value k;
       rest = sym (ap (λ b. b && are_templates names left) fits) ∙ sym (ap (are_templates names) c.in-Some.ensures.value) ∙ c.loop-value.invariant.rest;
     }

@@ -27,7 +27,10 @@ loop-next-preserved c =
     let is : default_of c.args.session (get m teid) ≡ false = ap (default_of c.args.session) (sym c.get.ensures) ∙ (sym c.is_default_of.ensures ∙ c.if-is_default_of.false) in
     record {
       has = c.next_of_remote-next.ensures.found;
-      ahead = λ d. ahead_next m c.args.remote c.args.session d teid c.next_of_remote-next.result (subst (λ (o : Option Teid). IsAhead o d.teid) c.in-Some.is (c.loop-next.invariant.ahead d)) is c.next_of_remote-next.ensures.next c.next_of_remote-next.ensures.none;
+      ahead =
+          λ d. ahead_next m c.args.remote c.args.session d teid c.next_of_remote-next.result
+          (subst (λ (o : Option Teid). IsAhead o d.teid) c.in-Some.is (c.loop-next.invariant.ahead d)) is c.next_of_remote-next.ensures.next
+          c.next_of_remote-next.ensures.none;
     }
 
 pub returns : goal.returns

@@ -29,7 +29,9 @@ invariant_of-self-2 c =
           ∙ (ap (names r) (sym (get_inserted table c.args.teid c.args.bearer o))
           ∙ ap (λ (m : FiniteMap Bearer). names r (get m o)) opened)));
       sessions = λ s o. c.self.invariant.sessions s o
-          ∙ (rejoined c.args.teid s o c.args.bearer (get table o) (λ e. ap (λ (k : ℕ). is_of s (get table k)) (sym (same_number c.args.teid o e)) ∙ (ap (is_of s) of.stands ∙ ap (λ (n : ℕ). nat_eq n s) of.of))
+          ∙ (rejoined c.args.teid s o c.args.bearer (get table o)
+          (λ e. ap (λ (k : ℕ). is_of s (get table k)) (sym (same_number c.args.teid o e)) ∙
+          (ap (is_of s) of.stands ∙ ap (λ (n : ℕ). nat_eq n s) of.of))
           ∙ (ap (is_of s) (sym (get_inserted table c.args.teid c.args.bearer o))
           ∙ ap (λ (m : FiniteMap Bearer). is_of s (get m o)) opened));
     }

@@ -15,7 +15,8 @@ use Rattle.gtp_tables.proofs.bearers.Bearers.remove.Goals as goal
 pub invariant_of-self : goal.invariant_of-self
 invariant_of-self c =
     let table : FiniteMap Bearer = c.self.inside.table.table in
-    let removed : (o : ℕ) → get c.remove.new.self.table o ≡ cond (nat_eq c.args.teid o) None (get table o) = λ o. ap (λ (t : Rows Bearer). get t.table o) c.remove.ensures ∙ get_removed table c.args.teid o in
+    let removed : (o : ℕ) → get c.remove.new.self.table o ≡ cond (nat_eq c.args.teid o) None (get table o) =
+    λ o. ap (λ (t : Rows Bearer). get t.table o) c.remove.ensures ∙ get_removed table c.args.teid o in
     let indexed : (r o : ℕ) → contains pair_cmp c.unname_if.new.index (r, o) ≡ names r (get c.remove.new.self.table o) = λ r o. c.unname_if.ensures r o
     ∙ (ap (cond (is_number r c.remote_of-remote.result && nat_eq c.args.teid o) false) (c.self.invariant.indexed r o)
     ∙ (ap (λ (x : Option ℕ). cond (is_number r x && nat_eq c.args.teid o) false (names r (get table o))) c.remote_of-remote.ensures

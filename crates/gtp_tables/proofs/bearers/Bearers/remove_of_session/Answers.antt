@@ -11,7 +11,9 @@ use Rattle.gtp_tables.proofs.bearers.Bearers.remove_of_session.Goals as goal
 
 pub loop-next-init : goal.loop-next-init
 loop-next-init c = record {
-  so_far = from_first c.args.session (without c.args.session) (without_same c.args.session) c.args.self.now c.first_of_session-next.result c.first_of_session-next.ensures.lowest c.first_of_session-next.ensures.none;
+  so_far =
+      from_first c.args.session (without c.args.session) (without_same c.args.session) c.args.self.now c.first_of_session-next.result
+      c.first_of_session-next.ensures.lowest c.first_of_session-next.ensures.none;
   has = c.first_of_session-next.ensures.found;
 }
 
@@ -23,11 +25,17 @@ loop-next-preserved c =
     let teid = c.in-Some.teid in
     let of : is_of session (get now teid) ≡ true = subst (λ (o : Option Teid). IfSome o (λ t. is_of session (get now t) ≡ true)) c.in-Some.is c.loop-next.invariant.has in
     let so_far : IsSoFar (without session) c.args.self.now now (Some teid) = subst (λ (o : Option Teid). IsSoFar (without session) c.args.self.now now o) c.in-Some.is c.loop-next.invariant.so_far in
-    let put : (o : ℕ) → get new o ≡ cond (nat_eq teid o) (without session (get now teid)) (get now o) = λ o. ap (λ (m : FiniteMap Bearer). get m o) c.remove.ensures ∙ (get_removed now teid o ∙ ap (λ (x : Option Bearer). cond (nat_eq teid o) x (get now o)) (sym (without_of session (get now teid) of))) in
+    let put : (o : ℕ) → get new o ≡ cond (nat_eq teid o) (without session (get now teid)) (get now o) =
+    λ o. ap (λ (m : FiniteMap Bearer). get m o) c.remove.ensures
+    ∙ (get_removed now teid o ∙ ap (λ (x : Option Bearer). cond (nat_eq teid o) x (get now o)) (sym (without_of session (get now teid) of))) in
     record {
-      so_far = step session (without session) (without_same session) c.args.self.now now new teid so_far put c.next_of_session-next.result c.next_of_session-next.ensures.after c.next_of_session-next.ensures.next c.next_of_session-next.ensures.none;
+      so_far =
+          step session (without session) (without_same session) c.args.self.now now new teid so_far put c.next_of_session-next.result
+          c.next_of_session-next.ensures.after c.next_of_session-next.ensures.next c.next_of_session-next.ensures.none;
       has = c.next_of_session-next.ensures.found;
     }
 
 pub returns : goal.returns
-returns c = all_gone c.args.session c.args.self.now c.loop-next.self (subst (λ (o : Option Teid). IsSoFar (without c.args.session) c.args.self.now c.loop-next.self o) c.in_default.is c.loop-next.invariant.so_far)
+returns c =
+    all_gone c.args.session c.args.self.now c.loop-next.self
+    (subst (λ (o : Option Teid). IsSoFar (without c.args.session) c.args.self.now c.loop-next.self o) c.in_default.is c.loop-next.invariant.so_far)

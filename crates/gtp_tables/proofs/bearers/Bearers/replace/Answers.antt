@@ -27,7 +27,9 @@ invariant_of-self c =
     record {
       indexed = λ r o. c.self.invariant.indexed r o ∙ same r o;
       sessions = λ s o. c.self.invariant.sessions s o
-          ∙ (rejoined c.args.teid s o c.args.bearer (get table o) (λ e. ap (λ (k : ℕ). is_of s (get table k)) (sym (same_number c.args.teid o e)) ∙ (ap (is_of s) old.stands ∙ ap (λ (n : ℕ). nat_eq n s) old.of))
+          ∙ (rejoined c.args.teid s o c.args.bearer (get table o)
+          (λ e. ap (λ (k : ℕ). is_of s (get table k)) (sym (same_number c.args.teid o e)) ∙
+          (ap (is_of s) old.stands ∙ ap (λ (n : ℕ). nat_eq n s) old.of))
           ∙ (ap (is_of s) (sym (get_inserted table c.args.teid c.args.bearer o))
           ∙ ap (λ (t : Rows Bearer). is_of s (get t.table o)) (sym c.replace.ensures)));
     }

@@ -32,9 +32,11 @@ invariant_of-self-else-is_empty c =
 pub returns-then-is_empty-clause-places : goal.returns-then-is_empty-clause-places
 returns-then-is_empty-clause-places c = λ p.
     let now = c.clear_bit.new.words in
-    ap (λ (ws : List ℕ). has_place ws p) (written_back now _ c.self.inside.words.len (search rules)) ∙ (c.clear_bit.ensures.places p ∙ ap (λ (ws : List ℕ). cond (nat_eq p c.args.place) false (has_place ws p)) (c.deref_mut.ensures.value ∙ c.self.view_is))
+    ap (λ (ws : List ℕ). has_place ws p) (written_back now _ c.self.inside.words.len (search rules)) ∙ (c.clear_bit.ensures.places p
+    ∙ ap (λ (ws : List ℕ). cond (nat_eq p c.args.place) false (has_place ws p)) (c.deref_mut.ensures.value ∙ c.self.view_is))
 
 pub returns-else-is_empty-clause-places : goal.returns-else-is_empty-clause-places
 returns-else-is_empty-clause-places c = λ p.
     let now = c.clear_bit.new.words in
-    ap (λ (ws : List ℕ). has_place ws p) (written_back now _ c.self.inside.words.len (search rules)) ∙ (c.clear_bit.ensures.places p ∙ ap (λ (ws : List ℕ). cond (nat_eq p c.args.place) false (has_place ws p)) (c.deref_mut.ensures.value ∙ c.self.view_is))
+    ap (λ (ws : List ℕ). has_place ws p) (written_back now _ c.self.inside.words.len (search rules)) ∙ (c.clear_bit.ensures.places p
+    ∙ ap (λ (ws : List ℕ). cond (nat_eq p c.args.place) false (has_place ws p)) (c.deref_mut.ensures.value ∙ c.self.view_is))

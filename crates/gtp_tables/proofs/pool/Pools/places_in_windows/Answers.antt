@@ -15,7 +15,8 @@ loop-session-preserved c =
     let l = c.loop-session in
     let sessions = c.args.sessions.now in (
       one_more_marked c.args.restarted V4 c.args.self.now sessions l.session-index c.session-item.result l.v4 c.mark.new.marks c.loop-session-test.true c.session-item.is l.invariant.0 c.mark.ensures,
-      one_more_marked c.args.restarted V6 c.args.self.now sessions l.session-index c.session-item.result l.v6 c.mark-in-loop-session.new.marks c.loop-session-test.true c.session-item.is l.invariant.1 c.mark-in-loop-session.ensures,
+      one_more_marked c.args.restarted V6 c.args.self.now sessions l.session-index c.session-item.result l.v6 c.mark-in-loop-session.new.marks
+          c.loop-session-test.true c.session-item.is l.invariant.1 c.mark-in-loop-session.ensures,
     )
 
 pub returns : goal.returns

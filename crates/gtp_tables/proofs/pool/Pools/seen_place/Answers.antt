@@ -15,6 +15,12 @@ returns-in-Some c =
     let seen : is_seen c.args.restarted s ≡ true = search rules in
     record {
       within = seen_within pools version (part_in version c.in-Some.address) c.place_of.result c.place_of.ensures.some;
-      some = seen_at pools c.args.restarted version s seen c.place_of.result (subst (λ (a : Option PdnAddress). IfSome c.place_of.result (IsPlaceOf pools version (part_of version a))) (sym c.in-Some.is) c.place_of.ensures.some);
-      none = seen_nowhere pools c.args.restarted version s c.place_of.result (subst (λ (a : Option PdnAddress). IfNone c.place_of.result ((p : ℕ) → p < count_of pools version → part_of version a ≢ Some (address_at pools version p))) (sym c.in-Some.is) c.place_of.ensures.none);
+      some =
+          seen_at pools c.args.restarted version s seen c.place_of.result
+          (subst (λ (a : Option PdnAddress). IfSome c.place_of.result (IsPlaceOf pools version (part_of version a))) (sym c.in-Some.is)
+          c.place_of.ensures.some);
+      none =
+          seen_nowhere pools c.args.restarted version s c.place_of.result (subst (λ (a : Option PdnAddress).
+          IfNone c.place_of.result ((p : ℕ) → p < count_of pools version → part_of version a ≢ Some (address_at pools version p))) (sym c.in-Some.is)
+          c.place_of.ensures.none);
     }

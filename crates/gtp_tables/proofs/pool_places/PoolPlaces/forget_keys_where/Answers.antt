@@ -10,8 +10,13 @@ use Rattle.gtp_tables.proofs.pool_places.PoolPlaces.forget_keys_where.Goals as g
 pub forget-requires : goal.forget-requires
 forget-requires g c =
     let goes = c.requires.decides.0 in
-    let so_far : IsLeft (λ e. e.1) (λ e. not (goes e.0)) (entries c.args.table.now.table) ((c.in-Some.teid, c.in-Some.session) ∷ c.next.new.self) c.loop-teid.self = subst (λ (es : List (ℕ × Session)). IsLeft (λ e. e.1) (λ e. not (goes e.0)) (entries c.args.table.now.table) es c.loop-teid.self) c.in-Some.ensures.steps (c.loop-teid.invariant goes c.requires.decides.1) in
-    (so_far.front ++ map (λ e. e.1) c.next.new.self, next_counted (λ e. e.1) (λ e. not (goes e.0)) (entries c.args.table.now.table) (c.in-Some.teid, c.in-Some.session) c.next.new.self c.loop-teid.self so_far)
+    let so_far : IsLeft (λ e. e.1) (λ e. not (goes e.0)) (entries c.args.table.now.table) ((c.in-Some.teid, c.in-Some.session) ∷ c.next.new.self) c.loop-teid.self =
+    subst (λ (es : List (ℕ × Session)). IsLeft (λ e. e.1) (λ e. not (goes e.0)) (entries c.args.table.now.table) es c.loop-teid.self)
+    c.in-Some.ensures.steps (c.loop-teid.invariant goes c.requires.decides.1) in (
+      so_far.front ++ map (λ e. e.1) c.next.new.self,
+      next_counted (λ e. e.1) (λ e. not (goes e.0)) (entries c.args.table.now.table) (c.in-Some.teid, c.in-Some.session) c.next.new.self
+          c.loop-teid.self so_far,
+    )
 
 pub loop-teid-preserved-then-meets : goal.loop-teid-preserved-then-meets
 loop-teid-preserved-then-meets g c = λ goes right.

@@ -10,8 +10,13 @@ use Rattle.gtp_tables.proofs.pool_places.PoolPlaces.forget_where.Goals as goal
 pub forget-requires : goal.forget-requires
 forget-requires g c =
     let goes = c.requires.decides.0 in
-    let so_far : IsLeft (λ e. e.1) (λ e. not (goes e.1)) (entries c.args.table.now.table) ((c.in-Some.field-0-0, c.in-Some.session) ∷ c.next.new.self) c.loop-session.self = subst (λ (es : List (ℕ × Session)). IsLeft (λ e. e.1) (λ e. not (goes e.1)) (entries c.args.table.now.table) es c.loop-session.self) c.in-Some.ensures.steps (c.loop-session.invariant goes c.requires.decides.1) in
-    (so_far.front ++ map (λ e. e.1) c.next.new.self, next_counted (λ e. e.1) (λ e. not (goes e.1)) (entries c.args.table.now.table) (c.in-Some.field-0-0, c.in-Some.session) c.next.new.self c.loop-session.self so_far)
+    let so_far : IsLeft (λ e. e.1) (λ e. not (goes e.1)) (entries c.args.table.now.table) ((c.in-Some.field-0-0, c.in-Some.session) ∷ c.next.new.self) c.loop-session.self =
+    subst (λ (es : List (ℕ × Session)). IsLeft (λ e. e.1) (λ e. not (goes e.1)) (entries c.args.table.now.table) es c.loop-session.self)
+    c.in-Some.ensures.steps (c.loop-session.invariant goes c.requires.decides.1) in (
+      so_far.front ++ map (λ e. e.1) c.next.new.self,
+      next_counted (λ e. e.1) (λ e. not (goes e.1)) (entries c.args.table.now.table) (c.in-Some.field-0-0, c.in-Some.session) c.next.new.self
+          c.loop-session.self so_far,
+    )
 
 pub loop-session-preserved-then-meets : goal.loop-session-preserved-then-meets
 loop-session-preserved-then-meets g c = λ goes right.

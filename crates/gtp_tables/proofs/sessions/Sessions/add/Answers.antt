@@ -19,4 +19,5 @@ pub invariant_of-self : goal.invariant_of-self
 invariant_of-self c =
     let m = c.self.inside.table.table in
     let none : remove m c.args.teid ≡ m = none_removed m c.args.teid (subst (λ (r : Rows Session). Each (λ key _. key < c.args.teid) r.table) (sym c.self.view_is) c.requires.rises) in
-    put_in m c.add.new.self.table c.args.teid c.args.session c.note.new.places c.add.ensures.table (c.note.ensures (values (remove m c.args.teid)) (subst (λ (n : FiniteMap Session). AreCountedIn (values n) c.self.inside.places) (sym none) c.self.invariant))
+    put_in m c.add.new.self.table c.args.teid c.args.session c.note.new.places c.add.ensures.table (c.note.ensures (values (remove m c.args.teid))
+    (subst (λ (n : FiniteMap Session). AreCountedIn (values n) c.self.inside.places) (sym none) c.self.invariant))

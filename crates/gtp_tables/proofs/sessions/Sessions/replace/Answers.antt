@@ -15,4 +15,5 @@ note-requires c =
 pub invariant_of-self : goal.invariant_of-self
 invariant_of-self c =
     let m = c.self.inside.table.table in
-    put_in m c.replace.new.self.table c.args.teid c.args.session c.note.new.places (ap (λ (r : Rows Session). r.table) c.replace.ensures) (c.note.ensures (values (remove m c.args.teid)) c.forget.ensures)
+    put_in m c.replace.new.self.table c.args.teid c.args.session c.note.new.places (ap (λ (r : Rows Session). r.table) c.replace.ensures)
+    (c.note.ensures (values (remove m c.args.teid)) c.forget.ensures)

@@ -17,7 +17,9 @@ invariant_of-self g c =
     let rows = c.self.inside.rows.entries in
     let m = map.from_entries {R = nat_cmp} rows in
     let below : KeysBelow c.args.teid rows = keys_below c.args.teid rows (λ k x found. c.requires.rises k x (ap (λ (r : Rows _). map.get r.table k) (sym c.self.view_is) ∙ get_row rows k ∙ found)) in
-    let last : KeysBelow c.args.teid (map.entries m) = keys_below c.args.teid (map.entries m) (λ k x found. c.requires.rises k x (ap (λ (r : Rows _). map.get r.table k) (sym c.self.view_is) ∙ map.get-entries m k ∙ find_row (map.entries m) k ∙ found)) in
+    let last : KeysBelow c.args.teid (map.entries m) =
+    keys_below c.args.teid (map.entries m) (λ k x found.
+    c.requires.rises k x (ap (λ (r : Rows _). map.get r.table k) (sym c.self.view_is) ∙ map.get-entries m k ∙ find_row (map.entries m) k ∙ found)) in
     let pushed : c.push.new.self.items ≡ c.self.inside.keys.items ++ c.args.teid ∷ [] = search rules in
     record {
       keys =

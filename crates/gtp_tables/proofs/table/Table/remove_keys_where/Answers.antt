@@ -11,7 +11,9 @@ pub invariant_of-self : goal.invariant_of-self
 invariant_of-self g c =
     let rows = c.self.inside.rows.entries in
     let left = c.drop_keys_where.new.rows.entries in
-    let is : map.from_entries {R = nat_cmp} left ≡ kept (λ t _. not (c.requires.decides.0 t)) (map.from_entries rows) = ap (map.from_entries {R = nat_cmp}) (c.drop_keys_where.ensures.entries c.requires.decides.0 c.requires.decides.1) ∙ rows_kept_by_key (λ x. not (c.requires.decides.0 x)) rows in
+    let is : map.from_entries {R = nat_cmp} left ≡ kept (λ t _. not (c.requires.decides.0 t)) (map.from_entries rows) =
+    ap (map.from_entries {R = nat_cmp}) (c.drop_keys_where.ensures.entries c.requires.decides.0 c.requires.decides.1)
+    ∙ rows_kept_by_key (λ x. not (c.requires.decides.0 x)) rows in
     record {
       keys = keys_left (λ t _. not (c.requires.decides.0 t)) rows left _ _ is c.self.invariant.keys c.keep_keys.ensures.keys;
       distinct = c.drop_keys_where.ensures.distinct;
@@ -20,5 +22,7 @@ invariant_of-self g c =
 
 pub returns : goal.returns
 returns g c = λ goes right.
-    ap (λ (t : _). record { table = t; has_room = c.self.inside.ready }) (ap (map.from_entries {R = nat_cmp}) (c.drop_keys_where.ensures.entries goes right) ∙ rows_kept_by_key (λ x. not (goes x)) c.self.inside.rows.entries)
+    ap (λ (t : _). record { table = t; has_room = c.self.inside.ready })
+    (ap (map.from_entries {R = nat_cmp}) (c.drop_keys_where.ensures.entries goes right)
+    ∙ rows_kept_by_key (λ x. not (goes x)) c.self.inside.rows.entries)
     ∙ ap (λ (r : Rows _). record r { table = kept (λ t _. not (goes t)) r.table }) c.self.view_is

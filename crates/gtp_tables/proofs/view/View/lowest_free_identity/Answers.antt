@@ -9,7 +9,9 @@ pub loop-number-preserved : goal.loop-number-preserved
 loop-number-preserved c = λ i low lt.
     let bearers = c.args.self.now.bearers in
     let number = c.loop-number.number in
-    let found : HasIdentity bearers c.args.session c.in-Ok.identity = some_has bearers c.args.session c.in-Ok.identity c.with_identity.result c.with_identity.ensures.found (c.is_none.ensures ∙ ap not c.if-is_none.false) in
+    let found : HasIdentity bearers c.args.session c.in-Ok.identity =
+    some_has bearers c.args.session c.in-Ok.identity c.with_identity.result c.with_identity.ensures.found
+    (c.is_none.ensures ∙ ap not c.if-is_none.false) in
     elim (cases_lt i number) [
       | inl below ↦ c.loop-number.invariant i low below
       | inr above ↦ let same : c.in-Ok.identity ≡ i = omega (arith, c.in-Ok.ensures.value, above, lt) in subst (HasIdentity bearers c.args.session) same found

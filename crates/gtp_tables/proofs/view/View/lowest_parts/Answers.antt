@@ -19,10 +19,12 @@ pub returns-clause-v4 : goal.returns-clause-v4
 returns-clause-v4 c =
     let all : Contexts = record { sessions = c.self.inside.sessions.now.table; bearers = c.self.inside.bearers.now } in
     let places = c.lowest_places-places in
-    lowest_part c.self.inside.restarted V4 all c.args.self.now c.self.view_is c.args.pools.now c.args.asked (values all.sessions) (λ _. refl) places.result.v4 (places.ensures.lowest V4) (places.ensures.unasked V4) c.at_found.result c.at_found.ensures
+    lowest_part c.self.inside.restarted V4 all c.args.self.now c.self.view_is c.args.pools.now c.args.asked (values all.sessions) (λ _. refl)
+    places.result.v4 (places.ensures.lowest V4) (places.ensures.unasked V4) c.at_found.result c.at_found.ensures
 
 pub returns-clause-v6 : goal.returns-clause-v6
 returns-clause-v6 c =
     let all : Contexts = record { sessions = c.self.inside.sessions.now.table; bearers = c.self.inside.bearers.now } in
     let places = c.lowest_places-places in
-    lowest_part c.self.inside.restarted V6 all c.args.self.now c.self.view_is c.args.pools.now c.args.asked (values all.sessions) (λ _. refl) places.result.v6 (places.ensures.lowest V6) (places.ensures.unasked V6) c.at_found-2.result c.at_found-2.ensures
+    lowest_part c.self.inside.restarted V6 all c.args.self.now c.self.view_is c.args.pools.now c.args.asked (values all.sessions) (λ _. refl)
+    places.result.v6 (places.ensures.lowest V6) (places.ensures.unasked V6) c.at_found-2.result c.at_found-2.ensures

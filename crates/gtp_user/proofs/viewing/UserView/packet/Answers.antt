@@ -11,7 +11,8 @@ pub returns-then-self : goal.returns-then-self
 returns-then-self c =
     let is : (slice_index c.self.inside.octets.now 1 == 255) ≡ true = grind (arith, nat_tests) in
     ap (λ (n : ℕ). Some (n, take (length c.self.inside.octets.now - c.self.inside.start) (drop c.self.inside.start c.self.inside.octets.now))) c.header_teid.ensures
-    ∙ (ap (λ (xs : List ℕ). Some (teid_at c.self.inside.octets.now, xs)) (take_rest c.self.inside.octets.now c.self.inside.start) ∙ chosen _ _ _ (says c.self.inside.octets.now c.self.inside.start c.args.self.now c.self.invariant c.self.view_is).packet is)
+    ∙ (ap (λ (xs : List ℕ). Some (teid_at c.self.inside.octets.now, xs)) (take_rest c.self.inside.octets.now c.self.inside.start)
+    ∙ chosen _ _ _ (says c.self.inside.octets.now c.self.inside.start c.args.self.now c.self.invariant c.self.view_is).packet is)
 
 pub returns-else-self : goal.returns-else-self
 returns-else-self c =

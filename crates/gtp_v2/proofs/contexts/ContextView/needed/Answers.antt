@@ -23,4 +23,5 @@ pub returns : goal.returns
 returns g c =
     let kept = sym (ap list_or_none c.in-Some.is) ∙ c.self.view_is in
     let n = first_is g.T.IeValue.KIND c.args.instance c.args.self.now c.requires in
-    n.first ∙ ap (λ (v : Value). Some v) (ok_same RowFault n.value (g.T.IeValue.value c.mandatory.result) (sym n.reads ∙ ap (needed_at false g.T.IeValue.KIND c.args.instance) (sym kept) ∙ c.mandatory.ensures))
+    n.first ∙ ap (λ (v : Value). Some v) (ok_same RowFault n.value (g.T.IeValue.value c.mandatory.result)
+    (sym n.reads ∙ ap (needed_at false g.T.IeValue.KIND c.args.instance) (sym kept) ∙ c.mandatory.ensures))

@@ -17,4 +17,8 @@ returns-in-Some-None-clause-range c = rw (c.in-Some-None.is-0, c.in-Some-None.is
 
 pub returns-in-Some-Some-clause-range : goal.returns-in-Some-Some-clause-range
 returns-in-Some-Some-clause-range c =
-    rw (c.in-Some-Some.is-0, c.in-Some-Some.is-1) (c.write_long_header-in-Some-Some.ensures.teid, c.write_long_header-in-Some-Some.ensures.seq, subst (λ (n : ℕ). n < 16) c.number.ensures.value c.number.ensures.small)
+    rw (c.in-Some-Some.is-0, c.in-Some-Some.is-1) (
+      c.write_long_header-in-Some-Some.ensures.teid,
+      c.write_long_header-in-Some-Some.ensures.seq,
+      subst (λ (n : ℕ). n < 16) c.number.ensures.value c.number.ensures.small,
+    )

@@ -22,14 +22,16 @@ returns-clause-element g c =
     let kept = sym (ap list_or_none c.in-Some.is) ∙ ap (λ (v : Viewed). v.elements) c.self.view_is in
     let read = is_read (headed_of c.self.inside.header) c.self.inside.elements c.args.self.now c.self.view_is c.self.invariant in
     let n = value_is g.T.IeValue.KIND c.args.instance c.args.self.now read c.requires in
-    n.first ∙ ap (λ (v : Value). Some v) (ok_same RowFault n.value (g.T.IeValue.value c.mandatory.result) (sym n.reads ∙ ap (needed_at false g.T.IeValue.KIND c.args.instance) (sym kept) ∙ c.mandatory.ensures))
+    n.first ∙ ap (λ (v : Value). Some v) (ok_same RowFault n.value (g.T.IeValue.value c.mandatory.result)
+    (sym n.reads ∙ ap (needed_at false g.T.IeValue.KIND c.args.instance) (sym kept) ∙ c.mandatory.ensures))
 
 pub returns-clause-field : goal.returns-clause-field
 returns-clause-field g c =
     let kept = sym (ap list_or_none c.in-Some.is) ∙ ap (λ (v : Viewed). v.elements) c.self.view_is in
     let read = is_read (headed_of c.self.inside.header) c.self.inside.elements c.args.self.now c.self.view_is c.self.invariant in
     let n = value_is g.T.IeValue.KIND c.args.instance c.args.self.now read c.requires in
-    n.row ∙ ap (λ (v : Value). Some (v ∷ [])) (ok_same RowFault n.value (g.T.IeValue.value c.mandatory.result) (sym n.reads ∙ ap (needed_at false g.T.IeValue.KIND c.args.instance) (sym kept) ∙ c.mandatory.ensures))
+    n.row ∙ ap (λ (v : Value). Some (v ∷ [])) (ok_same RowFault n.value (g.T.IeValue.value c.mandatory.result)
+    (sym n.reads ∙ ap (needed_at false g.T.IeValue.KIND c.args.instance) (sym kept) ∙ c.mandatory.ensures))
 
 pub returns-clause-row : goal.returns-clause-row
 returns-clause-row g c = ap (λ (o : Option (List Value)). unwrap_or o []) (returns-clause-field g c)

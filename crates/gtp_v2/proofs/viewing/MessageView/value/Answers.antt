@@ -23,4 +23,5 @@ returns-in-Some-clause-row g c = λ has.
 pub returns-in-None-clause-row : goal.returns-in-None-clause-row
 returns-in-None-clause-row g c = λ has.
     let read = is_read (headed_of c.self.inside.header) c.self.inside.elements c.args.self.now c.self.view_is c.self.invariant in
-    none_is g.T.IeValue.KIND c.args.instance (headed_of c.self.inside.header) c.self.inside.elements c.args.self.now c.in-None.is c.self.view_is ∙ there_is g.T.IeValue.KIND c.args.instance c.args.self.now read has
+    none_is g.T.IeValue.KIND c.args.instance (headed_of c.self.inside.header) c.self.inside.elements c.args.self.now c.in-None.is c.self.view_is
+    ∙ there_is g.T.IeValue.KIND c.args.instance c.args.self.now read has

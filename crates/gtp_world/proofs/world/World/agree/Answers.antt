@@ -10,7 +10,10 @@ use Rattle.gtp_world.proofs.world.World.agree.Goals as goal
 
 -- the pair that was found stands at this place
 at : (c : goal.After-do_agree) → slice_get (mutual_pairs (world_record_of c.self.inside.sides)) c.args.index ≡ Some (pair_of c.in_ok-pair.pair)
-at c = sym (nth_from_yields_List c.nth.result c.nth.new.self c.args.index c.nth.ensures.ran (YieldsList-from_first pair_of (λ es. es) (mutual_pairs (world_record_of c.self.inside.sides)) c.of.ensures)) ∙ ap (option_map pair_of) c.in_ok-pair.was
+at c =
+    sym (nth_from_yields_List c.nth.result c.nth.new.self c.args.index c.nth.ensures.ran
+    (YieldsList-from_first pair_of (λ es. es) (mutual_pairs (world_record_of c.self.inside.sides)) c.of.ensures))
+    ∙ ap (option_map pair_of) c.in_ok-pair.was
 
 pub returns-clause-some : goal.returns-clause-some
 returns-clause-some c =

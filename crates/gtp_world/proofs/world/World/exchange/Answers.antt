@@ -12,17 +12,23 @@ use Rattle.gtp_world.proofs.world.World.exchange.Goals as goal
 
 pub returns-in_err-begun-clause-err : goal.returns-in_err-begun-clause-err
 returns-in_err-begun-clause-err c =
-    if_err c.from_residual.result _ (so_far c.args.self.now (exchange_events (specification c.args.spec.now) (length c.args.self.now.log.datagrams)) c.step.new.self 0 (omega arith) c.in_err-begun.ensures.err)
+    if_err c.from_residual.result _
+    (so_far c.args.self.now (exchange_events (specification c.args.spec.now) (length c.args.self.now.log.datagrams)) c.step.new.self 0 (omega arith)
+    c.in_err-begun.ensures.err)
 
 pub returns-in_err-answered-clause-err : goal.returns-in_err-answered-clause-err
 returns-in_err-answered-clause-err c =
-    if_err c.from_residual-in_err-answered.result _ (so_far c.args.self.now (exchange_events (specification c.args.spec.now) (length c.args.self.now.log.datagrams)) c.step-2.new.self 1 (omega arith) (c.step.new.self, c.in_ok-begun.ensures.comes, c.in_err-answered.ensures.err))
+    if_err c.from_residual-in_err-answered.result _
+    (so_far c.args.self.now (exchange_events (specification c.args.spec.now) (length c.args.self.now.log.datagrams)) c.step-2.new.self 1 (omega arith)
+    (c.step.new.self, c.in_ok-begun.ensures.comes, c.in_err-answered.ensures.err))
 
 pub returns-in_err-opened-clause-err : goal.returns-in_err-opened-clause-err
 returns-in_err-opened-clause-err c =
     let same : length c.datagrams.result.now ≡ length c.args.self.now.log.datagrams = sym (length-map c.datagrams.result.now sent_by) ∙ ap length c.datagrams.ensures in
     let comes = subst (λ (n : ℕ). EventLeaves c.step.new.self (Deliver n) c.step-2.new.self) same c.in_ok-answered.ensures.comes in
-    if_err c.from_residual-in_err-opened.result _ (so_far c.args.self.now (exchange_events (specification c.args.spec.now) (length c.args.self.now.log.datagrams)) c.step-3.new.self 2 (omega arith) (c.step.new.self, c.in_ok-begun.ensures.comes, (c.step-2.new.self, comes, c.in_err-opened.ensures.err)))
+    if_err c.from_residual-in_err-opened.result _
+    (so_far c.args.self.now (exchange_events (specification c.args.spec.now) (length c.args.self.now.log.datagrams)) c.step-3.new.self 2 (omega arith)
+    (c.step.new.self, c.in_ok-begun.ensures.comes, (c.step-2.new.self, comes, c.in_err-opened.ensures.err)))
 
 pub returns-clause-comes : goal.returns-clause-comes
 returns-clause-comes c =
@@ -39,4 +45,6 @@ returns-clause-fair c = λ reached can.
     let same : length c.datagrams.result.now ≡ length c.args.self.now.log.datagrams = sym (length-map c.datagrams.result.now sent_by) ∙ ap length c.datagrams.ensures in
     let there = subst (λ (n : ℕ). EventLeaves c.step.new.self (Deliver n) c.step-2.new.self) same c.in_ok-answered.ensures.comes in
     let back = subst (λ (n : ℕ). EventLeaves c.step-2.new.self (Deliver (n + 1)) c.step-3.new.self) same c.in_ok-opened.ensures.comes in
-    exchanged c.args.self.now reached (specification c.args.spec.now) (length c.args.self.now.log.datagrams) c.step.new.self c.step-2.new.self c.step-3.new.self (outcome_of c.in_ok-begun.begun) (outcome_of c.in_ok-answered.answered) (outcome_of c.in_ok-opened.opened) refl c.in_ok-begun.ensures.comes there back c.in_ok-begun.ensures.outcome c.in_ok-answered.ensures.outcome c.in_ok-opened.ensures.outcome can
+    exchanged c.args.self.now reached (specification c.args.spec.now) (length c.args.self.now.log.datagrams) c.step.new.self c.step-2.new.self
+    c.step-3.new.self (outcome_of c.in_ok-begun.begun) (outcome_of c.in_ok-answered.answered) (outcome_of c.in_ok-opened.opened) refl
+    c.in_ok-begun.ensures.comes there back c.in_ok-begun.ensures.outcome c.in_ok-answered.ensures.outcome c.in_ok-opened.ensures.outcome can

@@ -29,6 +29,9 @@ pub returns-clause-safe : goal.returns-clause-safe
 returns-clause-safe c = λ none.
     let e = c.in_ok-accepted.accepted.now in
     let inside = world_record_of c.self.inside.sides in
-    let accepted = subst (λ (l : List (By Entry)). HasBy l e.node (entry_by e).what) (c.accepted.ensures ∙ ap (λ (k : WorldRecord). k.log.accepted) (sym c.self.view_is)) (among_at (map entry_by c.accepted.result.now) c.args.index (entry_by e) (at c)) in
+    let accepted =
+    subst (λ (l : List (By Entry)). HasBy l e.node (entry_by e).what)
+    (c.accepted.ensures ∙ ap (λ (k : WorldRecord). k.log.accepted) (sym c.self.view_is))
+    (among_at (map entry_by c.accepted.result.now) c.args.index (entry_by e) (at c)) in
     let timely : inside.log.late ≡ 0 = ap (λ (k : WorldRecord). k.log.late) c.self.view_is ∙ none in
     is_so inside c.is_owed.result c.self.invariant (λ reached. c.is_owed.ensures.1 ((run_safe reached.setup reached.events inside reached.run).owed timely e.node (entry_by e).what accepted))

@@ -16,4 +16,6 @@ returns-clause-run c =
     (on_ok_weaker c.step.result (λ comes. runs_on _ (event ∷ []) new (new, comes, refl)) c.step.ensures.comes)
 
 pub invariant_of-self : goal.invariant_of-self
-invariant_of-self c = reached_on c.step.result (event_of c.args.event.now) (world_record_of c.self.inside.sides) (world_record_of c.step.new.self) c.step.ensures.comes c.step.ensures.err c.self.invariant
+invariant_of-self c =
+    reached_on c.step.result (event_of c.args.event.now) (world_record_of c.self.inside.sides) (world_record_of c.step.new.self) c.step.ensures.comes
+    c.step.ensures.err c.self.invariant

@@ -1,0 +1,48 @@
+use Rattle.std.proofs.Common.{◌≡◌, ℕ, [], ◌∷◌, ◌++◌, map, refl, ap, ◌∙◌}
+use Rattle.std.proofs.lemmas.List.{map_push}
+use Rattle.std.proofs.lemmas.Result.{err_from_is_err_and}
+use Rattle.gtp_ie.specs.View.{element_of}
+use Rattle.gtp_ie.specs.Element.{all_of}
+use Rattle.gtp_v2.specs.reading.Rows.{one_at, values_at}
+use Rattle.gtp_v2.specs.reading.Outcome.{HasValue}
+use Rattle.gtp_v2.proofs.Checks.{one_reads, one_read}
+use Rattle.gtp_v2.proofs.Loop.{gathers_first, gathers_one, gathers_some, goes_on, is_done}
+use Rattle.gtp_v2.proofs.list_rows.several.Goals as goal
+
+pub loop-view-init : goal.loop-view-init
+loop-view-init g c =
+    gathers_first (one_at g.T.IeValue.KIND c.args.instance) (map g.T.IeValue.value c.new-values.result.items)
+    (all_of g.T.IeValue.KIND c.args.instance c.args.elements.now) c.into_iter-view-iterator.result
+    (ap (map g.T.IeValue.value) c.new-values.ensures.items)
+    (c.into_iter-view-iterator.ensures.into_iter_gives ∙ c.all-view-items.ensures ∙ ap (λ (kind : ℕ). all_of kind c.args.instance c.args.elements.now) c.KIND.ensures)
+
+pub build-requires : goal.build-requires
+build-requires g c =
+    one_reads g.T.IeValue.KIND c.args.instance (element_of c.in-Some.view)
+    (gathers_one (one_at g.T.IeValue.KIND c.args.instance) (map g.T.IeValue.value c.loop-view.values.items) (element_of c.in-Some.view)
+    c.next.new.self c.loop-view.view-iterator (values_at g.T.IeValue.KIND c.args.instance
+    (all_of g.T.IeValue.KIND c.args.instance c.args.elements.now))
+    c.in-Some.ensures.steps c.requires c.loop-view.invariant)
+
+pub loop-view-preserved : goal.loop-view-preserved
+loop-view-preserved g c =
+    let read = one_at g.T.IeValue.KIND c.args.instance in
+    let items : map g.T.IeValue.value c.push.new.self.items ≡ map g.T.IeValue.value c.loop-view.values.items ++ g.T.IeValue.value c.build.result ∷ [] =
+    ap (map g.T.IeValue.value) c.in_ok-push.ensures.items ∙ map_push g.T.IeValue.value c.loop-view.values.items c.build.result in
+    rw items (goes_on read (map g.T.IeValue.value c.loop-view.values.items) (element_of c.in-Some.view) c.next.new.self c.loop-view.view-iterator
+    (g.T.IeValue.value c.build.result) (values_at g.T.IeValue.KIND c.args.instance (all_of g.T.IeValue.KIND c.args.instance c.args.elements.now))
+    c.in-Some.ensures.steps (one_read g.T.IeValue.KIND c.args.instance (element_of c.in-Some.view) (g.T.IeValue.value c.build.result) c.build.ensures) c.loop-view.invariant)
+
+pub returns-in_err-push : goal.returns-in_err-push
+returns-in_err-push g c =
+    let p = err_from_is_err_and c.from_residual.result c.from_residual.ensures.1 in
+    rw p.1 (gathers_some HasValue (λ x xs. refl) (one_at g.T.IeValue.KIND c.args.instance) (map g.T.IeValue.value c.loop-view.values.items)
+    (element_of c.in-Some.view) c.next.new.self c.loop-view.view-iterator
+    (values_at g.T.IeValue.KIND c.args.instance (all_of g.T.IeValue.KIND c.args.instance c.args.elements.now))
+    c.in-Some.ensures.steps c.requires c.loop-view.invariant)
+
+pub returns : goal.returns
+returns g c =
+    rw c.of.ensures (is_done (one_at g.T.IeValue.KIND c.args.instance) (map g.T.IeValue.value c.loop-view.values.items) c.loop-view.view-iterator
+    (values_at g.T.IeValue.KIND c.args.instance (all_of g.T.IeValue.KIND c.args.instance c.args.elements.now)) c.in-None.ensures.steps.0
+    c.loop-view.invariant)
