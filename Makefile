@@ -47,7 +47,7 @@ install: $(program) $(library)
 	$(INSTALL) -d $(root)/lib/pkgconfig
 	sed 's|@PREFIX@|$(or $(PREFIX),$${pcfiledir}/../..)|' share/gtp.pc > $(root)/lib/pkgconfig/gtp.pc
 	$(INSTALL) -d $(pages)/examples
-	$(INSTALL) -m 644 docs/PROTOCOL.md docs/FORMATS.md docs/JSON.md docs/C.md docs/PROVED.md docs/BELIEVE.md docs/CHANGELOG.md docs/SECURITY.md docs/PAGE.md docs/page-capture.png docs/page-scenario.png $(pages)
+	$(INSTALL) -m 644 docs/PROTOCOL.md docs/FORMATS.md docs/ELEMENTS.md docs/JSON.md docs/C.md docs/PROVED.md docs/BELIEVE.md docs/CHANGELOG.md docs/SECURITY.md docs/PAGE.md docs/page-capture.png docs/page-scenario.png $(pages)
 	sed -i 's|](../include/|](../../../include/|g; s|](../examples/|](examples/|g; s|](../rust/gtp)|](../../gtp/rust)|g' $(pages)/*.md
 	sed -i -E 's/\[([^]]*)\]\(($(left_out))[^)]*\)/\1/g' $(pages)/*.md
 	scripts/reference $(pages)/reference.html > /dev/null

@@ -147,6 +147,22 @@ uint8_t gtp_pti_read(const uint8_t *body, size_t len, uint32_t *number);        
 uint8_t gtp_selection_read(const uint8_t *body, size_t len, uint32_t *number);              /* 128 */
 /* A traffic flow template (84) is its body, of at most 255 octets. */
 
+/* ---- What messages and elements are called, and what elements say, as text, in a buffer of `room` octets. GTP_TOO_SMALL: nothing is
+ * written, and *size says how many octets it is. No text has a 0 at its end. ---- */
+
+/* The name of a type of message (TS 29.274 table 6.1-1) or of element (table 8.1-1), as "create-session-request", also of types that
+ * are not read here. GTP_NONE: the type has no name. */
+uint8_t gtp_message_name(uint8_t *buffer, size_t room, uint8_t message, uint64_t *size);
+uint8_t gtp_element_name(uint8_t *buffer, size_t room, uint8_t kind, uint64_t *size);
+/* An element, in a message of the type `message`: its lines, as `gtpshow decode --all` shows them, or one line of JSON, as it is
+ * among the `elements` of `gtpshow decode --all --json`. A group is shown with the elements in it. docs/ELEMENTS.md has the fields of
+ * each type. Each takes memory for the text, and gives it back: GTP_NO_MEMORY. GTP_BAD_VALUE: instance > 15, or
+ * body_len > 65,535. */
+uint8_t gtp_element_lines(uint8_t *buffer, size_t room, uint8_t message, uint8_t kind, uint8_t instance,
+                          const uint8_t *body, size_t body_len, uint64_t *size);
+uint8_t gtp_element_json(uint8_t *buffer, size_t room, uint8_t message, uint8_t kind, uint8_t instance,
+                         const uint8_t *body, size_t body_len, uint64_t *size);
+
 /* ---- Writing to a buffer of `room` octets. GTP_TOO_SMALL: nothing is written, and *size says how many octets it is. ---- */
 
 /* The version of the library, as in GTP_VERSION but without a 0 at its end. */

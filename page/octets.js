@@ -84,16 +84,41 @@ function saidOf({ name, value, value_name: word }) {
 
 function short(octets) { return octets.length > 48 ? `${octets.slice(0, 48)}… (${octets.length / 2} octets)` : octets || "no octets"; }
 
+// What a body tells by its form: a node a field, an item of a list by its number. Where its octets are is not said.
+function fieldNodes(fields) {
+  const isWord = (name) => name.endsWith("_name") && name.slice(0, -5) in fields;
+  return Object.keys(fields).filter((name) => !isWord(name)).map((name) => fieldNode(name, fields[name], fields[`${name}_name`]));
+}
+function fieldNode(name, value, word) {
+  if (value === true) return node(name, "", null, null);
+  if (typeof value !== "object") return node(name, worded(value, word), null, null);
+  const children = Array.isArray(value) ? value.map((it, at) => fieldNode(String(at + 1), it)) : fieldNodes(value);
+  return node(name, "", null, null, { children });
+}
+
+// The one value of a form, or undefined.
+function oneOf(fields) {
+  const names = Object.keys(fields || {});
+  return names.length === 1 && names[0] === "value" ? fields.value : undefined;
+}
+
+// What is said of an element beside its name: its value, the one of its form, or its octets.
+function valueOf(element) {
+  if (element.elements) return "";
+  if (element.octets === undefined) return saidOf(element);
+  return String(oneOf(element.fields) ?? short(element.octets));
+}
+
 // Elements, each where the program says that it stands: from the beginning of its message on.
 function elementNodes(elements, begin) {
   return elements.map((element) => {
     const { length, name, type, instance } = element, at = begin + element.at;
-    const value = element.elements ? "" : element.octets !== undefined ? short(element.octets) : saidOf(element);
-    const made = node(name || ELEMENTS[type] || `type ${type}`, value, at, at + length, {
+    const made = node(name || ELEMENTS[type] || `type ${type}`, valueOf(element), at, at + length, {
       note: `${type}${instance ? `·${instance}` : ""}`, type, instance, group: Boolean(element.elements),
     });
     if (element.elements) made.children = elementNodes(element.elements, begin);
     else if (element.value !== undefined) made.children = partsOf(name, element.value, at + 4);
+    if (element.fields && oneOf(element.fields) === undefined) made.children.push(...fieldNodes(element.fields));
     return made;
   });
 }
@@ -136,7 +161,9 @@ function userNode(octets, message) {
   let at = 12;
   for (const it of message.extensions || []) {
     const length = octets[at] * 4;
-    top.children.push(node("extension header", short(it.octets), at, at + length, { note: it.type.toString(16).padStart(2, "0") }));
+    const value = String(oneOf(it.fields) ?? short(it.octets));
+    const children = it.fields && oneOf(it.fields) === undefined ? fieldNodes(it.fields) : [];
+    top.children.push(node(it.name || "extension header", value, at, at + length, { note: it.type.toString(16).padStart(2, "0"), children }));
     at += length;
   }
   if (message.teid_data) top.children.push(node("teid of the packet", message.teid_data, null, null), node("peer", message.peer, null, null));

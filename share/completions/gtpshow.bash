@@ -18,6 +18,7 @@ _gtpshow() {
   mapfile -t COMPREPLY < <(compgen -W "$words" -- "$word")
   case $command in
     capture | replay) [[ $word == -* ]] || mapfile -t COMPREPLY < <(compgen -f -- "$word") ;;
+    explain) [[ $word == -* ]] || mapfile -t COMPREPLY < <(compgen -W 'cause element message extension' -- "$word") ;;
   esac
 }
 complete -o filenames -F _gtpshow gtpshow

@@ -4,7 +4,7 @@ complete -c gtpshow -n __fish_use_subcommand -a decode -d 'Shows one datagram, o
 complete -c gtpshow -n __fish_use_subcommand -a capture -d 'Shows the GTP datagrams of a packet capture'
 complete -c gtpshow -n __fish_use_subcommand -a replay -d 'Runs a scenario between two gateways, and reports what comes of it'
 complete -c gtpshow -n __fish_use_subcommand -a gateway -d 'Runs one gateway behind lines of JSON'
-complete -c gtpshow -n __fish_use_subcommand -a explain -d 'Says what a code or a cause means'
+complete -c gtpshow -n __fish_use_subcommand -a explain -d 'Says what a code, a cause or a type means'
 complete -c gtpshow -n __fish_use_subcommand -a help -d 'Prints help'
 complete -c gtpshow -n __fish_use_subcommand -l version -d 'Prints the version'
 complete -c gtpshow -l help -d 'Prints help'
@@ -25,3 +25,4 @@ complete -c gtpshow -n '__fish_seen_subcommand_from replay' -l diagram -d 'Draws
 complete -c gtpshow -n '__fish_seen_subcommand_from replay' -l svg -d 'Draws the same diagram as a picture (SVG)'
 complete -c gtpshow -n '__fish_seen_subcommand_from replay' -l pcap -d 'Writes the run as a packet capture'
 complete -c gtpshow -n '__fish_seen_subcommand_from capture replay' -F
+complete -c gtpshow -n '__fish_seen_subcommand_from explain' -f -a 'cause element message extension'

@@ -74,8 +74,8 @@ static void run(void) {
     CHECK(gtp_gateway_free(&serving) == GTP_DONE && gtp_gateway_free(&packet) == GTP_DONE);
 }
 
-/* The calls that write through memory: a user message, and the body of each type of element. */
-enum { WRITERS = 16 };
+/* The calls that write through memory: a user message, the body of each type of element, and elements as text. */
+enum { WRITERS = 20 };
 
 static uint8_t written(int writer, uint8_t *room, size_t len, uint64_t *size) {
     struct gtp_user_head packet = {0};
@@ -107,13 +107,17 @@ static uint8_t written(int writer, uint8_t *room, size_t len, uint64_t *size) {
     case 12: return gtp_charging_id_write(room, len, 9, size);
     case 13: return gtp_pdn_type_write(room, len, 1, size);
     case 14: return gtp_pti_write(room, len, 1, size);
-    default: return gtp_selection_write(room, len, 1, size);
+    case 15: return gtp_selection_write(room, len, 1, size);
+    case 16: return gtp_element_lines(room, len, 32, 1, 0, text("\x00\x01\x01\x21\x43\x65\x87\xf9"), 8, size);
+    case 17: return gtp_element_json(room, len, 32, 77, 0, text("\x02\x00\x00"), 3, size);
+    case 18: return gtp_element_lines(room, len, 35, 93, 0, text("\x49\x00\x01\x00\x05\x02\x00\x02\x00\x10\x00"), 11, size);
+    default: return gtp_element_json(room, len, 35, 93, 0, text("\x49\x00\x01\x00\x05"), 5, size);
     }
 }
 
 /* A call that writes lacks memory exactly where an allocation was refused; it has then written nothing, and once more it writes. */
 static void each_writer_is_refused(void) {
-    uint8_t whole[64] = {0}, room[64], blank[64];
+    uint8_t whole[4096] = {0}, room[4096], blank[4096];
     memset(blank, 0xaa, sizeof blank);
     for (int writer = 0; writer < WRITERS; writer++) {
         uint64_t octets = 0;

@@ -23,6 +23,8 @@ CAUSE = r"(?:answered|rejected) ([0-9]+)"
 ROW = re.compile(r"^\| (G[0-9][^|]*|H[0-9]|U[0-9]+|) *\| [^|]*(?:\| (X[0-9]+))?", re.M)
 FRAME = re.compile(r"^frame ([0-9]+) time [0-9]+\.0*([0-9]+) .* (control|user)$", re.M)
 BRIEF = re.compile(r"^frame (\d+) time (\S+) from (.+) to (.+) \w+\ngtp\w+ type \d+ (.*)$", re.M)
+# A name of a field; and what the page of elements says of a value without a form.
+NAME, FORMLESS = r"[0-9a-z_][0-9a-z_-]*", {"value", "octets", "elements"}
 FEWEST_CODES, CAUSES = 40, 82
 SENDERS = [("0", "10.0.0.1"), ("1", "10.0.0.2"), ("3", "10.0.0.1"), ("5", "10.0.0.2")]
 
@@ -129,6 +131,21 @@ def codes() -> Iterator[tuple[str, str]]:
         yield f"the code {name} is not explained", unless(is_told is not None, heads)
 
 
+def types() -> Iterator[tuple[str, str]]:
+    """Each type of the page of elements is explained by its name, its clause and the names of its fields."""
+    parts = Path("docs/ELEMENTS.md").read_text(encoding="utf-8").split("\n## ")[1:]
+    words = {"Elements": "element", "Messages": "message", "Extension headers": "extension"}
+    for part in parts:
+        word = words[part.partition("\n")[0]]
+        clause = {"element": "TS 29.274 8.1", "message": "TS 29.274 6.1", "extension": "TS 29.281 5.2.1"}[word]
+        for kind, name, *fields in (row.strip("| ").split(" | ") for row in re.findall(r"^\| [0-9a-f]+ \|.*", part, re.M)):
+            head, _, told = text_of("explain", word, kind).partition("\n")
+            wanted = set(re.findall(NAME, fields[0])) if fields else set()
+            found = set(re.findall(NAME, told.removeprefix("fields")))
+            is_right = head == f"{word} {kind}: {name} ({clause})" and (found == wanted or not told and wanted <= FORMLESS)
+            yield f"the {word} {kind}", unless(is_right, (head, told))
+
+
 # Dumps and captures.
 
 
@@ -228,6 +245,6 @@ def cut_in_report() -> Iterator[tuple[str, str]]:
 
 def results() -> Iterator[tuple[str, str]]:
     """The name of each case of this file, with what is wrong in it."""
-    outputs, others = [full, closed, left], [endless, codes, each_sent, no_dumps, capture_as_json]
+    outputs, others = [full, closed, left], [endless, codes, types, each_sent, no_dumps, capture_as_json]
     for part in [*outputs, *others, runs_as_captures, scenario_of_help, cut_in_report]:
         yield from part()

@@ -10,6 +10,7 @@ import struct
 
 import heads
 from cases import lines_of, ran
+from named_elements import are_same
 from frames import LINKS, MAGIC, Datagram, Frame, Maker, pcap_head, pcap_record
 from setups import text_of
 
@@ -175,13 +176,14 @@ class Pieces:
                 continue
             what = it.seen.plane, it.seen.datagram.octets
             plain, shown = json.loads(it.lines[0]), json.loads(both.lines[0])
-            for ours, theirs in ((heads.outline_of_lines(every.lines[1:]), heads.outline(*what)),
+            for ours, theirs in ((heads.outline_of_lines(it.seen.plane, every.lines[1:]), heads.outline(*what)),
                                  (heads.members_of_json(plain), heads.members(*what)),
-                                 (heads.members_of_json(shown), heads.all_members(*what)),
+                                 (heads.all_members_of_json(shown), heads.all_members(*what)),
                                  (heads.words_of_lines(every.lines[1:]), heads.words_in_all(*what)),
                                  (heads.words_of_json(plain), heads.words_in_plain(*what)),
                                  (heads.words_of_json(shown), heads.words_in_all(*what))):
-                if theirs is not None and ours != theirs:
+                is_same = are_same(ours, theirs) if isinstance(theirs, list) else ours == theirs
+                if not is_same:
                     print(f"{what[0]} {what[1].hex()}\n  the program: {ours}\n  the second account: {theirs}")
                     ok = False
         return ok

@@ -11,6 +11,8 @@ from typing import Optional
 
 from decoding import ROWS, Fault, element_list, read_datagram, read_message, read_user_datagram
 from gateways import CONTEXT, FTEID, IMSI, Json, elements_and_rest, packed
+from named_elements import (element_json, element_lines, extension_headers, extension_json, extension_line, front_lines, front_members,
+                            has_headers, message_name, without_values)
 from words import MESSAGES, words_of
 
 CONTROL, USER = MESSAGES["control"], MESSAGES["user"]
@@ -113,7 +115,7 @@ def named(names: dict[int, str], kind: int) -> str:
 
 def brief_message(octets: bytes) -> str:
     kind, teid, seq, _, _ = control_head(octets)
-    return named(CONTROL, kind) + (f" teid {teid}" if teid else "") + f" seq {seq}"
+    return (message_name(kind) or f"type {kind}") + (f" teid {teid}" if teid else "") + f" seq {seq}"
 
 
 def user_number(octets: bytes) -> int | None:
@@ -135,14 +137,15 @@ def outline_of_message(octets: bytes) -> list[str]:
     if head is None:
         return [f"rest {octets.hex()}"] if octets else []
     kind, teid, seq, priority, size = head
-    line = (f"gtpv2 type {kind} {CONTROL.get(kind, 'other')}" + (f" teid {teid}" if teid else "") + f" seq {seq}"
+    line = (f"gtpv2 type {kind} {message_name(kind) or 'other'}" + (f" teid {teid}" if teid else "") + f" seq {seq}"
             + (f" priority {priority}" if priority is not None else ""))
-    found, rest = whole_elements(octets[size:])
-    return [line] + [f"ie {kind} {instance}" for kind, instance in found] + ([f"rest {rest.hex()}"] if rest else [])
+    found, rest = elements_and_rest(octets[size:])
+    return [line] + [line for it in found for line in element_lines(it, kind)] + ([f"rest {rest.hex()}"] if rest else [])
 
 
 def outline(plane: str, octets: bytes) -> list[str] | None:
-    """The lines of --all without the values of elements, and of a fault its code. None for a user datagram without a fault."""
+    """The lines of --all without the values of elements, and of a fault its code; of a user datagram without a fault those of its
+    extension headers."""
     code, context = fault_of(plane, octets), context_of(plane, octets)
     end = ([f"fault {code}"] if code else []) + ([f"in bearer-context {context}"] if context else [])
     if plane == "control":
@@ -150,19 +153,24 @@ def outline(plane: str, octets: bytes) -> list[str] | None:
             return end
         return [line for message in messages_of(octets) for line in outline_of_message(message)] + end
     if not code:
-        return None
+        return [line for it in extension_headers(octets) for line in extension_line(*it)]
     if len(octets) < 8 or octets[0] >> 4 != 3:
         return end
     number = user_number(octets)
     rest = octets[8 if number is None else 12:]
     line = f"gtpu type {octets[1]} {USER.get(octets[1], 'other')} teid {octets[4:8].hex()}"
-    return [line + (f" seq {number}" if number is not None else "")] + ([f"rest {rest.hex()}"] if rest else []) + end
+    behind = front_lines(octets) if has_headers(octets) else [f"rest {rest.hex()}"] if rest else []
+    return [line + (f" seq {number}" if number is not None else ""), *behind, *end]
 
 
-def outline_of_lines(lines: list[str]) -> list[str]:
-    """Lines of --all, without what an outline leaves out."""
-    kept = {"ie": 3, "fault": 2}
-    return [" ".join(line.split()[:kept.get(line.split()[0])]) for line in lines if not line.startswith("  ")]
+def outline_of_lines(plane: str, lines: list[str]) -> list[str]:
+    """Lines of --all, of a fault its code alone, and of a user datagram without one its extension headers."""
+    is_fault = any(line.startswith("fault ") for line in lines)
+    if plane == "user" and not is_fault:
+        first = next((place for place, line in enumerate(lines) if line.startswith("ext ")), len(lines))
+        last = max((place for place, line in enumerate(lines) if line.startswith(("ext ", "  "))), default=first - 1)
+        return lines[first : last + 1]
+    return [" ".join(line.split()[:2]) if line.startswith("fault ") else line for line in lines]
 
 
 def members_of_message(octets: bytes) -> Json:
@@ -193,14 +201,14 @@ def members(plane: str, octets: bytes) -> Json:
 
 
 def shown_of_message(octets: bytes) -> Json:
-    """The members of a message of --all: those of its header, its whole elements, and the octets that are left."""
+    """The members of a message of --all: those of its header, its whole elements without their values, and the octets that are left."""
     head = control_head(octets)
     if head is None:
         return {"rest": octets.hex()} if octets else {}
     kind, teid, seq, priority, size = head
-    found, rest = whole_elements(octets[size:])
-    shown = {"type": kind, "name": CONTROL.get(kind), "teid": teid, "seq": seq, "priority": priority, "elements": found,
-             "rest": rest.hex() or None}
+    found, rest = elements_and_rest(octets[size:])
+    shown = {"type": kind, "name": message_name(kind), "teid": teid, "seq": seq, "priority": priority,
+             "elements": [element_json(it, kind) for it in found], "rest": rest.hex() or None}
     return {key: it for key, it in shown.items() if it is not None}
 
 
@@ -215,7 +223,8 @@ def shown_of_user(octets: bytes) -> Json:
         return {}
     number = user_number(octets)
     rest = octets[8 if number is None else 12:]
-    shown = {"type": octets[1], "name": USER.get(octets[1]), "teid": octets[4:8].hex(), "seq": number, "rest": rest.hex() or None}
+    shown = {"type": octets[1], "name": USER.get(octets[1]), "teid": octets[4:8].hex(), "seq": number, "rest": rest.hex() or None,
+             **(front_members(octets) if has_headers(octets) else {})}
     return {key: it for key, it in shown.items() if it is not None}
 
 
@@ -223,7 +232,7 @@ def all_members(plane: str, octets: bytes) -> Json:
     """The members of the JSON of --all, of elements their type and instance, of a fault its code and its bearer context."""
     code = fault_of(plane, octets)
     if plane == "user" and not code:
-        return members(plane, octets)
+        return {**members(plane, octets), "extensions": [extension_json(*it) for it in extension_headers(octets)]}
     if plane == "user":
         shown = shown_of_user(octets)
     elif is_pair(octets):
@@ -232,6 +241,20 @@ def all_members(plane: str, octets: bytes) -> Json:
     else:
         shown = shown_of_message(octets) if control_head(octets) else {}
     return {"plane": plane, **shown} | ({"fault": (code, context_of(plane, octets))} if code else {})
+
+
+def all_members_of_json(it: Json) -> Json:
+    """The members of an object of JSON that `all_members` has too."""
+    kept = members_of_json(it)
+    if "elements" in it:
+        kept["elements"] = [without_values(element) for element in it["elements"]]
+    if "extensions" in it:
+        kept["extensions"] = it["extensions"]
+    if "extensions" in it and "payload" in it and "fault" in it:
+        kept["payload"] = it["payload"]
+    if "second" in it:
+        kept["second"] = all_members_of_json(it["second"])
+    return kept
 
 
 def members_of_json(it: Json) -> Json:
@@ -312,9 +335,10 @@ def words_of_lines(lines: list[str]) -> list[str]:
 
 
 def words_of_json(it: object) -> list[str]:
-    """The words in an object of JSON, in order."""
+    """The words in an object of JSON, in order, but for those of fields."""
     if isinstance(it, list):
         return [word for each in it for word in words_of_json(each)]
     if not isinstance(it, dict):
         return []
-    return [word for key, each in it.items() for word in ([each] if key.endswith("_name") else words_of_json(each))]
+    said = [(key, each) for key, each in it.items() if key != "fields"]
+    return [word for key, each in said for word in ([each] if key.endswith("_name") else words_of_json(each))]

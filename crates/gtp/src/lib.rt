@@ -1,4 +1,4 @@
-//! The libraries under one name, for callers: both codecs, captures, a gateway, and a simulated network of two gateways. Contracts
+//! The libraries under one name, for callers: both codecs, names, captures, a gateway, and a simulated network of two gateways. Contracts
 //! and documentation are those of the items that are named here.
 #![tactic(auto)]
 
@@ -23,6 +23,18 @@ pub mod user {
     pub use gtp_user::{
         ExtensionHeader, ExtensionHeaders, Extensions, Ip, Teid, UserBody, UserFault, UserMessage,
         UserView, decode, encode, kinds, view,
+    };
+}
+
+/// What messages, elements and extension headers are called (TS 29.274, TS 29.281), and what their values say by forms: `all_names` has
+/// the tables, `row_of` and `element_row` find a type in them, `told` and `read` tell what a body says, `put_told` and `write_told` show it
+/// as lines and as JSON.
+pub mod names {
+    pub use gtp_forms::{
+        Bits, Case, How, Row, Spelling, Step, Told, View, Word, put_told, read, row_of, write_told,
+    };
+    pub use gtp_names::{
+        Forms, Names, all_names, element_row, form_in_message, is_connection, is_group, told,
     };
 }
 

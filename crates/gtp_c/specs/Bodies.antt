@@ -9,8 +9,7 @@ use Rattle.gtp_values.specs.declared.cause.Offending.{Offending}
 use Rattle.gtp_values.specs.declared.paa.Paa.{Paa}
 use Rattle.gtp_values.specs.declared.paa.Paa.TheVariants.{V4, V6, V4V6, Other}
 use Rattle.gtp_values.specs.declared.qos.Ambr.{Ambr}
-use Rattle.gtp_c.specs.Common.{IsOneOf}
-use Rattle.gtp_c.specs.Writing.{StandsAt}
+use Rattle.gtp_c.specs.Writing.{IsTextWritten}
 use Rattle.gtp_c.specs.declared.values.Allocation.{Allocation}
 use Rattle.gtp_c.specs.declared.values.CauseSaid.{CauseSaid}
 use Rattle.gtp_c.specs.declared.values.Identity.{Identity}
@@ -18,17 +17,9 @@ use Rattle.gtp_c.specs.declared.values.Name.{Name}
 use Rattle.gtp_c.specs.declared.values.TotalRates.{TotalRates}
 use Rattle.gtp_c.specs.declared.values.Tunnel.{Tunnel}
 
--- The body of a value is to be written at the front of a buffer, by a value of C's that may be bad: 0 where it stands there; 5 where there is less room; 1 exactly
--- for a bad value; 2 where there was no memory; and no other status. After any but 0 the buffer is as it was; after 0 and 5 the size is that of the body, and else as
--- it was.
-pub record IsBodyWritten (Bad : Type 0) (value : Value) (old new : List ℕ) (before size status : ℕ) : Type 0 where
-  pub written : status ≡ 0 → StandsAt 0 (encoding_of value) old new
-  pub small : status ≡ 5 → length old < length (encoding_of value)
-  pub kept : status ≢ 0 → new ≡ old
-  pub told : IsOneOf (0 ∷ 5 ∷ []) status → size ≡ length (encoding_of value)
-  pub untold : status ≢ 0 → status ≢ 5 → size ≡ before
-  pub bad : (status ≡ 1) ↔ Bad
-  pub known : IsOneOf (0 ∷ 1 ∷ 2 ∷ 5 ∷ []) status
+-- the body of a value is to be written at the front of a buffer, by a value of C's that may be bad
+abbrev pub IsBodyWritten : Type 0 → Value → List ℕ → List ℕ → ℕ → ℕ → ℕ → Type 0
+IsBodyWritten Bad value old new before size status = IsTextWritten Bad (encoding_of value) old new before size status
 
 -- what is there, where C says so
 abbrev pub where_set : {X : Type 0} → ℕ → X → Option X

@@ -4,6 +4,7 @@ pub mod Bodies
 pub mod Commands
 pub mod Common
 pub mod Contexts
+pub mod ElementTexts
 pub mod Ends
 pub mod Faults
 pub mod Handles

@@ -22,6 +22,23 @@ pub record IsWritten (Bad : Type 0) (place : ℕ) (text old new : List ℕ) (bef
   pub bad : (status ≡ 1) ↔ Bad
   pub known : IsOneOf (0 ∷ 1 ∷ 5 ∷ []) status
 
+-- A text for which memory is taken is to be written at the front of a buffer, by values that may be bad: 0 where it stands there; 5 where there is less room; 1 exactly
+-- for a bad value; 2 where there was no memory; and no other status. After any but 0 the buffer is as it was; after 0 and 5 the size is that of the text, and else as
+-- it was.
+pub record IsTextWritten (Bad : Type 0) (text old new : List ℕ) (before size status : ℕ) : Type 0 where
+  pub written : status ≡ 0 → StandsAt 0 text old new
+  pub small : status ≡ 5 → length old < length text
+  pub kept : status ≢ 0 → new ≡ old
+  pub told : IsOneOf (0 ∷ 5 ∷ []) status → size ≡ length text
+  pub untold : status ≢ 0 → status ≢ 5 → size ≡ before
+  pub bad : (status ≡ 1) ↔ Bad
+  pub known : IsOneOf (0 ∷ 1 ∷ 2 ∷ 5 ∷ []) status
+
+-- a text is to be written at the front of a buffer, where there is one: 4 where there is none, and then all is as it was
+abbrev pub IsSomeWritten : Option (List ℕ) → List ℕ → List ℕ → ℕ → ℕ → ℕ → Type 0
+IsSomeWritten None old new before size status = (status ≡ 4) × (new ≡ old) × (size ≡ before)
+IsSomeWritten (Some text) old new before size status = IsWritten ⊥ 0 text old new before size status
+
 -- 0.1.0
 abbrev pub version : List ℕ
 version = 48 ∷ 46 ∷ 49 ∷ 46 ∷ 48 ∷ []

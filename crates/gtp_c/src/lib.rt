@@ -10,6 +10,7 @@ mod control;
 mod datagram;
 mod detached_box;
 mod element_reads;
+mod element_texts;
 mod elements;
 mod ends;
 mod fault;

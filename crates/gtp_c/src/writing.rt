@@ -12,7 +12,7 @@ use gtp_user::kinds::G_PDU;
 use gtp_v2::flags::{MESSAGE_PRIORITY, VERSION_2, WITH_TEID};
 
 /// The most octets that two octets can state.
-const LONGEST: usize = 65_535;
+pub(crate) const LONGEST: usize = 65_535;
 
 /// Writes two pieces at a place where there is room for both.
 fn put_parts(buffer: &mut [u8], place: usize, head: &[u8], body: &[u8])

@@ -1,6 +1,7 @@
 -- What a writer of the lines of datagrams has.
 use Rattle.std.proofs.Common.{◌≡◌, ◌≢◌, ◌⊎◌, ℕ, suc, ◌+◌, ◌-◌, ◌^◌, ◌<◌, ◌≤◌, Bool, true, false, List, [], ◌∷◌, ◌++◌, length, length-append, Option}
 use Rattle.std.proofs.Common.{Some, None, Result, Err, inl, inr, refl, sym, ap, subst, ◌∙◌, arith}
+use Rattle.std.specs.Borrow.{Bor}
 use Rattle.std.specs.Int.{from_bool}
 use Rattle.std.specs.Io.KnownBytes.{Appends}
 use Rattle.std.proofs.KnownBytes.{Appends-trans}
@@ -31,7 +32,7 @@ use Rattle.gtp_commands.specs.declared.capturing.FrameWriter.{FrameWriter}
 -- what a writer has by datagrams
 pub record HasShown {W : Type 0} (contents : W → Option (List ℕ)) (before : FrameWriter W) (ds : List Seen) (after : FrameWriter W) : Type 0 where
   pub text : List ℕ
-  pub lines : AreShown before.asked before.counts ds text after.counts
+  pub lines : AreShown before.asked.now before.counts ds text after.counts
   pub written : Appends (contents (inner_of before.out)) (contents (inner_of after.out)) text
   pub failed : NoneFailed before.out after.out
   pub asked : after.asked ≡ before.asked
@@ -54,16 +55,16 @@ has_shown contents before (d ∷ ds) after (next, inl (out, same), later) =
     let rest = has_shown contents next ds after later in
     record {
       text = rest.text;
-      lines = inl (out, subst (λ (w : FrameWriter _). AreShown w.asked w.counts ds rest.text after.counts) same rest.lines);
+      lines = inl (out, subst (λ (w : FrameWriter _). AreShown w.asked.now w.counts ds rest.text after.counts) same rest.lines);
       written = subst (λ (w : FrameWriter _). Appends (contents (inner_of w.out)) (contents (inner_of after.out)) rest.text) same rest.written;
       failed = rest.failed ∙ ap (λ (w : FrameWriter _). failures_of w.out) same;
       asked = rest.asked ∙ ap (λ (w : FrameWriter _). w.asked) same;
     }
 has_shown contents before (d ∷ ds) after (next, inr (lines, faulty, shows, form, written, counts, failed), later) =
     let rest = has_shown contents next ds after later in
-    let others : AreShown before.asked (counted before.counts d.packet faulty) ds rest.text after.counts =
-    subst (λ (f : FramesAsked). AreShown f (counted before.counts d.packet faulty) ds rest.text after.counts) form
-    (subst (λ (c : Counts). AreShown next.asked c ds rest.text after.counts) counts rest.lines) in
+    let others : AreShown before.asked.now (counted before.counts d.packet faulty) ds rest.text after.counts =
+    subst (λ (f : Bor FramesAsked). AreShown f.now (counted before.counts d.packet faulty) ds rest.text after.counts) form
+    (subst (λ (c : Counts). AreShown next.asked.now c ds rest.text after.counts) counts rest.lines) in
     record {
       text = lines ++ rest.text;
       lines = inr (lines, faulty, rest.text, shows, others, refl);
@@ -78,26 +79,26 @@ same_failure a b e = cc
 -- so the writer has the lines of these frames' datagrams, and counts them
 pub frames_shown : {W : Type 0} (contents : W → Option (List ℕ)) (ports : Ports) (before after : FrameWriter W) (frames : List Frame) → before.counts ≡ nothing_shown
     → Takes (TakesFrame contents) before (datagrams ports 1 frames) after
-    → AreWritten before.asked ports frames (contents (inner_of before.out)) (contents (inner_of after.out)) after.counts
+    → AreWritten before.asked.now ports frames (contents (inner_of before.out)) (contents (inner_of after.out)) after.counts
 frames_shown contents ports before after frames none taken =
     let shown = has_shown contents before (datagrams ports 1 frames) after taken in
     record {
       text = shown.text;
-      lines = subst (λ (c : Counts). AreShown before.asked c (datagrams ports 1 frames) shown.text after.counts) none shown.lines;
+      lines = subst (λ (c : Counts). AreShown before.asked.now c (datagrams ports 1 frames) shown.text after.counts) none shown.lines;
       written = shown.written;
     }
 
 -- where no record or block stands from an octet on, those of the frames before it
 pub broken_shown : {W : Type 0} (contents : W → Option (List ℕ)) (ports : Ports) (file : List ℕ) (before after : FrameWriter W) (at : ℕ)
     → before.counts ≡ nothing_shown → IsRead ports (TakesFrame contents) (RefusesFrame contents) file before after (Err (Broken at))
-    → IsBrokenShown before.asked ports file (contents (inner_of before.out)) (contents (inner_of after.out)) at
+    → IsBrokenShown before.asked.now ports file (contents (inner_of before.out)) (contents (inner_of after.out)) at
 broken_shown contents ports file before after at none (state, frames, rest, hands, broken, place) =
     (state, frames, rest, after.counts, hands.capture, broken, place, frames_shown contents ports before after frames none hands.taken)
 
 -- where a read failed or memory was wanting, those of some first frames, or none
 pub first_shown : {W : Type 0} (contents : W → Option (List ℕ)) (ports : Ports) (file : List ℕ) (before after : FrameWriter W) → before.counts ≡ nothing_shown
     → HandsOnSome ports (TakesFrame contents) file before after
-    → IsFirstShown before.asked ports file (contents (inner_of before.out)) (contents (inner_of after.out))
+    → IsFirstShown before.asked.now ports file (contents (inner_of before.out)) (contents (inner_of after.out))
 first_shown contents ports file before after none (inl same) = inl (ap (λ (w : FrameWriter _). contents (inner_of w.out)) same)
 first_shown contents ports file before after none (inr (state, frames, rest, hands)) =
     inr (state, frames, rest, after.counts, hands.capture, frames_shown contents ports before after frames none hands.taken)
@@ -203,7 +204,7 @@ nothing_more middle after why (inr long) is = (subst (λ (f : Failure). IsUnshow
 pub first_refused : {W : Type 0} (contents : W → Option (List ℕ)) (ports : Ports) (file : List ℕ) (before after : FrameWriter W) (why : Failure)
     → before.counts ≡ nothing_shown → after.unshown ≡ Some why → (why ≡ Memory) ⊎ (why ≡ TooLong)
     → StopsAt ports (TakesFrame contents) (RefusesFrame contents) file before after
-    → IsFirstShown before.asked ports file (contents (inner_of before.out)) (contents (inner_of after.out))
+    → IsFirstShown before.asked.now ports file (contents (inner_of before.out)) (contents (inner_of after.out))
 first_refused contents ports file before after why none noted which stops =
     let same = nothing_more stops.middle after why which (noted_why contents stops.middle after stops.refused.0 why stops.refused.2 noted) in
     let written = frames_shown contents ports before stops.middle stops.frames none stops.taken.taken in
@@ -214,7 +215,7 @@ first_refused contents ports file before after why none noted which stops =
       stops.middle.counts,
       stops.taken.capture,
       subst
-          (λ (w : Counted _). AreWritten before.asked ports stops.frames (contents (inner_of before.out)) (contents (inner_of w)) stops.middle.counts)
+          (λ (w : Counted _). AreWritten before.asked.now ports stops.frames (contents (inner_of before.out)) (contents (inner_of w)) stops.middle.counts)
           (sym same) written,
     )
 
@@ -274,7 +275,7 @@ long_refused contents ports file before after none noted stops =
     let written = frames_shown contents ports before stops.middle stops.frames none stops.taken.taken in
     let full = (noted_why contents stops.middle after stops.refused.0 TooLong stops.refused.2 noted).1 in
     let nothing : AtMost 0 nothing_shown = record { gtp = omega arith; faults = omega arith; cut = omega arith; fragments = omega arith } in
-    let few = shown_few before.asked 0 nothing_shown (datagrams ports 1 stops.frames) written.text stops.middle.counts nothing written.lines in
+    let few = shown_few before.asked.now 0 nothing_shown (datagrams ports 1 stops.frames) written.text stops.middle.counts nothing written.lines in
     omega (
       arith,
       full_long (0 + length (datagrams ports 1 stops.frames)) stops.middle.counts few full,
@@ -285,7 +286,7 @@ long_refused contents ports file before after none noted stops =
 -- a beginning of the lines of the datagram at which a write failed
 front_noted : {W : Type 0} (contents : W → Option (List ℕ)) (middle after : FrameWriter W) (d : Seen) (why : Failure) → RefusesFrame contents middle d after
     → after.unshown ≡ Some why → (why ≡ Write) ⊎ (why ≡ Closed)
-    → IsFrameInPart middle.asked d (contents (inner_of middle.out)) (contents (inner_of after.out))
+    → IsFrameInPart middle.asked.now d (contents (inner_of middle.out)) (contents (inner_of after.out))
 front_noted contents middle after d why (noted, says, is, front) also which =
     let same : noted ≡ why = cc in
     front (subst (λ (f : Failure). (f ≡ Write) ⊎ (f ≡ Closed)) (sym same) which)
@@ -293,7 +294,7 @@ front_noted contents middle after d why (noted, says, is, front) also which =
 pub next_shown : {W : Type 0} (contents : W → Option (List ℕ)) (ports : Ports) (file : List ℕ) (before after : FrameWriter W) (why : Failure)
     → before.counts ≡ nothing_shown → after.unshown ≡ Some why → (why ≡ Write) ⊎ (why ≡ Closed)
     → StopsAt ports (TakesFrame contents) (RefusesFrame contents) file before after
-    → IsNextShown before.asked ports file (contents (inner_of before.out)) (contents (inner_of after.out))
+    → IsNextShown before.asked.now ports file (contents (inner_of before.out)) (contents (inner_of after.out))
 next_shown contents ports file before after why none noted which stops =
     let (d, carries, refuses) = stops.refused in
     let form = (has_shown contents before (datagrams ports 1 stops.frames) stops.middle stops.taken.taken).asked in
@@ -311,6 +312,6 @@ next_shown contents ports file before after why none noted which stops =
       datagram = d;
       carries = carries;
       front =
-          subst (λ (f : FramesAsked). IsFrameInPart f d (contents (inner_of stops.middle.out)) (contents (inner_of after.out))) form
+          subst (λ (f : Bor FramesAsked). IsFrameInPart f.now d (contents (inner_of stops.middle.out)) (contents (inner_of after.out))) form
           (front_noted contents stops.middle after d why refuses noted which);
     }

@@ -79,9 +79,9 @@ AreShown asked before (d ∷ ds) text after =
 -- a writer that takes a datagram is as it was, where that is left out; and else it has its lines after what it had
 abbrev pub TakesFrame : {W : Type 0} → (W → Option (List ℕ)) → FrameWriter W → Seen → FrameWriter W → Type 0
 TakesFrame contents before d after =
-    (IsLeftOut before.asked d × (after ≡ before))
+    (IsLeftOut before.asked.now d × (after ≡ before))
     ⊎ ((lines : List ℕ) × (faulty : Bool)
-    × IsShownSo before.asked d lines faulty × (after.asked ≡ before.asked) × Appends (contents (inner_of before.out)) (contents (inner_of after.out)) lines
+    × IsShownSo before.asked.now d lines faulty × (after.asked ≡ before.asked) × Appends (contents (inner_of before.out)) (contents (inner_of after.out)) lines
     × (after.counts ≡ counted before.counts d.packet faulty) × NoneFailed before.out after.out)
 
 -- one of the counts is at its end
@@ -103,7 +103,7 @@ IsFrameInPart asked d before now = (lines : List ℕ) × (faulty : Bool) × IsSh
 -- a writer that does not show one notes why; where a write failed, it has a beginning of its lines
 abbrev pub RefusesFrame : {W : Type 0} → (W → Option (List ℕ)) → FrameWriter W → Seen → FrameWriter W → Type 0
 RefusesFrame contents before d after = (why : Failure) × (after.unshown ≡ Some why) × IsUnshown why before after
-    × ((why ≡ Write) ⊎ (why ≡ Closed) → IsFrameInPart before.asked d (contents (inner_of before.out)) (contents (inner_of after.out)))
+    × ((why ≡ Write) ⊎ (why ≡ Closed) → IsFrameInPart before.asked.now d (contents (inner_of before.out)) (contents (inner_of after.out)))
 
 -- The writer has the lines of the datagrams that these frames carry, in their order, and no others.
 pub record AreWritten (asked : FramesAsked) (ports : Ports) (frames : List Frame) (before now : Option (List ℕ)) (counts : Counts) : Type 0 where

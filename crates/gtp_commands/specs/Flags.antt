@@ -1,17 +1,20 @@
 -- What the arguments of a command ask for.
-use Rattle.std.specs.Prelude.{◌≡◌, ◌≢◌, ◌<◌, ◌⊎◌, ℕ, Bool, true, false, List, codes, map, Option, Some, None, option_map, IsSomeAnd, bytes_eq}
+use Rattle.std.specs.Prelude.{◌≡◌, ◌≢◌, ◌<◌, ◌⊎◌, ℕ, Bool, true, false, List, codes, map, Option, Some, None, IsSomeAnd, bytes_eq}
 use Rattle.gtp_values.specs.Address.{IsIpText}
-use Rattle.gtp_values.specs.Imsi.{value_of_digit}
+use Rattle.gtp_values.specs.Imsi.{IsImsiText, value_of_digit}
 use Rattle.gtp_values.specs.Teid.{WritesTeid}
 use Rattle.std.specs.Str.Parse.{IsNumeral, digits_value, without_leading_plus}
 use Rattle.gtp_values.specs.declared.plane.Plane.{Plane}
 use Rattle.gtp_values.specs.declared.plane.Plane.TheVariants.{Control, User}
 use Rattle.gtp_json.specs.declared.datagram.Members.TheVariants as members
-use Rattle.gtp_v2.specs.Tables.{table_of}
 use Rattle.gtp_lines.specs.User.{user_name}
 use Rattle.gtp_lines.specs.declared.filter.Kinds.{Kinds}
 use Rattle.gtp_lines.specs.declared.frames.Form.TheVariants as frames
+use Rattle.gtp_lines.specs.declared.type_text.TypeOf.{TypeOf}
+use Rattle.gtp_lines.specs.declared.type_text.TypeOf.TheVariants as types
 use Rattle.gtp_dump.specs.declared.decoding.Asked.{Asked}
+use Rattle.gtp_names.specs.declared.names.Names.{Names}
+use Rattle.gtp_lines.specs.Named.{name_in}
 use Rattle.gtp_dump.specs.declared.decoding.Form.{Form as DumpForm}
 use Rattle.gtp_dump.specs.declared.decoding.Form.TheVariants as dump
 use Rattle.gtp_replay.specs.declared.replaying.Form.{Form as ReplayForm}
@@ -31,19 +34,19 @@ plane_of (Some plane) = plane
 plane_of None = Control
 
 -- what `--json`, `--all` and `--places` ask of `decode`
-abbrev pub dump_form : (json all places : Bool) → DumpForm
-dump_form true true places = dump.Json (members.All places)
-dump_form true false places = dump.Json members.Plain
-dump_form false true places = dump.All
-dump_form false false places = dump.Lines
+abbrev pub dump_form : (names : Names) (json all places : Bool) → DumpForm
+dump_form names true true places = dump.Json (members.All names places)
+dump_form names true false places = dump.Json members.Plain
+dump_form names false true places = dump.All names
+dump_form names false false places = dump.Lines
 
 -- and, with `--brief`, of `capture`
-abbrev pub capture_form : (json brief all places : Bool) → CaptureForm
-capture_form true brief true places = Json (members.All places)
-capture_form true brief false places = Json members.Plain
-capture_form false true all places = Text frames.Brief
-capture_form false false true places = Text frames.All
-capture_form false false false places = Text frames.Lines
+abbrev pub capture_form : (names : Names) (json brief all places : Bool) → CaptureForm
+capture_form names true brief true places = Json (members.All names places)
+capture_form names true brief false places = Json members.Plain
+capture_form names false true all places = Text (frames.Brief names)
+capture_form names false false true places = Text (frames.All names)
+capture_form names false false false places = Text frames.Lines
 
 -- of several forms of `replay` the first counts
 abbrev pub replay_form : (json pcap svg diagram : Bool) → ReplayForm
@@ -52,10 +55,6 @@ replay_form false true svg diagram = replay.Capture
 replay_form false false true diagram = replay.Svg
 replay_form false false false true = replay.Diagram
 replay_form false false false false = replay.Report
-
--- the name of a type of message of the control plane, where it has one
-abbrev pub control_name : ℕ → Option (List ℕ)
-control_name kind = option_map (λ table. table.name) (table_of kind)
 
 -- a type of this name; none where no type has it
 abbrev pub IsKindOf : (ℕ → Option (List ℕ)) → List ℕ → Option ℕ → Type 0
@@ -71,10 +70,35 @@ abbrev pub numbered : ℕ → Kinds
 numbered kind = record { control = Some kind; user = Some kind }
 
 -- what `--type` asks for: the type of this number on both planes, or those of this name
-abbrev pub AreKinds : List ℕ → Kinds → Type 0
-AreKinds word kinds =
+abbrev pub AreKinds : Names → List ℕ → Kinds → Type 0
+AreKinds names word kinds =
     (IsKindNumber word × (kinds ≡ numbered (digits_value 10 (without_leading_plus word))))
-    ⊎ ((IsKindNumber word → ⊥) × IsKindOf control_name word kinds.control × IsKindOf user_name word kinds.user)
+    ⊎ ((IsKindNumber word → ⊥) × IsKindOf (name_in names) word kinds.control × IsKindOf user_name word kinds.user)
+
+-- the word for what has types
+abbrev pub type_word : TypeOf → List ℕ
+type_word types.Element = codes "element"
+type_word types.Message = codes "message"
+type_word types.ExtensionHeader = codes "extension"
+
+-- what a word names; none where it is the word for nothing that has types
+abbrev pub IsTypeWord : List ℕ → Option TypeOf → Type 0
+IsTypeWord word (Some what) = word ≡ type_word what
+IsTypeWord word None = (what : TypeOf) → word ≢ type_word what
+
+-- the base in which a type is written
+abbrev pub type_base : TypeOf → ℕ
+type_base types.ExtensionHeader = 16
+type_base other = 10
+
+-- the word writes a type: a number below 256 in that base
+abbrev pub WritesType : TypeOf → List ℕ → Type 0
+WritesType what word = IsNumeral (type_base what) (without_leading_plus word) × (digits_value (type_base what) (without_leading_plus word) < 256)
+
+-- the type that a word writes; none where it writes none
+abbrev pub IsTypeWritten : TypeOf → List ℕ → Option ℕ → Type 0
+IsTypeWritten what word (Some kind) = WritesType what word × (kind ≡ digits_value (type_base what) (without_leading_plus word))
+IsTypeWritten what word None = ¬ WritesType what word
 
 -- of no plane
 abbrev pub no_kinds : Kinds
@@ -95,12 +119,12 @@ abbrev pub is_set : Values → List ℕ → Bool
 is_set values name = says_true (values name)
 
 -- what the words of `decode` ask for
-abbrev pub dump_of : Values → Asked
-dump_of values = record { plane = plane_named (is_set values (codes "user")); form = dump_form (is_set values (codes "json")) (is_set values (codes "all")) (is_set values (codes "places")); join = is_set values (codes "join") }
+abbrev pub dump_of : Names → Values → Asked
+dump_of names values = record { plane = plane_named (is_set values (codes "user")); form = dump_form names (is_set values (codes "json")) (is_set values (codes "all")) (is_set values (codes "places")); join = is_set values (codes "join") }
 
 -- in which form the words of `capture` and of `replay` ask for what is shown
-abbrev pub capture_form_of : Values → CaptureForm
-capture_form_of values = capture_form (is_set values (codes "json")) (is_set values (codes "brief")) (is_set values (codes "all")) (is_set values (codes "places"))
+abbrev pub capture_form_of : Names → Values → CaptureForm
+capture_form_of names values = capture_form names (is_set values (codes "json")) (is_set values (codes "brief")) (is_set values (codes "all")) (is_set values (codes "places"))
 
 abbrev pub replay_form_of : Values → ReplayForm
 replay_form_of values = replay_form (is_set values (codes "json")) (is_set values (codes "pcap")) (is_set values (codes "svg")) (is_set values (codes "diagram"))
@@ -110,18 +134,23 @@ abbrev pub IsSaid : {X : Type 0} → (List ℕ → X → Type 0) → Option (Lis
 IsSaid Says None value = value ≡ None
 IsSaid Says (Some word) value = IsSomeAnd value (Says word)
 
--- the number that a word is
-abbrev pub SaysPort : List ℕ → ℕ → Type 0
-SaysPort word port = port ≡ digits_value 10 (without_leading_plus word)
+-- the word is a number that a port has, below 65,536
+abbrev pub IsPortNumber : List ℕ → Type 0
+IsPortNumber word = IsNumeral 10 (without_leading_plus word) × (digits_value 10 (without_leading_plus word) < 65536)
 
+-- the port of this number
+abbrev pub SaysPort : List ℕ → ℕ → Type 0
+SaysPort word port = IsPortNumber word × (port ≡ digits_value 10 (without_leading_plus word))
+
+-- the subscriber whose digits the word writes
 abbrev pub SaysImsi : List ℕ → List ℕ → Type 0
-SaysImsi word digits = digits ≡ map value_of_digit word
+SaysImsi word digits = IsImsiText word × (digits ≡ map value_of_digit word)
 
 -- what the words of `capture` ask for
-pub record IsCaptureAsked (values : Values) (asked : CaptureAsked) : Type 0 where
-  pub form : asked.frames.form ≡ capture_form_of values
+pub record IsCaptureAsked (names : Names) (values : Values) (asked : CaptureAsked) : Type 0 where
+  pub form : asked.frames.form ≡ capture_form_of names values
   pub faults : asked.frames.only_faults ≡ is_set values (codes "faults")
-  pub kinds : IsSaid AreKinds (values (codes "type")) asked.frames.filter.kinds
+  pub kinds : IsSaid (AreKinds names) (values (codes "type")) asked.frames.filter.kinds
   pub imsi : IsSaid SaysImsi (values (codes "imsi")) asked.frames.filter.imsi
   pub teid : IsSaid WritesTeid (values (codes "teid")) asked.frames.filter.teid
   pub address : IsSaid IsIpText (values (codes "address")) asked.frames.filter.address

@@ -53,9 +53,9 @@ replay_words =
 abbrev pub gateway_words : App
 gateway_words = new_app (codes "gateway")
 
--- to explain codes
+-- to explain codes and types
 abbrev pub explain_words : App
-explain_words = with_rule (new_app (codes "explain")) (plain_word (codes "code"))
+explain_words = with_rule (with_rule (new_app (codes "explain")) (plain_word (codes "code"))) (plain_word (codes "type"))
 
 -- the program's name, before a subcommand; the program has a version
 abbrev pub gtpshow_word : Shape

@@ -131,7 +131,7 @@ fn counts_text(alloc: Global, frames: u64, counts: Counts) -> Result<Vec<u8>, Al
 }
 
 /// In which form the datagrams of a capture are shown.
-#[derive(Clone, Copy, Debug, PartialEq, Eq)]
+#[derive(Clone, Copy, Debug)]
 pub enum CaptureForm {
     /// As lines.
     Text(Form),
@@ -162,19 +162,19 @@ fn shown_as(alloc: Global, form: CaptureForm, captured: &Captured) -> Result<Sho
 
 /// A writer of the lines of datagrams, in a form.
 #[derive(Drop)]
-pub struct FrameWriter<W> {
+pub struct FrameWriter<'a, W> {
     alloc: Global,
-    asked: FramesAsked,
+    asked: &'a FramesAsked,
     out: Counted<W>,
     counts: Counts,
     /// Why a datagram was not shown.
     unshown: Option<Failure>,
 }
 
-impl<W: Write> FrameWriter<W> {
+impl<'a, W: Write> FrameWriter<'a, W> {
     /// A writer that has shown no datagram.
-    fn new(alloc: Global, asked: FramesAsked, out: W) -> FrameWriter<W>
-        ensures asked { result.asked ≡ asked }
+    fn new(alloc: Global, asked: &'a FramesAsked, out: W) -> FrameWriter<'a, W>
+        ensures asked { result.asked.now ≡ asked.now }
         ensures out { inner_of result.out ≡ out }
         ensures writes { failures_of result.out ≡ 0 }
         ensures counts { result.counts ≡ nothing_shown }
@@ -194,7 +194,7 @@ impl<W: Write> FrameWriter<W> {
     }
 }
 
-impl<W: Write> Sink for FrameWriter<W> {
+impl<'a, W: Write> Sink for FrameWriter<'a, W> {
     ghost takes = { λ before d after. TakesFrame W.contents before d after };
 
     ghost refuses = { λ before d after. RefusesFrame W.contents before d after };
@@ -235,23 +235,23 @@ fn frames_from<I: Read, W: Write>(
     requires reads { failures_of reader.old < 2 ^ 64 - 1 }
     requires writes { failures_of writer.old.out < 2 ^ 64 - 1 }
     ensures shown { IfOk result (λ frames. IfSome (I.remaining (inner_of reader.old)) (λ file.
-        AreFramesShown writer.old.asked ports file
+        AreFramesShown writer.old.asked.now ports file
         (W.contents (inner_of writer.old.out)) (W.contents (inner_of writer.new.out))
         frames writer.new.counts)) }
     ensures broken { (at : ℕ) → result ≡ Err (Failure.BrokenCapture at) →
         IfSome (I.remaining (inner_of reader.old)) (λ file.
-        IsBrokenShown writer.old.asked ports file
+        IsBrokenShown writer.old.asked.now ports file
         (W.contents (inner_of writer.old.out)) (W.contents (inner_of writer.new.out)) at) }
     ensures bad { result ≡ Err Failure.BadCapture →
         IfSome (I.remaining (inner_of reader.old)) (λ file. IsNoCapture file
         (W.contents (inner_of writer.old.out)) (W.contents (inner_of writer.new.out))) }
     ensures first { (result ≡ Err Failure.Memory) ⊎ (result ≡ Err Failure.Read)
         ⊎ (result ≡ Err Failure.TooLong) → IfSome (I.remaining (inner_of reader.old)) (λ file.
-        IsFirstShown writer.old.asked ports file
+        IsFirstShown writer.old.asked.now ports file
         (W.contents (inner_of writer.old.out)) (W.contents (inner_of writer.new.out))) }
     ensures next { (result ≡ Err Failure.Write) ⊎ (result ≡ Err Failure.Closed) →
         IfSome (I.remaining (inner_of reader.old)) (λ file.
-        IsNextShown writer.old.asked ports file
+        IsNextShown writer.old.asked.now ports file
         (W.contents (inner_of writer.old.out)) (W.contents (inner_of writer.new.out))) }
     ensures long { result ≡ Err Failure.TooLong →
         IfSome (I.remaining (inner_of reader.old)) (λ file. 2 ^ 64 - 1 ≤ length file) }
@@ -316,25 +316,25 @@ fn capture_from<I: Read, W: Write>(
     requires reads { failures_of reader.old < 2 ^ 64 - 1 }
     requires writes { failures_of writer.old.out < 2 ^ 64 - 1 }
     ensures shown { IfOk result (λ status. IfSome (I.remaining (inner_of reader.old)) (λ file.
-        IsCaptureShown writer.old.asked ports file
+        IsCaptureShown writer.old.asked.now ports file
         (W.contents (inner_of writer.old.out)) (W.contents (inner_of writer.new.out)) status)) }
     ensures small { IfOk result (λ status. status ≤ 1) }
     ensures broken { (at : ℕ) → result ≡ Err (Failure.BrokenCapture at) →
         IfSome (I.remaining (inner_of reader.old)) (λ file.
-        IsBrokenShown writer.old.asked ports file
+        IsBrokenShown writer.old.asked.now ports file
         (W.contents (inner_of writer.old.out)) (W.contents (inner_of writer.new.out)) at) }
     ensures bad { result ≡ Err Failure.BadCapture →
         IfSome (I.remaining (inner_of reader.old)) (λ file. IsNoCapture file
         (W.contents (inner_of writer.old.out)) (W.contents (inner_of writer.new.out))) }
     ensures first { (result ≡ Err Failure.Memory) ⊎ (result ≡ Err Failure.Read)
         ⊎ (result ≡ Err Failure.TooLong) → IfSome (I.remaining (inner_of reader.old)) (λ file.
-        IsFirstShown writer.old.asked ports file
+        IsFirstShown writer.old.asked.now ports file
         (W.contents (inner_of writer.old.out)) (W.contents (inner_of writer.new.out))) }
     ensures next { (result ≡ Err Failure.Write) ⊎ (result ≡ Err Failure.Closed) →
         IfSome (I.remaining (inner_of reader.old)) (λ file.
-        IsNextShown writer.old.asked ports file
+        IsNextShown writer.old.asked.now ports file
         (W.contents (inner_of writer.old.out)) (W.contents (inner_of writer.new.out))
-        ⊎ IsCountShown writer.old.asked ports file
+        ⊎ IsCountShown writer.old.asked.now ports file
         (W.contents (inner_of writer.old.out)) (W.contents (inner_of writer.new.out))) }
     ensures long { result ≡ Err Failure.TooLong →
         IfSome (I.remaining (inner_of reader.old)) (λ file. 2 ^ 64 - 1 ≤ length file) }
@@ -361,7 +361,7 @@ pub struct CaptureAsked {
 fn capture_printed<R: Print + Eprint, I: Read + Drop>(
     rt: &R,
     alloc: Global,
-    asked: CaptureAsked,
+    asked: &CaptureAsked,
     name: &str,
     reader: I,
 ) -> Result<u8, Failure>
@@ -374,7 +374,7 @@ fn capture_printed<R: Print + Eprint, I: Read + Drop>(
         |_| Failure::Memory,
     )?;
     let mut reader = Counted::new(reader);
-    let mut writer = FrameWriter::new(alloc, asked.frames, out);
+    let mut writer = FrameWriter::new(alloc, &asked.frames, out);
     let shown = capture_from(alloc, asked.ports, &mut reader, &mut writer);
     writer.out.flush().map_err(unwritten)?;
     let read = reader.into_inner().into_inner();
@@ -397,7 +397,7 @@ fn capture_printed<R: Print + Eprint, I: Read + Drop>(
 pub fn capture_file<R: Print + Eprint + Input + Files>(
     rt: &R,
     alloc: Global,
-    asked: CaptureAsked,
+    asked: &CaptureAsked,
     name: &str,
 ) -> Result<u8, Failure>
     ensures { IfOk result (λ status. status ≤ 2) }

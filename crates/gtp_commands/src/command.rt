@@ -48,6 +48,12 @@ Lines:
 FORMATS.md (docs, or share/doc/gtpshow where it is installed) lists all lines and answers; examples/bridge
 beside it joins UDP sockets to it";
 
+const TYPES: &str = "\
+Types:
+  gtpshow explain element 86      an element of GTPv2-C (TS 29.274), from 0 to 255
+  gtpshow explain message 170     a message of GTPv2-C, from 0 to 255
+  gtpshow explain extension 85    an extension header of GTP-U (TS 29.281), two hexadecimal digits";
+
 /// An option without a value.
 fn flag<'a>(alloc: Global, name: &'a str, help: &'a str) -> Arg<'a>
     ensures rule { rule_of result ≡ flag_word name.entry.now }
@@ -308,14 +314,25 @@ fn explain_command<'a>(alloc: Global) -> Result<Command<'a>, AllocError>
     ensures words { IfOk result (λ command. app_of command ≡ explain_words) }
     ensures own { IfOk result (λ command. (fields_of command).has_globals ≡ false) }
 {
-    let command = Command::new(alloc, "explain").about("Says what a code or a cause means");
-    taking(
+    let command = Command::new(alloc, "explain")
+        .about("Says what a code, a cause or a type means")
+        .after_help(TYPES);
+    let command = taking(
         command,
         word(
             alloc,
             "code",
             "CODE",
             "A code, as H6, X3 or S1, the number of a cause, or the word cause; all without a word",
+        ),
+    )?;
+    taking(
+        command,
+        word(
+            alloc,
+            "type",
+            "TYPE",
+            "The type, after one of the words element, message and extension",
         ),
     )
 }

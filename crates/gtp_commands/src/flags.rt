@@ -1,13 +1,13 @@
 //! What the arguments of a command ask for.
 
-ghost use Rattle.std.specs.Prelude.{◌≡◌, ◌≢◌, ◌^◌, ◌<◌, None, Ok, Some, Err, true, false, IfOk, IfErr, IfSome, IsSomeAnd, OnOk, OnErr, map, option_map, if◌then◌else◌};
+ghost use Rattle.std.specs.Prelude.{◌≡◌, ◌≢◌, None, Ok, Some, Err, true, false, IfOk, IfErr, IfSome, IsSomeAnd, OnOk, OnErr, option_map, if◌then◌else◌};
 ghost use Rattle.std.specs.IoError.{error_kind};
-ghost use Rattle.std.specs.Str.Parse.{IsNumeral, digits_value, without_leading_plus};
+ghost use Rattle.gtp_lines.specs.Named.{name_in as spec_name_in};
 ghost use Rattle.gtp_lines.specs.User.{user_name as spec_user_name};
 ghost use Rattle.gtp_values.specs.Address.{IsIpText, SomeIpText};
-ghost use Rattle.gtp_values.specs.Imsi.{IsImsiText, value_of_digit};
+ghost use Rattle.gtp_values.specs.Imsi.{IsImsiText};
 ghost use Rattle.gtp_values.specs.Teid.{IsTeidText, WritesTeid};
-ghost use Rattle.gtp_commands.specs.Flags.{plane_named, plane_of, dump_form, capture_form, replay_form, control_name, IsKindOf, AreKinds, no_kinds, is_set, dump_of, capture_form_of, replay_form_of, IsCaptureAsked};
+ghost use Rattle.gtp_commands.specs.Flags.{plane_named, plane_of, dump_form, capture_form, replay_form, IsKindOf, IsTypeWord, type_base, IsTypeWritten, AreKinds, no_kinds, IsPortNumber, SaysPort, SaysImsi, is_set, dump_of, capture_form_of, replay_form_of, IsCaptureAsked};
 ghost use Rattle.clap.specs.Words.{first_value, found_of};
 
 use crate::capturing::{CaptureAsked, CaptureForm, FramesAsked};
@@ -16,8 +16,7 @@ use clap::ArgMatches;
 use gtp_capture::Ports;
 use gtp_dump::Asked;
 use gtp_json::Members;
-use gtp_lines::{Filter, Form, Imsi, Ip, Kinds, Plane, Teid, user_name};
-use gtp_v2::type_name;
+use gtp_lines::{Filter, Form, Imsi, Ip, Kinds, Names, Plane, Teid, TypeOf, name_in, user_name};
 use std::io::{self, ErrorKind};
 
 /// The plane that is named.
@@ -35,26 +34,32 @@ pub fn plane_of(named: Option<Plane>) -> Plane
 }
 
 /// In which form `decode` shows datagrams.
-fn dump_form(is_json: bool, is_all: bool, places: bool) -> gtp_dump::Form
-    ensures { result ≡ dump_form is_json is_all places }
+fn dump_form(names: Names, is_json: bool, is_all: bool, places: bool) -> gtp_dump::Form
+    ensures { result ≡ dump_form names is_json is_all places }
 {
     match (is_json, is_all) {
-        (true, true) => gtp_dump::Form::Json(Members::All { places }),
+        (true, true) => gtp_dump::Form::Json(Members::All { names, places }),
         (true, false) => gtp_dump::Form::Json(Members::Plain),
-        (false, true) => gtp_dump::Form::All,
+        (false, true) => gtp_dump::Form::All(names),
         (false, false) => gtp_dump::Form::Lines,
     }
 }
 
 /// In which form `capture` shows them.
-fn capture_form(is_json: bool, is_brief: bool, is_all: bool, places: bool) -> CaptureForm
-    ensures { result ≡ capture_form is_json is_brief is_all places }
+fn capture_form(
+    names: Names,
+    is_json: bool,
+    is_brief: bool,
+    is_all: bool,
+    places: bool,
+) -> CaptureForm
+    ensures { result ≡ capture_form names is_json is_brief is_all places }
 {
     match (is_json, is_brief, is_all) {
-        (true, _, true) => CaptureForm::Json(Members::All { places }),
+        (true, _, true) => CaptureForm::Json(Members::All { names, places }),
         (true, _, false) => CaptureForm::Json(Members::Plain),
-        (false, true, _) => CaptureForm::Text(Form::Brief),
-        (false, false, true) => CaptureForm::Text(Form::All),
+        (false, true, _) => CaptureForm::Text(Form::Brief(names)),
+        (false, false, true) => CaptureForm::Text(Form::All(names)),
         (false, false, false) => CaptureForm::Text(Form::Lines),
     }
 }
@@ -82,13 +87,14 @@ fn is_set(asked: &ArgMatches, name: &str) -> bool
     }
 }
 
-/// What the arguments of `decode` ask for.
-pub fn dump_asked(asked: &ArgMatches) -> Asked
-    ensures { result ≡ dump_of (first_value (found_of asked.now)) }
+/// What the arguments of `decode` ask for, by these names and forms.
+pub fn dump_asked(names: Names, asked: &ArgMatches) -> Asked
+    ensures { result ≡ dump_of names (first_value (found_of asked.now)) }
 {
     Asked {
         plane: plane_named(is_set(asked, "user")),
         form: dump_form(
+            names,
             is_set(asked, "json"),
             is_set(asked, "all"),
             is_set(asked, "places"),
@@ -98,10 +104,11 @@ pub fn dump_asked(asked: &ArgMatches) -> Asked
 }
 
 /// In which form those of `capture` ask for datagrams.
-fn capture_form_asked(asked: &ArgMatches) -> CaptureForm
-    ensures { result ≡ capture_form_of (first_value (found_of asked.now)) }
+fn capture_form_asked(names: Names, asked: &ArgMatches) -> CaptureForm
+    ensures { result ≡ capture_form_of names (first_value (found_of asked.now)) }
 {
     capture_form(
+        names,
         is_set(asked, "json"),
         is_set(asked, "brief"),
         is_set(asked, "all"),
@@ -121,12 +128,12 @@ pub fn replay_form_asked(asked: &ArgMatches) -> gtp_replay::Form
     )
 }
 
-/// What the arguments of `capture` ask for: `BadFilter` and `BadPort` for words that say nothing of their kind.
-pub fn capture_asked(asked: &ArgMatches) -> Result<CaptureAsked, Failure>
-    ensures asked { IfOk result (IsCaptureAsked (first_value (found_of asked.now))) }
+/// What the arguments of `capture` ask for, by these names and forms: `BadFilter` and `BadPort` for words that say nothing of their kind.
+pub fn capture_asked(names: Names, asked: &ArgMatches) -> Result<CaptureAsked, Failure>
+    ensures asked { IfOk result (IsCaptureAsked names (first_value (found_of asked.now))) }
 {
     let filter = Filter {
-        kinds: kinds_of(asked.get_str("type"))?,
+        kinds: kinds_of(&names, asked.get_str("type"))?,
         imsi: imsi_of(asked.get_str("imsi"))?,
         teid: teid_of(asked.get_str("teid"))?,
         address: address_of(asked.get_str("address"))?,
@@ -136,7 +143,7 @@ pub fn capture_asked(asked: &ArgMatches) -> Result<CaptureAsked, Failure>
         user: port_of(asked.get_str("user-port"))?,
     };
     let frames = FramesAsked {
-        form: capture_form_asked(asked),
+        form: capture_form_asked(names, asked),
         filter,
         only_faults: is_set(asked, "faults"),
     };
@@ -146,12 +153,9 @@ pub fn capture_asked(asked: &ArgMatches) -> Result<CaptureAsked, Failure>
 /// The port of a word, where there is one: `BadPort` for what is no number from 0 to 65,535.
 fn port_of(word: Option<&str>) -> Result<Option<u16>, Failure>
     ensures none { word.entry ≡ None → result ≡ Ok None }
-    ensures some { IfSome word.entry (λ w. IfOk result (λ port.
-        port ≡ Some (digits_value 10 (without_leading_plus w.now)))) }
+    ensures some { IfSome word.entry (λ w. IfOk result (λ port. IsSomeAnd port (SaysPort w.now))) }
     ensures bad { IfErr result (λ failure. failure ≡ Failure.BadPort) }
-    ensures only { OnErr result (IfSome word.entry (λ w.
-        ¬ (IsNumeral 10 (without_leading_plus w.now)
-        × (digits_value 10 (without_leading_plus w.now) < 2 ^ 16)))) }
+    ensures only { OnErr result (IfSome word.entry (λ w. ¬ IsPortNumber w.now)) }
 {
     match word {
         Some(word) => match word.parse::<u16>() {
@@ -174,11 +178,11 @@ fn is_called(name: Option<&str>, word: &str) -> bool
 }
 
 /// The type of a message of the control plane that is called so.
-fn control_kind(word: &str) -> Option<u8>
-    ensures { IsKindOf control_name word.now result }
+fn control_kind(names: &Names, word: &str) -> Option<u8>
+    ensures { IsKindOf (spec_name_in names.now) word.now result }
 {
     for kind in 0..=u8::MAX {
-        if is_called(type_name(kind), word) {
+        if is_called(name_in(names, kind), word) {
             return Some(kind);
         }
     }
@@ -198,8 +202,8 @@ fn user_kind(word: &str) -> Option<u8>
 }
 
 /// The types of messages of a number or a name.
-fn kinds_called(word: &str) -> Kinds
-    ensures { AreKinds word.now result }
+fn kinds_called(names: &Names, word: &str) -> Kinds
+    ensures { AreKinds names.now word.now result }
 {
     match word.parse::<u8>() {
         Ok(kind) => Kinds {
@@ -207,23 +211,23 @@ fn kinds_called(word: &str) -> Kinds
             user: Some(kind),
         },
         Err(_) => Kinds {
-            control: control_kind(word),
+            control: control_kind(names, word),
             user: user_kind(word),
         },
     }
 }
 
 /// The types of messages that a word asks for, where there is one: `BadFilter` where no message is called so.
-pub fn kinds_of(word: Option<&str>) -> Result<Option<Kinds>, Failure>
+pub fn kinds_of(names: &Names, word: Option<&str>) -> Result<Option<Kinds>, Failure>
     ensures none { word.entry ≡ None → result ≡ Ok None }
-    ensures some { IfSome word.entry (λ w. IfOk result (λ kinds. IsSomeAnd kinds (AreKinds w.now))) }
+    ensures some { IfSome word.entry (λ w. IfOk result (λ kinds. IsSomeAnd kinds (AreKinds names.now w.now))) }
     ensures bad { IfErr result (λ failure. failure ≡ Failure.BadFilter) }
-    ensures only { OnErr result (IfSome word.entry (λ w. AreKinds w.now no_kinds)) }
+    ensures only { OnErr result (IfSome word.entry (λ w. AreKinds names.now w.now no_kinds)) }
 {
     let Some(word) = word else {
         return Ok(None);
     };
-    match kinds_called(word) {
+    match kinds_called(names, word) {
         Kinds {
             control: None,
             user: None,
@@ -235,8 +239,7 @@ pub fn kinds_of(word: Option<&str>) -> Result<Option<Kinds>, Failure>
 /// The subscriber of a word, where there is one: `BadFilter` for what is not 6 to 15 decimal digits.
 pub fn imsi_of(word: Option<&str>) -> Result<Option<Imsi>, Failure>
     ensures none { word.entry ≡ None → result ≡ Ok None }
-    ensures some { IfSome word.entry (λ w. IfOk result (λ imsi.
-        IsSomeAnd imsi (λ digits. digits ≡ map value_of_digit w.now))) }
+    ensures some { IfSome word.entry (λ w. IfOk result (λ imsi. IsSomeAnd imsi (SaysImsi w.now))) }
     ensures bad { IfErr result (λ failure. failure ≡ Failure.BadFilter) }
     ensures only { OnErr result (IfSome word.entry (λ w. ¬ IsImsiText w.now)) }
 {
@@ -279,6 +282,35 @@ fn address_of(word: Option<&str>) -> Result<Option<Ip>, Failure>
         },
         None => Ok(None),
     }
+}
+
+/// What has types, by its word; none where the word is another.
+pub fn type_of_word(word: &str) -> Option<TypeOf>
+    ensures { IsTypeWord word.now result }
+{
+    match word {
+        "element" => Some(TypeOf::Element),
+        "message" => Some(TypeOf::Message),
+        "extension" => Some(TypeOf::ExtensionHeader),
+        _ => None,
+    }
+}
+
+/// The base in which a type is written: 16 for extension headers, and else 10.
+fn type_base(what: TypeOf) -> u32
+    ensures { result ≡ type_base what }
+{
+    match what {
+        TypeOf::ExtensionHeader => 16,
+        TypeOf::Element | TypeOf::Message => 10,
+    }
+}
+
+/// The type that a word writes; none where it writes no number from 0 to 255.
+pub fn type_written(what: TypeOf, word: &str) -> Option<u8>
+    ensures { IsTypeWritten what word.now result }
+{
+    u8::from_str_radix(word, type_base(what)).ok()
 }
 
 /// The error for arguments that cannot be read.

@@ -1,12 +1,13 @@
 //! What standard error says after the first line of a failure: the word or the file, and the reason.
 
 use crate::command::{Failure, command};
-use crate::flags::{imsi_of, kinds_of, teid_of};
+use crate::flags::{imsi_of, kinds_of, teid_of, type_of_word, type_written};
 use crate::watched_readers::Watched;
 use clap::ArgMatches;
 use gtp_capture::begins_as_capture;
 use gtp_dump::{Flaw, Hint, LineFault, begins_dump, flaw_of, hint_of, read_line, row_digits};
-use gtp_lines::{Plane, decode_lines, fault_context};
+use gtp_lines::{Plane, TypeOf, decode_lines, fault_context};
+use gtp_names::all_names;
 use gtp_scenario::reason_of;
 use gtp_serve::head_reason;
 use gtp_v2::view;
@@ -288,9 +289,32 @@ pub fn hint_of_gateway<R: Eprint>(rt: &R, alloc: Global, line: &[u8]) -> io::Res
     }
 }
 
-/// Says that no code is called so.
-fn hint_of_code<R: Eprint>(rt: &R, word: &str) -> io::Result<()> {
-    if word.contains(" ") {
+/// How a type is written.
+fn type_wanted(what: TypeOf) -> &'static str {
+    match what {
+        TypeOf::ExtensionHeader => "two hexadecimal digits",
+        TypeOf::Element | TypeOf::Message => "a number from 0 to 255",
+    }
+}
+
+/// Says why no type is meant.
+fn hint_of_type<R: Eprint>(rt: &R, what: TypeOf, word: &str, kind: Option<&str>) -> io::Result<()> {
+    let wanted = type_wanted(what);
+    let Some(kind) = kind else {
+        return eprintln!(rt; "gtpshow: 'explain {word}' wants a type: {wanted}");
+    };
+    if type_written(what, kind).is_none() {
+        return eprintln!(rt; "gtpshow: the word '{kind}' is not {wanted}");
+    }
+    eprintln!(rt; "gtpshow: the {word} {kind} has no name here")
+}
+
+/// Says that no code and no type is called so.
+fn hint_of_code<R: Eprint>(rt: &R, word: &str, kind: Option<&str>) -> io::Result<()> {
+    if let Some(what) = type_of_word(word) {
+        return hint_of_type(rt, what, word, kind);
+    }
+    if kind.is_some() || word.contains(" ") {
         return eprintln!(rt;
             "gtpshow: a code is one word, as H7, I2, S1 or 73: 'explain' without a word shows all"
         );
@@ -324,7 +348,7 @@ fn hint_of_port<R: Eprint>(rt: &R, asked: &ArgMatches) -> io::Result<()> {
 /// Says which word chooses no datagrams, and what is wanted of it.
 fn hint_of_filter<R: Eprint>(rt: &R, asked: &ArgMatches) -> io::Result<()> {
     if let Some(word) = asked.get_str("type") {
-        if kinds_of(Some(word)).is_err() {
+        if kinds_of(&all_names(), Some(word)).is_err() {
             return eprintln!(rt;
                 "gtpshow: no message is called {word}: --type wants a name, as create-session-request or g-pdu, or a number from 0 to 255"
             );
@@ -362,7 +386,11 @@ pub fn hint<R: Eprint + Env + Files + AllocGlobal>(rt: &R, failure: Failure) -> 
     };
     match failure {
         Failure::BadHex => hint_of_hex(rt, alloc, asked),
-        Failure::BadCode => hint_of_code(rt, asked.get_str("code").unwrap_or("")),
+        Failure::BadCode => hint_of_code(
+            rt,
+            asked.get_str("code").unwrap_or(""),
+            asked.get_str("type"),
+        ),
         Failure::BadPort => hint_of_port(rt, asked),
         Failure::BadFilter => hint_of_filter(rt, asked),
         Failure::Read | Failure::TooLong if name == "capture" || name == "replay" => {

@@ -5,9 +5,10 @@ ghost use Rattle.std.specs.Prelude.{◌≤◌, IfOk};
 use crate::capturing::capture_file;
 use crate::command::{Failure, command};
 use crate::dumping::dump_printed;
-use crate::explaining::explain_code;
+use crate::explaining::{explain_code, explain_type};
 use crate::flags::{
-    capture_asked, dump_asked, plane_of, replay_form_asked, status_printed, unread_words,
+    capture_asked, dump_asked, plane_of, replay_form_asked, status_printed, type_of_word,
+    type_written, unread_words,
 };
 use crate::hinting::{hint_of_context, hint_of_octets, hint_of_version, hint_of_words};
 use crate::replaying::replay_file;
@@ -18,6 +19,7 @@ use clap::error::ErrorKind;
 use gtp_codes::parts;
 use gtp_counted::Counted;
 use gtp_lines::Plane;
+use gtp_names::all_names;
 use std::alloc::Global;
 use std::rt::{Env, Files};
 use std::{env, io};
@@ -31,11 +33,11 @@ fn decode<R: Print + Eprint + Input>(
     ensures { IfOk result (λ status. status ≤ 2) }
 {
     let digits = asked.get_str("octets").unwrap_or("");
-    let asked = dump_asked(asked);
+    let asked = dump_asked(all_names(), asked);
     if digits == "-" {
         return dump_printed(rt, alloc, asked);
     }
-    if asked.form != gtp_dump::Form::Lines {
+    if !matches!(asked.form, gtp_dump::Form::Lines) {
         return show_word(alloc, &mut Counted::new(io::writer(rt)), asked, digits);
     }
     let plane = plane_of(asked.plane);
@@ -58,12 +60,11 @@ fn capture<R: Print + Eprint + Input + Files>(
 ) -> Result<u8, Failure>
     ensures { IfOk result (λ status. status ≤ 2) }
 {
-    capture_file(
-        rt,
-        alloc,
-        capture_asked(asked)?,
-        asked.get_str("file").unwrap_or("-"),
-    )
+    let file = asked.get_str("file").unwrap_or("-");
+    match capture_asked(all_names(), asked) {
+        Ok(asked) => capture_file(rt, alloc, &asked, file),
+        Err(failure) => Err(failure),
+    }
 }
 
 /// Replays the scenario of the arguments, and returns the exit status.
@@ -82,12 +83,26 @@ fn replay<R: Print + Eprint + Input + Files>(
     )
 }
 
-/// Explains the code of the arguments, or all codes, and returns the exit status.
+/// Explains a type by the word for what has it and by its number, and returns the exit status.
+fn explain_typed<R: Print>(rt: &R, alloc: Global, word: &str, kind: &str) -> Result<u8, Failure>
+    ensures { IfOk result (λ status. status ≤ 2) }
+{
+    let what = type_of_word(word).ok_or(Failure::BadCode)?;
+    let kind = type_written(what, kind).ok_or(Failure::BadCode)?;
+    let mut out = Counted::new(io::writer(rt));
+    explain_type(alloc, &all_names(), what, kind, &mut out)
+}
+
+/// Explains the code or the type of the arguments, or all codes, and returns the exit status.
 fn explain<R: Print>(rt: &R, alloc: Global, asked: &ArgMatches) -> Result<u8, Failure>
     ensures { IfOk result (λ status. status ≤ 2) }
 {
+    let word = asked.get_str("code");
+    if let Some(kind) = asked.get_str("type") {
+        return explain_typed(rt, alloc, word.unwrap_or(""), kind);
+    }
     let mut out = Counted::new(io::writer(rt));
-    explain_code(alloc, &parts(), asked.get_str("code"), &mut out)
+    explain_code(alloc, &parts(), word, &mut out)
 }
 
 /// Carries out the command of the arguments, and returns the exit status.

@@ -38,7 +38,7 @@ bad_text number flaw = bad_line number ++ flaw_line number flaw
 -- a datagram in a form
 abbrev pub ShowsAs : Form → Plane → List ℕ → List ℕ → Bool → Type 0
 ShowsAs forms.Lines plane octets text faulty = LinesOf plane octets text faulty
-ShowsAs forms.All plane octets text faulty = AllLines plane octets text faulty
+ShowsAs (forms.All names) plane octets text faulty = AllLines names plane octets text faulty
 ShowsAs (forms.Json members) plane octets text faulty = DatagramJson members plane octets text faulty
 
 -- this of the datagram of a word
@@ -48,7 +48,7 @@ ShowsWord asked word text faulty = (plane : Plane) × (octets : List ℕ) × Spe
 -- the line before those of a datagram; none before an object
 abbrev pub index_line : Form → ℕ → List ℕ
 index_line forms.Lines index = datagram_line index
-index_line forms.All index = datagram_line index
+index_line (forms.All names) index = datagram_line index
 index_line (forms.Json members) index = []
 
 -- of a datagram its index, and then this

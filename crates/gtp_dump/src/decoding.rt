@@ -14,25 +14,25 @@ use crate::text::{Dumped, LineFault, read_word};
 use gtp_counted::{Counted, Failed};
 use gtp_json::{Members, datagram_json};
 use gtp_lines::text::{put, put_number};
-use gtp_lines::{Shown, all_lines, decode_lines};
+use gtp_lines::{Names, Shown, all_lines, decode_lines};
 use gtp_values::{Memory, Plane};
 use std::alloc::{AllocError, Global};
 use std::io::{BufRead, ErrorKind, Write};
 use thiserror::Error;
 
 /// In which form a datagram of a dump is shown.
-#[derive(Clone, Copy, Debug, PartialEq, Eq)]
+#[derive(Clone, Copy, Debug)]
 pub enum Form {
     /// The lines of its message, or of its first fault.
     Lines,
-    /// The lines of all that can be shown of it, and then of its fault.
-    All,
+    /// The lines of all that can be shown of it, by these names and forms, and then of its fault.
+    All(Names),
     /// A JSON object on one line, of these members.
     Json(Members),
 }
 
 /// How the lines of a dump are read and shown.
-#[derive(Clone, Copy, Debug, PartialEq, Eq)]
+#[derive(Clone, Copy, Debug)]
 pub struct Asked {
     /// The plane of the datagrams whose lines do not name one; without it their version decides.
     pub plane: Option<Plane>,
@@ -124,7 +124,7 @@ fn lines_of(alloc: Global, form: Form, dumped: &Dumped) -> Result<Shown, Memory>
 {
     match form {
         Form::Lines => decode_lines(alloc, dumped.plane, &dumped.octets),
-        Form::All => all_lines(alloc, dumped.plane, &dumped.octets),
+        Form::All(names) => all_lines(alloc, &names, dumped.plane, &dumped.octets),
         Form::Json(members) => datagram_json(alloc, members, dumped.plane, &dumped.octets),
     }
 }
@@ -135,7 +135,7 @@ fn put_index(out: &mut Vec<u8>, form: Form, index: u64) -> Result<(), AllocError
     ensures ok { OnOk result (out.new.items ≡ out.old.items ++ index_line form index) }
 {
     match form {
-        Form::Lines | Form::All => {
+        Form::Lines | Form::All(_) => {
             put(out, b"datagram ")?;
             put_number(out, index)?;
             put(out, b"\n")

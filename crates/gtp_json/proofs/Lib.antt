@@ -1,5 +1,5 @@
 pub mod Tokens
-pub mod Names
+pub mod Told
 pub mod Seen
 pub mod Shallow
 pub mod Reading

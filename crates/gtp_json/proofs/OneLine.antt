@@ -26,9 +26,12 @@ use Rattle.gtp_json.specs.declared.datagram.Members.TheVariants.{Plain, All}
 use Rattle.gtp_json.specs.Tree.{object_of, line_of}
 use Rattle.gtp_json.specs.Control.{CarriedMembers, MessageMembers, PairMembers, header_members, head_members, elements_members, second_member, placed_members, fault_member}
 use Rattle.gtp_json.specs.Places.{FaultMembers, user_members_at}
-use Rattle.gtp_json.specs.User.{some_member, user_members}
+use Rattle.gtp_json.specs.User.{some_member}
+use Rattle.gtp_names.specs.declared.names.Names.{Names}
+use Rattle.gtp_lines.specs.Named.{name_in}
+use Rattle.gtp_json.specs.Named.{named_elements}
 use Rattle.gtp_json.specs.All.{rest_members, MessageShown, AloneShown, SecondShown, ShownBy}
-use Rattle.gtp_json.specs.Datagram.{plane_member, ControlMembers, BeforeFault, WithFault, MembersBy, has_places, octets_shown, WholeMembers}
+use Rattle.gtp_json.specs.Datagram.{user_members_by, plane_member, ControlMembers, BeforeFault, WithFault, MembersBy, has_places, octets_shown, WholeMembers}
 use Rattle.gtp_json.specs.Frames.{frame_members, RestMembers}
 use Rattle.gtp_json.specs.Laws.{OneLine, OneFrameLine}
 use Rattle.gtp_json.proofs.FaultPlaces.{same_parts, place_one}
@@ -55,7 +58,7 @@ carried_one octets m (Fields fields) a b (es, are, is) (ds, others, b_is) =
     let at = place_of m.teid in
     let here = drop at octets in
     let p = one_front at here es [] ds [] (all_front at here es are) (all_front at here ds others) in
-    is ∙ (ap (elements_members false) p.0 ∙ sym b_is)
+    is ∙ (ap elements_members p.0 ∙ sym b_is)
 
 message_one : (octets : List ℕ) (ms ns : List (List ℕ × Json)) → MessageMembers octets ms → MessageMembers octets ns → ms ≡ ns
 message_one octets ms ns (m, spelled, (carried, has, is)) (n, other, (brought, had, ns_is)) =
@@ -82,7 +85,7 @@ spelled_both octets ms (front, back, announces, (a, b, (m, sm, am), (n, sn, bn),
 pub spelled : (members : Members) (octets : List ℕ) (ms : List (List ℕ × Json)) → ControlMembers members octets ms → (d : DatagramValue) × IsDatagram octets d
 spelled Plain octets ms (inl h) = let s = spelled_alone octets ms h in (alone s.0, s.1)
 spelled Plain octets ms (inr h) = let s = spelled_both octets ms h in (both s.0 s.1, s.2)
-spelled (All places) octets ms (d, how) = d
+spelled (All names places) octets ms (d, how) = d
 
 not_both : (octets : List ℕ) (ms ns : List (List ℕ × Json)) → MessageMembers octets ms → PairMembers octets ns → ⊥
 not_both octets ms ns a p =
@@ -94,26 +97,28 @@ not_both octets ms ns a p =
 
 -- ---- all that can be shown
 
-front_one : (places : Bool) (h : Headed) (ms ns : List (List ℕ × Json)) → MessageShown places h ms → MessageShown places h ns → ms ≡ ns
-front_one places h ms ns (es, rest, front, is) (ds, left, other, ns_is) =
+front_one : (places : Bool) (names : Names) (h : Headed) (ms ns : List (List ℕ × Json)) → MessageShown places names h ms → MessageShown places names h ns → ms ≡ ns
+front_one places names h ms ns (es, rest, front, is) (ds, left, other, ns_is) =
     let p = one_front h.at h.rest es rest ds left front other in
-    let head = header_members h.kind h.teid h.seq h.priority in
-    is ∙ (ap (λ (xs : List Element). head ++ (elements_members places xs ++ rest_members rest)) p.0 ∙ (ap (λ (xs : List ℕ). head ++ (elements_members places ds ++ rest_members xs)) p.1 ∙ sym ns_is))
-
-alone_one : (places : Bool) (w : Option Headed) (ms ns : List (List ℕ × Json)) → AloneShown places w ms → AloneShown places w ns → ms ≡ ns
-alone_one places None ms ns a b = a ∙ sym b
-alone_one places (Some h) ms ns a b = front_one places h ms ns a b
-
-second_one : (places : Bool) (back : List ℕ) (w : Option Headed) (ms ns : List (List ℕ × Json)) → SecondShown places back w ms → SecondShown places back w ns → ms ≡ ns
-second_one places back None ms ns a b = a ∙ sym b
-second_one places back (Some h) ms ns a b = front_one places h ms ns a b
-
-shown_one : (places : Bool) (p : Option (Headed × List ℕ)) (w : Option Headed) (ms ns : List (List ℕ × Json)) → ShownBy places p w ms → ShownBy places p w ns → ms ≡ ns
-shown_one places None w ms ns a b = alone_one places w ms ns a b
-shown_one places (Some pair) w ms ns (a, b, first, second, is) (c, d, other, third, ns_is) =
+    let head = header_members (name_in names h.kind) h.kind h.teid h.seq h.priority in
     is
-    ∙ (ap (λ (xs : List (List ℕ × Json)). xs ++ second_member b) (front_one places pair.0 a c first other)
-    ∙ (ap (λ (xs : List (List ℕ × Json)). c ++ second_member xs) (second_one places pair.1 (head_at pair.1) b d second third) ∙ sym ns_is))
+    ∙ (ap (λ (xs : List Element). head ++ (named_elements places names h.kind xs ++ rest_members rest)) p.0
+    ∙ (ap (λ (xs : List ℕ). head ++ (named_elements places names h.kind ds ++ rest_members xs)) p.1 ∙ sym ns_is))
+
+alone_one : (places : Bool) (names : Names) (w : Option Headed) (ms ns : List (List ℕ × Json)) → AloneShown places names w ms → AloneShown places names w ns → ms ≡ ns
+alone_one places names None ms ns a b = a ∙ sym b
+alone_one places names (Some h) ms ns a b = front_one places names h ms ns a b
+
+second_one : (places : Bool) (names : Names) (back : List ℕ) (w : Option Headed) (ms ns : List (List ℕ × Json)) → SecondShown places names back w ms → SecondShown places names back w ns → ms ≡ ns
+second_one places names back None ms ns a b = a ∙ sym b
+second_one places names back (Some h) ms ns a b = front_one places names h ms ns a b
+
+shown_one : (places : Bool) (names : Names) (p : Option (Headed × List ℕ)) (w : Option Headed) (ms ns : List (List ℕ × Json)) → ShownBy places names p w ms → ShownBy places names p w ns → ms ≡ ns
+shown_one places names None w ms ns a b = alone_one places names w ms ns a b
+shown_one places names (Some pair) w ms ns (a, b, first, second, is) (c, d, other, third, ns_is) =
+    is
+    ∙ (ap (λ (xs : List (List ℕ × Json)). xs ++ second_member b) (front_one places names pair.0 a c first other)
+    ∙ (ap (λ (xs : List (List ℕ × Json)). c ++ second_member xs) (second_one places names pair.1 (head_at pair.1) b d second third) ∙ sym ns_is))
 
 -- ---- datagrams
 
@@ -122,12 +127,12 @@ control_one Plain octets ms ns (inl a) (inl b) = message_one octets ms ns a b
 control_one Plain octets ms ns (inl a) (inr b) = absurd (not_both octets ms ns a b)
 control_one Plain octets ms ns (inr a) (inl b) = absurd (not_both octets ns ms b a)
 control_one Plain octets ms ns (inr a) (inr b) = pair_one octets ms ns a b
-control_one (All places) octets ms ns (d, a) (e, b) = shown_one places (pair_at octets) (head_at octets) ms ns a b
+control_one (All names places) octets ms ns (d, a) (e, b) = shown_one places names (pair_at octets) (head_at octets) ms ns a b
 
 before_one : (members : Members) (plane : Plane) (octets : List ℕ) (ms ns : List (List ℕ × Json)) → BeforeFault members plane octets ms → BeforeFault members plane octets ns → ms ≡ ns
 before_one Plain plane octets ms ns a b = a ∙ sym b
-before_one (All places) planes.Control octets ms ns a b = shown_one places (pair_at octets) (head_at octets) ms ns a b
-before_one (All places) planes.User octets ms ns a b = a ∙ sym b
+before_one (All names places) planes.Control octets ms ns a b = shown_one places names (pair_at octets) (head_at octets) ms ns a b
+before_one (All names places) planes.User octets ms ns a b = a ∙ sym b
 
 fault_one : (members : Members) (plane : Plane) (octets : List ℕ) (fs gs ms ns : List (List ℕ × Json)) → fs ≡ gs → WithFault members plane octets fs ms → WithFault members plane octets gs ns → ms ≡ ns
 fault_one members plane octets fs gs ms ns same (a, before, is) (b, other, ns_is) =
@@ -168,7 +173,7 @@ members_one members planes.User octets ms ns false true (m, said, is) (f, fails,
     absurd (one.either m f said fails)
 members_one members planes.User octets ms ns false false (m, said, is) (n, other, ns_is) =
     let one = one_of _ (IsUserMessage octets) (IsUserFault octets) (user_decided octets) in
-    (is ∙ (ap user_members (one.value m n said other) ∙ sym ns_is), refl)
+    (is ∙ (ap (user_members_by members) (one.value m n said other) ∙ sym ns_is), refl)
 
 whole_one : (members : Members) (plane : Plane) (octets : List ℕ) (ms ns : List (List ℕ × Json)) (x y : Bool) → WholeMembers members plane octets ms x
     → WholeMembers members plane octets ns y → (ms ≡ ns) × (x ≡ y)

@@ -8,19 +8,20 @@ use Rattle.gtp_v2.specs.Message.{MessageValue}
 use Rattle.gtp_v2.specs.Pair.{DatagramValue, IsDatagram, IsDatagramFault, alone, both}
 use Rattle.gtp_v2.proofs.Pairs.{datagram_decided}
 use Rattle.gtp_user.specs.declared.fault.UserFault.{UserFault}
+use Rattle.gtp_user.specs.Message.{MessageValue as UserValue}
 use Rattle.gtp_user.specs.Datagram.{IsUserMessage, IsUserFault}
 use Rattle.gtp_user.proofs.Messages.{message_decided as user_decided}
-use Rattle.gtp_lines.specs.declared.words.Wording.TheVariants as worded
-use Rattle.gtp_lines.specs.Control.{AloneLines, PairLines}
-use Rattle.gtp_lines.specs.User.{UserLines, user_fault_line}
+use Rattle.gtp_lines.specs.Named as worded
+use Rattle.gtp_lines.specs.Messages.{AloneLines, PairLines}
+use Rattle.gtp_lines.specs.User.{user_fault_line}
 use Rattle.gtp_lines.specs.All.{user_shown, user_head_at}
+use Rattle.gtp_lines.specs.Fronts.{chain_at}
 use Rattle.gtp_json.specs.declared.datagram.Members.{Members}
 use Rattle.gtp_json.specs.declared.datagram.Members.TheVariants.{Plain, All}
 use Rattle.gtp_json.specs.Tree.{object_of}
 use Rattle.gtp_json.specs.Places.{FaultMembers, user_members_at}
-use Rattle.gtp_json.specs.User.{user_members}
-use Rattle.gtp_json.specs.Datagram.{plane_member, has_places, octets_shown}
-use Rattle.gtp_json.specs.Laws.{LinesBy, fault_lines, EndsInLine, EndsInFault, OneReading}
+use Rattle.gtp_json.specs.Datagram.{user_members_by, plane_member, has_places, octets_shown}
+use Rattle.gtp_json.specs.Laws.{user_lines_by, LinesBy, fault_lines, EndsInLine, EndsInFault, OneReading}
 use Rattle.gtp_json.proofs.OneLine.{one_of, spelled}
 
 -- what lines that are no fault's are of
@@ -33,23 +34,23 @@ lines_both octets text (front, back, announces, (before, (a, first, rest), (b, s
 lines_of : (members : Members) (octets text : List ℕ) → LinesBy members planes.Control octets text false → (d : DatagramValue) × IsDatagram octets d
 lines_of Plain octets text (inl h) = let s = lines_alone octets text h in (alone s.0, s.1)
 lines_of Plain octets text (inr h) = let s = lines_both octets text h in (both s.0 s.1, s.2)
-lines_of (All places) octets text (d, how) = d
+lines_of (All names places) octets text (d, how) = d
 
 -- the fault that lines end in
 fault_of : (members : Members) (octets text : List ℕ) → LinesBy members planes.Control octets text true
     → (f : V2Fault) × IsDatagramFault octets f × EndsInLine members planes.Control octets (fault_lines members octets f) text
 fault_of Plain octets text (f, fails, is) = (f, fails, ([], refl, is))
-fault_of (All places) octets text found = found
+fault_of (All names places) octets text found = found
 
 user_fault_of : (members : Members) (octets text : List ℕ) → LinesBy members planes.User octets text true
     → (f : UserFault) × IsUserFault octets f × EndsInLine members planes.User octets (user_fault_line f) text
 user_fault_of Plain octets text (f, fails, is) = (f, fails, ([], refl, is))
-user_fault_of (All places) octets text (f, fails, is) = (f, fails, (user_shown (user_head_at octets), refl, is))
+user_fault_of (All names places) octets text (f, fails, is) = (f, fails, (user_shown names (user_head_at octets) (chain_at octets), refl, is))
 
 -- and a message of the user plane
-user_of : (members : Members) (octets text : List ℕ) → LinesBy members planes.User octets text false → UserLines octets text false
+user_of : (members : Members) (octets text : List ℕ) → LinesBy members planes.User octets text false → (m : UserValue) × IsUserMessage octets m × (text ≡ user_lines_by members m)
 user_of Plain octets text lines = lines
-user_of (All places) octets text lines = lines
+user_of (All names places) octets text lines = lines
 
 -- an object of these members
 whole_is : (members : Members) (plane : Plane) (octets : List ℕ) (ms said : List (List ℕ × Json)) (j : Json) → ms ≡ octets_shown members octets ++ said
@@ -105,6 +106,6 @@ one_reading members planes.User octets text false j false lines (ms, (said, (n, 
         s.2,
         whole_is members planes.User octets ms said j whole is
             ∙ ap (λ (xs : List (List ℕ × Json)). object_of (plane_member planes.User ++ (octets_shown members octets ++ xs)))
-            (said_is ∙ ap user_members (one.value n s.0 other s.1)),
+            (said_is ∙ ap (user_members_by members) (one.value n s.0 other s.1)),
       ),
     )

@@ -19,9 +19,9 @@ reads j ts are back shallow =
 -- an object of which P holds, written in two parts at the start
 pub object_line : (P : Json → Type 0) (front rest : List (List ℕ × Json)) (o m n p q : List Token) (text : List ℕ)
     → o ≡ [] → m ≡ o ++ opened → n ≡ m ++ written front → p ≡ n ++ written rest → q ≡ p ++ closed → text ≡ print q ++ codes "\n" → tokens (print q) ≡ q
-    → Within 7 front → Within 7 rest → P (object_of (front ++ rest)) → ((j : Json) × P j × (text ≡ line_of j)) × ReadsBack P text
+    → Within 24 front → Within 24 rest → P (object_of (front ++ rest)) → ((j : Json) × P j × (text ≡ line_of j)) × ReadsBack P text
 object_line P front rest o m n p q text none begins first second ends is back low deep holds =
     let value = object_of (front ++ rest) in
     let all : q ≡ json_tokens value = whole o m n p q front rest none begins first second ends in
-    let within = object_depth 7 (front ++ rest) (join 7 front rest low deep) in
+    let within = object_depth 24 (front ++ rest) (join 24 front rest low deep) in
     ((value, holds, is ∙ ap (λ (ts : List Token). print ts ++ codes "\n") all), (value, holds, (print q, is, reads value q all back (omega (arith, within)))))

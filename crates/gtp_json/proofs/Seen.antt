@@ -1,5 +1,5 @@
 -- The members of a message that is viewed.
-use Rattle.std.proofs.Common.{◌≡◌, ℕ, ◌++◌, false, List, Option, Some, None, inl, inr, refl, sym, subst}
+use Rattle.std.proofs.Common.{◌≡◌, ℕ, ◌++◌, List, Option, Some, None, inl, inr, refl, sym, subst}
 use Rattle.std.proofs.lemmas.List.{append-nil}
 use Rattle.json.specs.Json.{Json}
 use Rattle.gtp_ie.specs.Element.{Element}
@@ -15,7 +15,7 @@ pub raw_members : (content : Content) (es : List Element) (octets : List ℕ) �
 raw_members (Raw carried) es octets is = let same : octets ≡ carried = cc in rw same refl
 raw_members (Fields fields) es octets is = absurd cc
 
-pub typed_members : (content : Content) (es : List Element) → None ≡ raw_of content → carried_members content es ≡ elements_members false es
+pub typed_members : (content : Content) (es : List Element) → None ≡ raw_of content → carried_members content es ≡ elements_members es
 typed_members (Raw carried) es is = absurd cc
 typed_members (Fields fields) es is = refl
 

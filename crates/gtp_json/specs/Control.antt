@@ -1,5 +1,5 @@
 -- A control datagram as JSON: the reading of `gtp_lines`, by members of objects.
-use Rattle.std.specs.Prelude.{◌≡◌, ℕ, ◌+◌, ◌==◌, if◌then◌else◌, Bool, true, false, List, [], ◌++◌, length, map, drop, Option, Some, None, Result, Ok, Err, codes}
+use Rattle.std.specs.Prelude.{◌≡◌, ℕ, ◌+◌, ◌==◌, if◌then◌else◌, Bool, true, false, List, [], ◌++◌, map, drop, Option, Some, None, option_map, Result, Ok, Err, codes}
 use Rattle.json.specs.Json.{Json, string}
 use Rattle.gtp_ie.specs.declared.fault.IeFault.{IeFault}
 use Rattle.gtp_ie.specs.declared.fault.IeFault.TheVariants as elements
@@ -20,40 +20,35 @@ use Rattle.gtp_json.specs.Values.{teid_value, octets_members, body_members}
 
 -- ---- elements
 
--- where an element stands, where that is asked for: the place of its first octet, and how many octets it is
-abbrev pub place_members : Bool → Element → List (List ℕ × Json)
-place_members false e = []
-place_members true e = member (codes "at") (number_of e.at) ++ member (codes "length") (number_of (4 + length e.body))
-
 -- what stands before an element's value
-abbrev pub element_head : Bool → Element → List (List ℕ × Json)
-element_head places e = member (codes "type") (number_of e.kind) ++ (member (codes "instance") (number_of e.instance) ++ place_members places e)
+abbrev pub element_head : Element → List (List ℕ × Json)
+element_head e = member (codes "type") (number_of e.kind) ++ member (codes "instance") (number_of e.instance)
 
 -- an element inside a group
-abbrev pub inner_json : Bool → Element → Json
-inner_json places e = object_of (element_head places e ++ body_members e.kind e.body)
+abbrev pub inner_json : Element → Json
+inner_json e = object_of (element_head e ++ body_members e.kind e.body)
 
 -- a bearer context by its elements; or its octets where they are not whole elements
-abbrev pub group_members : Bool → Element → Result (List Element) ℕ → List (List ℕ × Json)
-group_members places e (Ok inner) = member (codes "name") (string (codes "bearer-context")) ++ member (codes "elements") (array_of (map (inner_json places) inner))
-group_members places e (Err at) = octets_members e.body
+abbrev pub group_members : Element → Result (List Element) ℕ → List (List ℕ × Json)
+group_members e (Ok inner) = member (codes "name") (string (codes "bearer-context")) ++ member (codes "elements") (array_of (map inner_json inner))
+group_members e (Err at) = octets_members e.body
 
-abbrev pub element_members : Bool → Element → List (List ℕ × Json)
-element_members places e = if e.kind == bearer_context then group_members places e (elements_of (e.at + 4) e.body) else body_members e.kind e.body
+abbrev pub element_members : Element → List (List ℕ × Json)
+element_members e = if e.kind == bearer_context then group_members e (elements_of (e.at + 4) e.body) else body_members e.kind e.body
 
-abbrev pub element_json : Bool → Element → Json
-element_json places e = object_of (element_head places e ++ element_members places e)
+abbrev pub element_json : Element → Json
+element_json e = object_of (element_head e ++ element_members e)
 
 -- ---- messages
 
--- the name of a type of message, where it has a table
-abbrev pub named_by : Option Table → List (List ℕ × Json)
-named_by None = []
-named_by (Some table) = member (codes "name") (string table.name)
+-- a name, where there is one
+abbrev pub name_members : Option (List ℕ) → List (List ℕ × Json)
+name_members None = []
+name_members (Some name) = member (codes "name") (string name)
 
 -- the type of a message, by its number and its name
-unfoldable pub title_members : ℕ → List (List ℕ × Json)
-title_members kind = member (codes "type") (number_of kind) ++ named_by (table_of kind)
+unfoldable pub title_members : Option (List ℕ) → ℕ → List (List ℕ × Json)
+title_members name kind = member (codes "type") (number_of kind) ++ name_members name
 
 abbrev pub teid_members : Option ℕ → List (List ℕ × Json)
 teid_members None = []
@@ -64,20 +59,24 @@ priority_members None = []
 priority_members (Some priority) = member (codes "priority") (number_of priority)
 
 -- what a header says
-abbrev pub header_members : ℕ → Option ℕ → ℕ → Option ℕ → List (List ℕ × Json)
-header_members kind teid seq priority = title_members kind ++ (teid_members teid ++ (member (codes "seq") (number_of seq) ++ priority_members priority))
+abbrev pub header_members : Option (List ℕ) → ℕ → Option ℕ → ℕ → Option ℕ → List (List ℕ × Json)
+header_members name kind teid seq priority = title_members name kind ++ (teid_members teid ++ (member (codes "seq") (number_of seq) ++ priority_members priority))
+
+-- the name of a type of message, where it has a table
+abbrev pub name_of : ℕ → Option (List ℕ)
+name_of kind = option_map (λ (t : Table). t.name) (table_of kind)
 
 abbrev pub head_members : MessageValue → List (List ℕ × Json)
-head_members m = header_members m.kind m.teid m.seq m.priority
+head_members m = header_members (name_of m.kind) m.kind m.teid m.seq m.priority
 
--- elements in the datagram's order, with their places or without
-abbrev pub elements_members : Bool → List Element → List (List ℕ × Json)
-elements_members places es = member (codes "elements") (array_of (map (element_json places) es))
+-- elements in the datagram's order
+abbrev pub elements_members : List Element → List (List ℕ × Json)
+elements_members es = member (codes "elements") (array_of (map element_json es))
 
 -- what a message carries: the elements that its octets are; or the octets, where its type has no table
 abbrev pub CarriedMembers : List ℕ → MessageValue → Content → List (List ℕ × Json) → Type 0
 CarriedMembers octets m (Raw carried) ms = ms ≡ octets_members carried
-CarriedMembers octets m (Fields fields) ms = (es : List Element) × AreElements (place_of m.teid) (drop (place_of m.teid) octets) es × (ms ≡ elements_members false es)
+CarriedMembers octets m (Fields fields) ms = (es : List Element) × AreElements (place_of m.teid) (drop (place_of m.teid) octets) es × (ms ≡ elements_members es)
 
 -- the members of the message that octets spell
 abbrev pub MessageMembers : List ℕ → List (List ℕ × Json) → Type 0
@@ -96,7 +95,7 @@ PairMembers octets ms =
 -- the same of elements that are at hand
 abbrev pub carried_members : Content → List Element → List (List ℕ × Json)
 carried_members (Raw carried) es = octets_members carried
-carried_members (Fields fields) es = elements_members false es
+carried_members (Fields fields) es = elements_members es
 
 -- the members of a message that is viewed
 abbrev pub seen_members : Viewed → List (List ℕ × Json)

@@ -11,14 +11,15 @@ use Rattle.gtp_user.specs.Datagram.{IsUserMessage, IsUserFault}
 use Rattle.gtp_capture.specs.Seen.{Seen}
 use Rattle.gtp_lines.specs.Control.{fault_line}
 use Rattle.gtp_lines.specs.Lines.{LinesOf}
+use Rattle.gtp_lines.specs.Fronts.{chain_at}
 use Rattle.gtp_lines.specs.All.{ControlShown, context_line, fault_context, user_shown, user_head_at, AllLines}
 use Rattle.gtp_lines.specs.User.{user_lines, user_fault_line}
+use Rattle.gtp_lines.specs.Named.{named_user_lines}
 use Rattle.gtp_json.specs.declared.datagram.Members.{Members}
 use Rattle.gtp_json.specs.declared.datagram.Members.TheVariants.{Plain, All}
 use Rattle.gtp_json.specs.Tree.{object_of}
 use Rattle.gtp_json.specs.Places.{FaultMembers, user_members_at}
-use Rattle.gtp_json.specs.User.{user_members}
-use Rattle.gtp_json.specs.Datagram.{plane_member, has_places, octets_shown, WithFault, IsDatagramJson, DatagramJson}
+use Rattle.gtp_json.specs.Datagram.{user_members_by, plane_member, has_places, octets_shown, WithFault, IsDatagramJson, DatagramJson}
 use Rattle.gtp_json.specs.Frames.{FrameJson}
 
 -- a datagram has one line, in each form, and whether it has a fault is determined
@@ -36,13 +37,13 @@ OneFrameLine =
 -- the lines of a datagram: those of its message or of its two, or of its first fault; or all that can be shown of it, and then the fault
 abbrev pub LinesBy : Members → Plane → List ℕ → List ℕ → Bool → Type 0
 LinesBy Plain plane octets text faulty = LinesOf plane octets text faulty
-LinesBy (All places) plane octets text faulty = AllLines plane octets text faulty
+LinesBy (All names places) plane octets text faulty = AllLines names plane octets text faulty
 
 -- what stands before the line of a fault: nothing; or all that can be shown
 abbrev pub LinesBefore : Members → Plane → List ℕ → List ℕ → Type 0
 LinesBefore Plain plane octets text = text ≡ []
-LinesBefore (All places) planes.Control octets text = ControlShown octets text
-LinesBefore (All places) planes.User octets text = text ≡ user_shown (user_head_at octets)
+LinesBefore (All names places) planes.Control octets text = ControlShown names octets text
+LinesBefore (All names places) planes.User octets text = text ≡ user_shown names (user_head_at octets) (chain_at octets)
 
 -- and then the line
 abbrev pub EndsInLine : Members → Plane → List ℕ → List ℕ → List ℕ → Type 0
@@ -55,7 +56,12 @@ EndsInFault members plane octets fault j = (ms : List (List ℕ × Json)) × Wit
 -- the line of a fault; and, of all that can be shown, that of the bearer context in which it lies
 abbrev pub fault_lines : Members → List ℕ → V2Fault → List ℕ
 fault_lines Plain octets f = fault_line f
-fault_lines (All places) octets f = fault_line f ++ context_line (fault_context octets f)
+fault_lines (All names places) octets f = fault_line f ++ context_line (fault_context octets f)
+
+-- the lines of a message of the user plane
+abbrev pub user_lines_by : Members → UserValue → List ℕ
+user_lines_by Plain m = user_lines m
+user_lines_by (All names places) m = named_user_lines names m
 
 -- the text and the object say the one fault of the octets, or their one message of the user plane; of a datagram of the control plane the octets spell one and
 -- no other, so both are of that
@@ -66,7 +72,7 @@ OfOne members planes.Control octets true text j =
 OfOne members planes.Control octets false text j = (d : DatagramValue) × IsDatagram octets d × ((other : DatagramValue) → IsDatagram octets other → other ≡ d)
 OfOne members planes.User octets true text j =
     (f : UserFault) × IsUserFault octets f × EndsInLine members planes.User octets (user_fault_line f) text × EndsInFault members planes.User octets (user_members_at (has_places members) f) j
-OfOne members planes.User octets false text j = (m : UserValue) × IsUserMessage octets m × (text ≡ user_lines m) × (j ≡ object_of (plane_member planes.User ++ (octets_shown members octets ++ user_members m)))
+OfOne members planes.User octets false text j = (m : UserValue) × IsUserMessage octets m × (text ≡ user_lines_by members m) × (j ≡ object_of (plane_member planes.User ++ (octets_shown members octets ++ user_members_by members m)))
 
 -- the lines of a datagram and its object are of one reading
 abbrev pub OneReading : Type 0

@@ -3,6 +3,7 @@ pub mod Adds
 pub mod Values
 pub mod Control
 pub mod User
+pub mod Named
 pub mod All
 pub mod Places
 pub mod Datagram

@@ -1,11 +1,10 @@
 -- A datagram of the user plane as JSON: the reading of `gtp_lines`, by members of objects.
-use Rattle.std.specs.Prelude.{◌≡◌, ℕ, List, [], ◌++◌, map, Option, Some, None, codes}
+use Rattle.std.specs.Prelude.{ℕ, List, [], ◌++◌, map, Option, Some, None, codes}
 use Rattle.json.specs.Json.{Json, string}
 use Rattle.gtp_user.specs.declared.fault.UserFault.{UserFault}
 use Rattle.gtp_user.specs.declared.fault.UserFault.TheVariants as faults
 use Rattle.gtp_user.specs.Chain.{Extension}
 use Rattle.gtp_user.specs.Message.{Content, ErrorIndication, Notification, EndMarker, Packet, Other, MessageValue}
-use Rattle.gtp_user.specs.Datagram.{IsUserMessage}
 use Rattle.gtp_user.specs.Encoding.{kind_of}
 use Rattle.gtp_values.specs.declared.address.Ip.{Ip}
 use Rattle.gtp_values.specs.Address.{ip_text}
@@ -90,7 +89,3 @@ user_fault_detail fault = []
 
 abbrev pub user_fault_members : UserFault → List (List ℕ × Json)
 user_fault_members f = member (codes "code") (string (user_code f)) ++ user_fault_detail f
-
--- the members of the message that octets of the user plane spell
-abbrev pub UserMembers : List ℕ → List (List ℕ × Json) → Type 0
-UserMembers octets ms = (m : MessageValue) × IsUserMessage octets m × (ms ≡ user_members m)

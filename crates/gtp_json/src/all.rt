@@ -1,18 +1,25 @@
 //! All that can be shown of a datagram, as JSON.
 
-ghost use Rattle.std.specs.Prelude.{◌≡◌, ◌++◌, OnOk};
+ghost use Rattle.std.specs.Prelude.{◌≡◌, ◌++◌, Some, option_map, OnOk};
 ghost use Rattle.gtp_lines.specs.All.{head_at as spec_head_at, user_head_at as spec_user_head_at};
-ghost use Rattle.gtp_lines.specs.reading.Header.{headed_of};
+ghost use Rattle.gtp_lines.specs.Fronts.{chain_at as spec_chain_at};
+ghost use Rattle.gtp_lines.specs.reading.Header.{headed_of, user_head_of, front_seen, chain_of};
 ghost use Rattle.gtp_json.specs.reading.Tokens.{written};
 ghost use Rattle.gtp_json.specs.Adds.{Adds};
-ghost use Rattle.gtp_json.specs.Control.{elements_members};
-ghost use Rattle.gtp_json.specs.All.{rest_members, MessageShown, AloneShown, SecondShown, PairShown, ControlShown, kind_members, user_shown};
+ghost use Rattle.gtp_json.specs.Named.{named_elements};
+ghost use Rattle.gtp_json.specs.All.{rest_members, MessageShown, AloneShown, SecondShown, PairShown, ControlShown, kind_members, packet_members, front_members, chain_members, user_shown};
 
-use crate::control::{put_elements, put_head_members};
+use crate::control::put_head_members;
+use crate::named::{put_named_elements, put_named_headers};
 use crate::object::Output;
 use crate::user;
 use gtp_ie::Elements;
-use gtp_lines::{Header, front_elements, head_at, pair_at, user_head_at, user_name};
+use gtp_lines::{
+    ChainFront, Header, UserHeader, chain_at, chain_front, front_elements, head_at, name_in,
+    pair_at, user_head_at, user_name,
+};
+use gtp_names::Names;
+use gtp_user::kinds::G_PDU;
 use std::alloc::AllocError;
 
 /// Writes octets that are left, where there are some.
@@ -31,66 +38,96 @@ fn put_rest(out: &mut Output, rest: &[u8]) -> Result<(), AllocError>
 fn put_list(
     out: &mut Output,
     places: bool,
+    names: &Names,
+    message: u8,
     elements: &Elements,
     rest: &[u8],
 ) -> Result<(), AllocError>
     ensures ok { OnOk result (out.new
-        ≡ out.old ++ written (elements_members places elements.now ++ rest_members rest.now)) }
+        ≡ out.old ++ written (named_elements places names.now message elements.now ++ rest_members rest.now)) }
 {
-    put_elements(out, places, elements)?;
+    put_named_elements(out, places, names, message, elements)?;
     put_rest(out, rest)
 }
 
 /// Writes a message with this header.
-fn put_message(out: &mut Output, places: bool, header: &Header) -> Result<(), AllocError>
-    ensures ok { OnOk result (Adds (MessageShown places (headed_of header.now)) out.old out.new) }
+fn put_message(
+    out: &mut Output,
+    places: bool,
+    names: &Names,
+    header: &Header,
+) -> Result<(), AllocError>
+    ensures ok { OnOk result (Adds (MessageShown places names.now (headed_of header.now)) out.old out.new) }
 {
-    put_head_members(out, header.kind, header.teid, header.seq, header.priority)?;
+    put_head_members(
+        out,
+        name_in(names, header.kind),
+        header.kind,
+        header.teid,
+        header.seq,
+        header.priority,
+    )?;
     let (elements, rest) = front_elements(header.rest, header.place());
-    put_list(out, places, &elements, rest)?;
+    put_list(out, places, names, header.kind, &elements, rest)?;
     Ok(())
 }
 
 /// Writes a message, where there is a header.
-fn put_alone(out: &mut Output, places: bool, octets: &[u8]) -> Result<(), AllocError>
-    ensures ok { OnOk result (Adds (AloneShown places (spec_head_at octets.now)) out.old out.new) }
+fn put_alone(out: &mut Output, places: bool, names: &Names, octets: &[u8]) -> Result<(), AllocError>
+    ensures ok { OnOk result (Adds (AloneShown places names.now (spec_head_at octets.now)) out.old out.new) }
 {
     match head_at(octets) {
-        Some(header) => put_message(out, places, &header),
+        Some(header) => put_message(out, places, names, &header),
         None => Ok(()),
     }
 }
 
 /// Writes a second message, or its octets where there is no header.
-fn put_second(out: &mut Output, places: bool, octets: &[u8]) -> Result<(), AllocError>
+fn put_second(
+    out: &mut Output,
+    places: bool,
+    names: &Names,
+    octets: &[u8],
+) -> Result<(), AllocError>
     ensures ok { OnOk result
-        (Adds (SecondShown places octets.now (spec_head_at octets.now)) out.old out.new) }
+        (Adds (SecondShown places names.now octets.now (spec_head_at octets.now)) out.old out.new) }
 {
     match head_at(octets) {
-        Some(header) => put_message(out, places, &header),
+        Some(header) => put_message(out, places, names, &header),
         None => put_rest(out, octets),
     }
 }
 
 /// Writes a first message with this header, and an object of the octets after it.
-fn put_pair(out: &mut Output, places: bool, header: &Header, back: &[u8]) -> Result<(), AllocError>
-    ensures ok { OnOk result (Adds (PairShown places (headed_of header.now) back.now) out.old out.new) }
+fn put_pair(
+    out: &mut Output,
+    places: bool,
+    names: &Names,
+    header: &Header,
+    back: &[u8],
+) -> Result<(), AllocError>
+    ensures ok { OnOk result (Adds (PairShown places names.now (headed_of header.now) back.now) out.old out.new) }
 {
-    put_message(out, places, header)?;
+    put_message(out, places, names, header)?;
     out.key("second")?;
     out.begin_object()?;
-    put_second(out, places, back)?;
+    put_second(out, places, names, back)?;
     out.end_object()?;
     Ok(())
 }
 
 /// Writes what can be shown of a control datagram.
-pub fn put_shown(out: &mut Output, places: bool, octets: &[u8]) -> Result<(), AllocError>
-    ensures ok { OnOk result (Adds (ControlShown places octets.now) out.old out.new) }
+pub fn put_shown(
+    out: &mut Output,
+    places: bool,
+    names: &Names,
+    octets: &[u8],
+) -> Result<(), AllocError>
+    ensures ok { OnOk result (Adds (ControlShown places names.now octets.now) out.old out.new) }
 {
     match pair_at(octets) {
-        Some((header, back)) => put_pair(out, places, &header, back),
-        None => put_alone(out, places, octets),
+        Some((header, back)) => put_pair(out, places, names, &header, back),
+        None => put_alone(out, places, names, octets),
     }
 }
 
@@ -101,18 +138,76 @@ fn put_kind(out: &mut Output, kind: u8) -> Result<(), AllocError>
     user::put_named(out, kind, user_name(kind))
 }
 
-/// Writes what can be shown of a datagram of the user plane that is at fault.
+/// Writes the packet of a G-PDU, whose extension headers are whole.
 #[tactic(auto, using(crate::proofs::Tokens::appending))]
-pub fn put_user_shown(out: &mut Output, octets: &[u8]) -> Result<(), AllocError>
-    ensures ok { OnOk result (out.new
-        ≡ out.old ++ written (user_shown (spec_user_head_at octets.now))) }
+fn put_packet(out: &mut Output, kind: u8, next: u8, rest: &[u8]) -> Result<(), AllocError>
+    ensures ok { OnOk result (out.new ≡ out.old ++ written (packet_members kind next rest.now)) }
 {
-    let Some(header) = user_head_at(octets) else {
+    if next == 0 && kind == G_PDU {
+        return out.hex_member("payload", rest);
+    }
+    Ok(())
+}
+
+/// Writes the extension headers of a datagram at fault, as far as they are whole, and the packet after them.
+#[tactic(auto, using(crate::proofs::Tokens::appending))]
+fn put_front(
+    out: &mut Output,
+    names: &Names,
+    kind: u8,
+    front: &ChainFront,
+) -> Result<(), AllocError>
+    ensures ok { OnOk result
+        (out.new ≡ out.old ++ written (front_members names.now kind (front_seen front.now))) }
+{
+    put_named_headers(out, names, &front.headers)?;
+    put_packet(out, kind, front.next, front.rest)
+}
+
+/// Writes those of a datagram at fault, where it says that it has some.
+#[tactic(auto, using(crate::proofs::Tokens::appending))]
+fn put_chain(
+    out: &mut Output,
+    names: &Names,
+    kind: u8,
+    chain: Option<(u8, &[u8])>,
+) -> Result<(), AllocError>
+    ensures ok { OnOk result
+        (out.new ≡ out.old ++ written (chain_members names.now kind (option_map chain_of chain.entry))) }
+{
+    let Some((first, octets)) = chain else {
         return Ok(());
     };
+    let front = chain_front(out.alloc(), first, octets)?;
+    put_front(out, names, kind, &front)
+}
+
+/// Writes the header of a datagram of the user plane that is at fault, and what follows it.
+#[tactic(auto, using(crate::proofs::Tokens::appending))]
+fn put_headed(
+    out: &mut Output,
+    names: &Names,
+    header: &UserHeader,
+    chain: Option<(u8, &[u8])>,
+) -> Result<(), AllocError>
+    ensures ok { OnOk result
+        (out.new ≡ out.old ++ written (user_shown names.now (Some (user_head_of header.now)) (option_map chain_of chain.entry))) }
+{
     put_kind(out, header.kind)?;
     out.display_member("teid", &header.teid)?;
     user::put_some(out, "seq", header.seq.map(u64::from))?;
     put_rest(out, header.rest)?;
-    Ok(())
+    put_chain(out, names, header.kind, chain)
+}
+
+/// Writes what can be shown of a datagram of the user plane that is at fault.
+#[tactic(auto, using(crate::proofs::Tokens::none_written))]
+pub fn put_user_shown(out: &mut Output, names: &Names, octets: &[u8]) -> Result<(), AllocError>
+    ensures ok { OnOk result (out.new
+        ≡ out.old ++ written (user_shown names.now (spec_user_head_at octets.now) (spec_chain_at octets.now))) }
+{
+    match user_head_at(octets) {
+        Some(header) => put_headed(out, names, &header, chain_at(octets)),
+        None => Ok(()),
+    }
 }

@@ -1,14 +1,13 @@
 //! Control datagrams as JSON.
 
-ghost use Rattle.std.specs.Prelude.{◌≡◌, ◌+◌, ◌++◌, OnOk, map, codes};
+ghost use Rattle.std.specs.Prelude.{◌≡◌, ◌+◌, ◌++◌, OnOk, map, option_map, codes};
 ghost use Rattle.std.specs.List.{flat_map};
 ghost use Rattle.json.specs.Tree.{json_tokens};
 ghost use Rattle.gtp_ie.specs.Element.{elements_of};
 ghost use Rattle.gtp_ie.specs.View.{element_of};
-ghost use Rattle.gtp_v2.specs.Tables.{table_of};
 ghost use Rattle.gtp_json.specs.Tree.{member, number_of, array_of, object_of};
 ghost use Rattle.gtp_json.specs.reading.Tokens.{written};
-ghost use Rattle.gtp_json.specs.Control.{place_members, element_head, inner_json, group_members, element_json, element_members, named_by, title_members, teid_members, priority_members, header_members, head_members, elements_members, carried_members, seen_members, second_members};
+ghost use Rattle.gtp_json.specs.Control.{element_head, inner_json, group_members, element_json, element_members, name_members, title_members, teid_members, priority_members, header_members, head_members, elements_members, carried_members, seen_members, second_members};
 ghost use Rattle.gtp_json.specs.Control.{element_code as spec_element_code, code_of, element_fault_detail, element_fault_members, mark_word, fault_detail, fault_members, context_members, placed_members};
 ghost use Rattle.gtp_json.specs.Adds.{Adds};
 ghost use Rattle.gtp_json.specs.Places.{FaultMembers, FaultShown};
@@ -22,131 +21,117 @@ use gtp_v2::{BEARER_CONTEXT, DatagramView, MessageView, V2Fault, type_name};
 use gtp_values::{Below, Seq, Teid};
 use std::alloc::AllocError;
 
-/// Writes where an element stands, where that is asked for.
-#[tactic(auto, using(crate::proofs::Tokens::appending))]
-fn put_place(out: &mut Output, places: bool, view: &ElementView) -> Result<(), AllocError>
-    ensures ok { OnOk result
-        (out.new ≡ out.old ++ written (place_members places (element_of view.now))) }
-{
-    if !places {
-        return Ok(());
-    }
-    out.number_member("at", view.at as u64)?;
-    out.number_member("length", 4 + view.body.len() as u64)
-}
-
 /// Writes what stands before an element's value.
 #[tactic(auto, using(crate::proofs::Tokens::appending))]
-fn put_element_head(out: &mut Output, places: bool, view: &ElementView) -> Result<(), AllocError>
-    ensures ok { OnOk result
-        (out.new ≡ out.old ++ written (element_head places (element_of view.now))) }
+pub fn put_element_head(out: &mut Output, view: &ElementView) -> Result<(), AllocError>
+    ensures ok { OnOk result (out.new ≡ out.old ++ written (element_head (element_of view.now))) }
 {
     out.number_member("type", u64::from(view.kind))?;
-    out.number_member("instance", u64::from(view.instance))?;
-    put_place(out, places, view)
+    out.number_member("instance", u64::from(view.instance))
 }
 
 /// Writes an element inside a group.
 #[tactic(auto, using(crate::proofs::Tokens::nesting))]
-fn put_inner(out: &mut Output, places: bool, view: &ElementView) -> Result<(), AllocError>
-    ensures ok { OnOk result (out.new ≡ out.old ++ json_tokens (inner_json places (element_of view.now))) }
+fn put_inner(out: &mut Output, view: &ElementView) -> Result<(), AllocError>
+    ensures ok { OnOk result (out.new ≡ out.old ++ json_tokens (inner_json (element_of view.now))) }
 {
     out.begin_object()?;
-    put_element_head(out, places, view)?;
+    put_element_head(out, view)?;
     put_body(out, view.kind, view.body)?;
     out.end_object()
 }
 
 /// Writes the elements inside a group.
-fn put_all_inner(out: &mut Output, places: bool, elements: &Elements) -> Result<(), AllocError>
+fn put_all_inner(out: &mut Output, elements: &Elements) -> Result<(), AllocError>
     ensures ok { OnOk result (out.new
-        ≡ out.old ++ flat_map (λ e. json_tokens (inner_json places e)) elements.now) }
+        ≡ out.old ++ flat_map (λ e. json_tokens (inner_json e)) elements.now) }
 {
     for view in elements.iter() {
-        put_inner(out, places, &view)?;
+        put_inner(out, &view)?;
     }
     Ok(())
 }
 
 /// Writes the array of the elements inside a group.
 #[tactic(auto, using(crate::proofs::Tokens::nesting, crate::proofs::Tokens::array_tokens))]
-fn put_inner_array(out: &mut Output, places: bool, elements: &Elements) -> Result<(), AllocError>
+fn put_inner_array(out: &mut Output, elements: &Elements) -> Result<(), AllocError>
     ensures ok { OnOk result (out.new
-        ≡ out.old ++ json_tokens (array_of (map (inner_json places) elements.now))) }
+        ≡ out.old ++ json_tokens (array_of (map inner_json elements.now))) }
 {
     out.begin_array()?;
-    put_all_inner(out, places, elements)?;
+    put_all_inner(out, elements)?;
     out.end_array()
 }
 
 /// Writes a bearer context by its elements, or its octets where they are not whole elements.
 #[tactic(auto, using(crate::proofs::Tokens::nesting))]
-fn put_group(out: &mut Output, places: bool, view: &ElementView) -> Result<(), AllocError>
+fn put_group(out: &mut Output, view: &ElementView) -> Result<(), AllocError>
     ensures ok { OnOk result (out.new ≡ out.old
-        ++ written (group_members places (element_of view.now)
+        ++ written (group_members (element_of view.now)
         (elements_of (view.now.at + 4) view.now.body.now))) }
 {
     match view.inner() {
         Ok(inner) => {
             out.string_member("name", "bearer-context")?;
             out.key("elements")?;
-            put_inner_array(out, places, &inner)
+            put_inner_array(out, &inner)
         }
         Err(_) => put_octets(out, view.body),
     }
 }
 
 /// Writes what an element says.
-fn put_element_body(out: &mut Output, places: bool, view: &ElementView) -> Result<(), AllocError>
+fn put_element_body(out: &mut Output, view: &ElementView) -> Result<(), AllocError>
     ensures ok { OnOk result
-        (out.new ≡ out.old ++ written (element_members places (element_of view.now))) }
+        (out.new ≡ out.old ++ written (element_members (element_of view.now))) }
 {
     if view.kind == BEARER_CONTEXT {
-        return put_group(out, places, view);
+        return put_group(out, view);
     }
     put_body(out, view.kind, view.body)
 }
 
 /// Writes an element.
 #[tactic(auto, using(crate::proofs::Tokens::nesting))]
-fn put_element(out: &mut Output, places: bool, view: &ElementView) -> Result<(), AllocError>
+fn put_element(out: &mut Output, view: &ElementView) -> Result<(), AllocError>
     ensures ok { OnOk result
-        (out.new ≡ out.old ++ json_tokens (element_json places (element_of view.now))) }
+        (out.new ≡ out.old ++ json_tokens (element_json (element_of view.now))) }
 {
     out.begin_object()?;
-    put_element_head(out, places, view)?;
-    put_element_body(out, places, view)?;
+    put_element_head(out, view)?;
+    put_element_body(out, view)?;
     out.end_object()
 }
 
 /// Writes elements.
-fn put_all_elements(out: &mut Output, places: bool, elements: &Elements) -> Result<(), AllocError>
+fn put_all_elements(out: &mut Output, elements: &Elements) -> Result<(), AllocError>
     ensures ok { OnOk result (out.new
-        ≡ out.old ++ flat_map (λ e. json_tokens (element_json places e)) elements.now) }
+        ≡ out.old ++ flat_map (λ e. json_tokens (element_json e)) elements.now) }
 {
     for view in elements.iter() {
-        put_element(out, places, &view)?;
+        put_element(out, &view)?;
     }
     Ok(())
 }
 
 /// Writes the member of elements.
 #[tactic(auto, using(crate::proofs::Tokens::nesting, crate::proofs::Tokens::array_tokens))]
-pub fn put_elements(out: &mut Output, places: bool, elements: &Elements) -> Result<(), AllocError>
-    ensures ok { OnOk result (out.new ≡ out.old ++ written (elements_members places elements.now)) }
+fn put_elements(out: &mut Output, elements: &Elements) -> Result<(), AllocError>
+    ensures ok { OnOk result (out.new ≡ out.old ++ written (elements_members elements.now)) }
 {
     out.key("elements")?;
     out.begin_array()?;
-    put_all_elements(out, places, elements)?;
+    put_all_elements(out, elements)?;
     out.end_array()
 }
 
-/// Writes the name of a type of message, where it has one.
-#[tactic(auto, using(crate::proofs::Tokens::appending, crate::proofs::Names::name_some, crate::proofs::Names::name_none))]
-fn put_name(out: &mut Output, kind: u8) -> Result<(), AllocError>
-    ensures ok { OnOk result (out.new ≡ out.old ++ written (named_by (table_of kind))) }
+/// Writes a name, where there is one.
+#[tactic(auto, using(crate::proofs::Tokens::appending))]
+fn put_name(out: &mut Output, name: Option<&str>) -> Result<(), AllocError>
+    ensures ok { OnOk result
+        (out.new ≡ out.old ++ written (name_members (option_map (λ n. n.now) name.entry))) }
 {
-    match type_name(kind) {
+    match name {
         Some(name) => out.string_member("name", name),
         None => Ok(()),
     }
@@ -154,11 +139,12 @@ fn put_name(out: &mut Output, kind: u8) -> Result<(), AllocError>
 
 /// Writes the type of a message, by its number and its name.
 #[tactic(auto, unfolding(crate::specs::Control::title_members), using(crate::proofs::Tokens::appending))]
-fn put_title(out: &mut Output, kind: u8) -> Result<(), AllocError>
-    ensures ok { OnOk result (out.new ≡ out.old ++ written (title_members kind)) }
+fn put_title(out: &mut Output, name: Option<&str>, kind: u8) -> Result<(), AllocError>
+    ensures ok { OnOk result
+        (out.new ≡ out.old ++ written (title_members (option_map (λ n. n.now) name.entry) kind)) }
 {
     out.number_member("type", u64::from(kind))?;
-    put_name(out, kind)
+    put_name(out, name)
 }
 
 /// Writes a TEID, where there is one.
@@ -188,15 +174,16 @@ fn put_some_priority(out: &mut Output, priority: Option<Below<16>>) -> Result<()
 #[tactic(auto, using(crate::proofs::Tokens::appending))]
 pub fn put_head_members(
     out: &mut Output,
+    name: Option<&str>,
     kind: u8,
     teid: Option<Teid>,
     seq: Seq,
     priority: Option<Below<16>>,
 ) -> Result<(), AllocError>
     ensures ok { OnOk result (out.new ≡ out.old
-        ++ written (header_members kind teid seq priority)) }
+        ++ written (header_members (option_map (λ n. n.now) name.entry) kind teid seq priority)) }
 {
-    put_title(out, kind)?;
+    put_title(out, name, kind)?;
     put_some_teid(out, teid)?;
     out.number_member("seq", u64::from(seq.number()))?;
     put_some_priority(out, priority)
@@ -206,7 +193,15 @@ pub fn put_head_members(
 fn put_head(out: &mut Output, seen: &MessageView) -> Result<(), AllocError>
     ensures ok { OnOk result (out.new ≡ out.old ++ written (head_members seen.now.message)) }
 {
-    put_head_members(out, seen.kind(), seen.teid(), seen.seq(), seen.priority())
+    let kind = seen.kind();
+    put_head_members(
+        out,
+        type_name(kind),
+        kind,
+        seen.teid(),
+        seen.seq(),
+        seen.priority(),
+    )
 }
 
 /// Writes what a message carries.
@@ -217,7 +212,7 @@ fn put_carried(out: &mut Output, seen: &MessageView) -> Result<(), AllocError>
 {
     match seen.raw() {
         Some(carried) => put_octets(out, carried),
-        None => put_elements(out, false, &seen.elements()),
+        None => put_elements(out, &seen.elements()),
     }
 }
 

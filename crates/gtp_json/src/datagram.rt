@@ -4,26 +4,31 @@ ghost use Rattle.std.specs.Prelude.{◌≡◌, ◌++◌, OnOk, IfOk};
 ghost use Rattle.gtp_values.specs.declared.plane.Plane.TheVariants as planes;
 ghost use Rattle.gtp_json.specs.reading.Tokens.{written};
 ghost use Rattle.gtp_json.specs.Adds.{Adds};
-ghost use Rattle.gtp_json.specs.Datagram.{plane_word, plane_member, BeforeFault, MembersBy, has_places, octets_shown, WholeMembers, IsDatagramJson, DatagramJson};
+ghost use Rattle.gtp_user.specs.Message.{message_value};
+ghost use Rattle.gtp_json.specs.Datagram.{user_members_by, plane_word, plane_member, BeforeFault, MembersBy, has_places, octets_shown, WholeMembers, IsDatagramJson, DatagramJson};
 ghost use Rattle.gtp_json.specs.Reads.{ReadsBack};
 
 use crate::all::{put_shown, put_user_shown};
+use crate::named::put_named_message;
 use crate::object::Output;
 use crate::{control, user};
 use gtp_lines::Shown;
+use gtp_names::Names;
+use gtp_user::UserMessage;
 use gtp_v2::view;
 use gtp_values::{Memory, Plane};
 use std::alloc::{AllocError, Global};
 
 /// Which members an object has of a datagram, after its plane.
-#[derive(Clone, Copy, Debug, PartialEq, Eq)]
+#[derive(Clone, Copy, Debug)]
 pub enum Members {
     /// Those of its message or of its two; or, in their place, its first fault.
     Plain,
-    /// All that can be shown of it, and then its first fault, if it has one; of a user datagram without a fault, those of its message.
+    /// All that can be shown of it, by these names and forms, and then its first fault, if it has one; of a user datagram without a
+    /// fault, those of its message.
     /// With places: the octets of the datagram before these, of each element of the control plane where it stands, and of the
     /// fault where it lies.
-    All { places: bool },
+    All { names: Names, places: bool },
 }
 
 impl Members {
@@ -31,7 +36,7 @@ impl Members {
     fn has_places(self) -> bool
         ensures { result ≡ has_places self }
     {
-        matches!(self, Members::All { places: true })
+        matches!(self, Members::All { places: true, .. })
     }
 }
 
@@ -63,8 +68,8 @@ fn put_before(
 {
     match (members, plane) {
         (Members::Plain, _) => Ok(()),
-        (Members::All { places }, Plane::Control) => put_shown(out, places, octets),
-        (Members::All { .. }, Plane::User) => put_user_shown(out, octets),
+        (Members::All { names, places }, Plane::Control) => put_shown(out, places, &names, octets),
+        (Members::All { names, .. }, Plane::User) => put_user_shown(out, &names, octets),
     }
 }
 
@@ -77,7 +82,7 @@ fn put_control(out: &mut Output, members: Members, octets: &[u8]) -> Result<bool
         Ok(seen) => {
             match members {
                 Members::Plain => control::put_datagram(out, &seen)?,
-                Members::All { places } => put_shown(out, places, octets)?,
+                Members::All { names, places } => put_shown(out, places, &names, octets)?,
             }
             Ok(false)
         }
@@ -89,6 +94,21 @@ fn put_control(out: &mut Output, members: Members, octets: &[u8]) -> Result<bool
     }
 }
 
+/// Writes the members of a message of the user plane.
+fn put_user_message(
+    out: &mut Output,
+    members: Members,
+    message: &UserMessage,
+) -> Result<(), AllocError>
+    ensures ok { OnOk result
+        (out.new ≡ out.old ++ written (user_members_by members (message_value message.now))) }
+{
+    match members {
+        Members::Plain => user::put_message(out, message),
+        Members::All { names, .. } => put_named_message(out, &names, message),
+    }
+}
+
 /// The same of a datagram of the user plane.
 fn put_user(out: &mut Output, members: Members, octets: &[u8]) -> Result<bool, AllocError>
     ensures { IfOk result (λ faulty.
@@ -96,7 +116,7 @@ fn put_user(out: &mut Output, members: Members, octets: &[u8]) -> Result<bool, A
 {
     match gtp_user::decode(octets) {
         Ok(message) => {
-            user::put_message(out, &message)?;
+            put_user_message(out, members, &message)?;
             Ok(false)
         }
         Err(fault) => {
@@ -152,7 +172,8 @@ pub fn put_members(
 /// A datagram as one JSON object on one line, in ASCII, with a line feed: its plane, and then these members; and whether it
 /// has a fault. `Plain`: those of its message or of its two, or its first fault alone. `All`: of each message of the control
 /// plane its header and its elements, as many as are whole, and the octets that are left; and then the datagram's first fault,
-/// if it has one. `All` with places has before these `datagram`, its octets; each element of the control plane has `at`, the place of its
+/// if it has one; messages, elements and extension headers have `name`, where their type has one, and elements and extension headers
+/// `fields`, what their form says, where it has one; groups have `elements`. `All` with places has before these `datagram`, its octets; each element of the control plane has `at`, the place of its
 /// first octet, and `length`, how many octets it is; and the fault has `at`, where it lies, where what follows its code has no place.
 /// `Memory` where an allocation was refused.
 pub fn datagram_json(

@@ -6,6 +6,7 @@ mod control;
 mod datagram;
 mod frames;
 pub mod laws;
+mod named;
 mod object;
 mod places;
 mod user;
@@ -13,6 +14,7 @@ mod values;
 
 pub use datagram::{Members, datagram_json};
 pub use frames::{frame_json, put_end};
+pub use named::element_json;
 pub use object::Output;
 
 /// What the signatures here name of the crates below.

@@ -1,6 +1,6 @@
 //! JSON written a token at a time.
 
-ghost use Rattle.std.specs.Prelude.{◌≡◌, ◌<◌, [], ◌++◌, All, OnOk, IfOk, IfSome, codes};
+ghost use Rattle.std.specs.Prelude.{◌≡◌, ◌<◌, [], ◌++◌, All, map, OnOk, IfOk, IfSome, codes};
 ghost use Rattle.json.specs.Json.{boolean, string as string_json};
 ghost use Rattle.json.specs.Tree.{json_tokens};
 ghost use Rattle.gtp_json.specs.Tree.{member, number_of};
@@ -9,7 +9,10 @@ ghost use Rattle.gtp_json.specs.Values.{hexadecimal};
 ghost use Rattle.json.specs.Lex.{tokens};
 ghost use Rattle.json.specs.Print.{print};
 ghost use Rattle.gtp_values.specs.Imsi.{digits_text};
+ghost use Rattle.gtp_forms.specs.Told.{event_of};
+ghost use Rattle.gtp_forms.specs.Tokens.{tokens_of, bracketed};
 
+use gtp_forms::{Told, write_told};
 use json::Writer;
 use std::alloc::{AllocError, Global};
 use std::fmt::Display;
@@ -135,6 +138,16 @@ impl Output {
             text.push(char::from(b'0' + *digit))?;
         }
         self.string(&text)
+    }
+
+    /// An object of what was told.
+    #[tactic(auto, using(crate::proofs::Tokens::appending))]
+    pub fn told_object(&mut self, told: &[Told]) -> Result<(), AllocError>
+        ensures ok { OnOk result (self.new ≡ self.old ++ bracketed (tokens_of (map event_of told.now))) }
+    {
+        self.writer.begin_object()?;
+        write_told(self.alloc, &mut self.writer, told)?;
+        self.writer.end_object()
     }
 
     /// A member that is a number.

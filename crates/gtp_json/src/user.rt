@@ -64,7 +64,7 @@ pub fn put_some(out: &mut Output, name: &str, number: Option<u64>) -> Result<(),
 
 /// Writes what a message's header says.
 #[tactic(auto, using(crate::proofs::Tokens::appending))]
-fn put_head(out: &mut Output, message: &UserMessage) -> Result<(), AllocError>
+pub fn put_head(out: &mut Output, message: &UserMessage) -> Result<(), AllocError>
     ensures ok { OnOk result
         (out.new ≡ out.old ++ written (user_head (message_value message.now))) }
 {
@@ -119,7 +119,7 @@ fn put_indication(out: &mut Output, teid: Teid, peer: &Ip) -> Result<(), AllocEr
 
 /// Writes what a message carries.
 #[tactic(auto, using(crate::proofs::Tokens::appending))]
-fn put_carried(out: &mut Output, body: &UserBody) -> Result<(), AllocError>
+pub fn put_carried(out: &mut Output, body: &UserBody) -> Result<(), AllocError>
     ensures ok { OnOk result (out.new ≡ out.old ++ written (user_carried (content_of body.now))) }
 {
     match body {

@@ -1,4 +1,5 @@
 pub mod Appends
+pub mod Titles
 pub mod Pieces
 pub mod Seen
 pub mod Before
@@ -6,3 +7,4 @@ pub mod Counted
 pub mod Alike
 pub mod Whole
 pub mod OneText
+pub mod Fronts

@@ -12,10 +12,12 @@ use Rattle.gtp_v2.proofs.Pairs.{datagram_decided}
 use Rattle.gtp_user.specs.declared.fault.UserFault.{UserFault}
 use Rattle.gtp_user.specs.Datagram.{IsUserMessage, IsUserFault}
 use Rattle.gtp_user.proofs.Messages.{message_decided}
-use Rattle.gtp_lines.specs.Control.{element_lines, first_line, fault_line}
-use Rattle.gtp_lines.specs.declared.words.Wording.TheVariants.{Worded}
-use Rattle.gtp_lines.specs.User.{user_fault_line, user_lines}
+use Rattle.gtp_names.specs.declared.names.Names.{Names}
+use Rattle.gtp_lines.specs.Control.{first_line, fault_line}
+use Rattle.gtp_lines.specs.Named.{title_in, named_lines, named_user_lines}
+use Rattle.gtp_lines.specs.User.{user_fault_line}
 use Rattle.gtp_lines.specs.All.{rest_line, context_line, fault_context, head_at, MessageShown, AloneShown, SecondShown, ShownBy, pair_at, user_shown, user_head_at}
+use Rattle.gtp_lines.specs.Fronts.{chain_at}
 use Rattle.gtp_lines.specs.Laws.{OneText}
 use Rattle.gtp_lines.proofs.Alike.{one_front}
 
@@ -35,49 +37,49 @@ one_of {X} {E} r Is Fails d = record {
 
 -- ---- control
 
-message_one : (h : Headed) (t u : List ℕ) → MessageShown h t → MessageShown h u → t ≡ u
-message_one h t u (es, rest, front, t_is) (ds, left, other, u_is) =
+message_one : (names : Names) (h : Headed) (t u : List ℕ) → MessageShown names h t → MessageShown names h u → t ≡ u
+message_one names h t u (es, rest, front, t_is) (ds, left, other, u_is) =
     let p = one_front h.at h.rest es rest ds left front other in
-    let lines : flat_map (element_lines Worded) es ++ rest_line rest ≡ flat_map (element_lines Worded) ds ++ rest_line left =
-    ap (λ (xs : List Element). flat_map (element_lines Worded) xs ++ rest_line rest) p.0
-    ∙ ap (λ (xs : List ℕ). flat_map (element_lines Worded) ds ++ rest_line xs) p.1 in
-    t_is ∙ (ap (λ (xs : List ℕ). first_line h.kind h.teid h.seq h.priority ++ xs) lines ∙ sym u_is)
+    let lines : flat_map (named_lines names h.kind) es ++ rest_line rest ≡ flat_map (named_lines names h.kind) ds ++ rest_line left =
+    ap (λ (xs : List Element). flat_map (named_lines names h.kind) xs ++ rest_line rest) p.0
+    ∙ ap (λ (xs : List ℕ). flat_map (named_lines names h.kind) ds ++ rest_line xs) p.1 in
+    t_is ∙ (ap (λ (xs : List ℕ). first_line (title_in names h.kind) h.kind h.teid h.seq h.priority ++ xs) lines ∙ sym u_is)
 
-alone_one : (w : Option Headed) (t u : List ℕ) → AloneShown w t → AloneShown w u → t ≡ u
-alone_one None t u a b = a ∙ sym b
-alone_one (Some h) t u a b = message_one h t u a b
+alone_one : (names : Names) (w : Option Headed) (t u : List ℕ) → AloneShown names w t → AloneShown names w u → t ≡ u
+alone_one names None t u a b = a ∙ sym b
+alone_one names (Some h) t u a b = message_one names h t u a b
 
-second_one : (back : List ℕ) (w : Option Headed) (t u : List ℕ) → SecondShown back w t → SecondShown back w u → t ≡ u
-second_one back None t u a b = a ∙ sym b
-second_one back (Some h) t u a b = message_one h t u a b
+second_one : (names : Names) (back : List ℕ) (w : Option Headed) (t u : List ℕ) → SecondShown names back w t → SecondShown names back w u → t ≡ u
+second_one names back None t u a b = a ∙ sym b
+second_one names back (Some h) t u a b = message_one names h t u a b
 
-shown_one : (p : Option (Headed × List ℕ)) (w : Option Headed) (t u : List ℕ) → ShownBy p w t → ShownBy p w u → t ≡ u
-shown_one None w t u a b = alone_one w t u a b
-shown_one (Some pair) w t u (first, second, m, s, is) (front, back, n, r, other) =
-    is ∙ (ap (λ (xs : List ℕ). xs ++ second) (message_one pair.0 first front m n) ∙ (ap (λ (xs : List ℕ). front ++ xs) (second_one pair.1 (head_at pair.1) second back s r) ∙ sym other))
+shown_one : (names : Names) (p : Option (Headed × List ℕ)) (w : Option Headed) (t u : List ℕ) → ShownBy names p w t → ShownBy names p w u → t ≡ u
+shown_one names None w t u a b = alone_one names w t u a b
+shown_one names (Some pair) w t u (first, second, m, s, is) (front, back, n, r, other) =
+    is ∙ (ap (λ (xs : List ℕ). xs ++ second) (message_one names pair.0 first front m n) ∙ (ap (λ (xs : List ℕ). front ++ xs) (second_one names pair.1 (head_at pair.1) second back s r) ∙ sym other))
 
 pub one_text : OneText
-one_text planes.Control octets t true u true (f, fails, (shown, a, is)) (g, fault, (other, b, u_is)) =
+one_text names planes.Control octets t true u true (f, fails, (shown, a, is)) (g, fault, (other, b, u_is)) =
     let one = one_of _ (IsDatagram octets) (IsDatagramFault octets) (datagram_decided octets) in
-    let same = shown_one (pair_at octets) (head_at octets) shown other a b in
+    let same = shown_one names (pair_at octets) (head_at octets) shown other a b in
     let ends : V2Fault → List ℕ = λ (x : V2Fault). fault_line x ++ context_line (fault_context octets x) in
     (is ∙ (ap (λ (xs : List ℕ). xs ++ ends f) same ∙ (ap (λ (x : V2Fault). other ++ ends x) (one.fault f g fails fault) ∙ sym u_is)), refl)
-one_text planes.Control octets t true u false (f, fails, more) ((d, spelled), b) =
+one_text names planes.Control octets t true u false (f, fails, more) ((d, spelled), b) =
     let one = one_of _ (IsDatagram octets) (IsDatagramFault octets) (datagram_decided octets) in
     absurd (one.either d f spelled fails)
-one_text planes.Control octets t false u true ((d, spelled), a) (f, fails, more) =
+one_text names planes.Control octets t false u true ((d, spelled), a) (f, fails, more) =
     let one = one_of _ (IsDatagram octets) (IsDatagramFault octets) (datagram_decided octets) in
     absurd (one.either d f spelled fails)
-one_text planes.Control octets t false u false (d, a) (e, b) = (shown_one (pair_at octets) (head_at octets) t u a b, refl)
-one_text planes.User octets t true u true (f, fails, is) (g, fault, u_is) =
+one_text names planes.Control octets t false u false (d, a) (e, b) = (shown_one names (pair_at octets) (head_at octets) t u a b, refl)
+one_text names planes.User octets t true u true (f, fails, is) (g, fault, u_is) =
     let one = one_of _ (IsUserMessage octets) (IsUserFault octets) (message_decided octets) in
-    (is ∙ (ap (λ (x : UserFault). user_shown (user_head_at octets) ++ user_fault_line x) (one.fault f g fails fault) ∙ sym u_is), refl)
-one_text planes.User octets t true u false (f, fails, is) (m, spelled, u_is) =
-    let one = one_of _ (IsUserMessage octets) (IsUserFault octets) (message_decided octets) in
-    absurd (one.either m f spelled fails)
-one_text planes.User octets t false u true (m, spelled, is) (f, fails, u_is) =
+    (is ∙ (ap (λ (x : UserFault). user_shown names (user_head_at octets) (chain_at octets) ++ user_fault_line x) (one.fault f g fails fault) ∙ sym u_is), refl)
+one_text names planes.User octets t true u false (f, fails, is) (m, spelled, u_is) =
     let one = one_of _ (IsUserMessage octets) (IsUserFault octets) (message_decided octets) in
     absurd (one.either m f spelled fails)
-one_text planes.User octets t false u false (m, spelled, is) (n, other, u_is) =
+one_text names planes.User octets t false u true (m, spelled, is) (f, fails, u_is) =
     let one = one_of _ (IsUserMessage octets) (IsUserFault octets) (message_decided octets) in
-    (is ∙ (ap user_lines (one.value m n spelled other) ∙ sym u_is), refl)
+    absurd (one.either m f spelled fails)
+one_text names planes.User octets t false u false (m, spelled, is) (n, other, u_is) =
+    let one = one_of _ (IsUserMessage octets) (IsUserFault octets) (message_decided octets) in
+    (is ∙ (ap (named_user_lines names) (one.value m n spelled other) ∙ sym u_is), refl)

@@ -6,14 +6,15 @@ use Rattle.gtp_v2.specs.Message.{Content, Fields, Raw, raw_of, MessageValue}
 use Rattle.gtp_v2.specs.Pair.{LiesIn, LieIn}
 use Rattle.gtp_v2.specs.Viewed.{Viewed, ElementsAre}
 use Rattle.gtp_lines.specs.Text.{octets_text}
-use Rattle.gtp_lines.specs.declared.words.Wording.TheVariants.{Plain}
-use Rattle.gtp_lines.specs.Control.{CarriedLines, carried_lines, element_lines, seen_lines, datagram_lines, AloneLines, ControlLines}
+use Rattle.gtp_lines.specs.Control.{carried_lines, element_lines, seen_lines, datagram_lines}
+use Rattle.gtp_lines.specs.Named.{Plain}
+use Rattle.gtp_lines.specs.Messages.{CarriedLines, AloneLines, ControlLines}
 
 pub raw_lines : (content : Content) (es : List Element) (octets : List ℕ) → Some octets ≡ raw_of content → carried_lines content es ≡ codes "octets " ++ (octets_text octets ++ codes "\n")
 raw_lines (Raw carried) es octets is = let same : octets ≡ carried = cc in rw same refl
 raw_lines (Fields fields) es octets is = absurd cc
 
-pub typed_lines : (content : Content) (es : List Element) → None ≡ raw_of content → carried_lines content es ≡ flat_map (element_lines Plain) es
+pub typed_lines : (content : Content) (es : List Element) → None ≡ raw_of content → carried_lines content es ≡ flat_map element_lines es
 typed_lines (Raw carried) es is = absurd cc
 typed_lines (Fields fields) es is = refl
 

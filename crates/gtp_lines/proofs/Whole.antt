@@ -14,9 +14,11 @@ use Rattle.gtp_v2.specs.Datagram.{IsMessage}
 use Rattle.gtp_v2.specs.Pair.{Announces, alone, both}
 use Rattle.gtp_v2.specs.Viewed.{place_of}
 use Rattle.gtp_v2.proofs.Carried.{after_header}
-use Rattle.gtp_lines.specs.Control.{element_lines, first_line, head_line, CarriedLines, HasLines}
+use Rattle.gtp_names.specs.declared.names.Names.{Names}
+use Rattle.gtp_lines.specs.Control.{first_line}
+use Rattle.gtp_lines.specs.Named.{Named, title_in, named_lines}
+use Rattle.gtp_lines.specs.Messages.{head_by, CarriedLines, HasLines}
 use Rattle.gtp_lines.specs.All.{head_of, head_at, pair_at, rest_line, MessageShown, SecondShown, ShownBy}
-use Rattle.gtp_lines.specs.declared.words.Wording.TheVariants.{Worded}
 use Rattle.gtp_lines.specs.Laws.{WholeShown}
 use Rattle.gtp_lines.proofs.Before.{all_front}
 
@@ -65,53 +67,56 @@ announced octets front back h (flags, kind, high, low, following, (small, text),
 
 -- ---- messages
 
-fields_lines : (octets : List ℕ) (m : MessageValue) (content : Content) (lines : List ℕ) → CarriedLines Worded octets m content lines → raw_of content ≡ None
-    → (es : List Element) × AreElements (place_of m.teid) (drop (place_of m.teid) octets) es × (lines ≡ flat_map (element_lines Worded) es)
-fields_lines octets m (Raw carried) lines l none = absurd cc
-fields_lines octets m (Fields fields) lines l none = l
+fields_lines : (names : Names) (octets : List ℕ) (m : MessageValue) (content : Content) (lines : List ℕ) → CarriedLines (Named names) octets m content lines → raw_of content ≡ None
+    → (es : List Element) × AreElements (place_of m.teid) (drop (place_of m.teid) octets) es × (lines ≡ flat_map (named_lines names m.kind) es)
+fields_lines names octets m (Raw carried) lines l none = absurd cc
+fields_lines names octets m (Fields fields) lines l none = l
 
 -- the lines of a message after others
-record ShownAfter (before octets text : List ℕ) : Type 0 where
+record ShownAfter (names : Names) (before octets text : List ℕ) : Type 0 where
   head : Headed
   headed : IsHeaded octets head
   lines : List ℕ
-  shown : MessageShown head lines
+  shown : MessageShown names head lines
   is : text ≡ before ++ lines
 
-message_shown : (before octets : List ℕ) (m : MessageValue) (text : List ℕ) → IsMessage octets m → raw_of m.content ≡ None → HasLines Worded before octets m text → ShownAfter before octets text
-message_shown before octets m text (h, headed, (content, carries, is)) none (lines, carried, text_is) =
+message_shown : (names : Names) (before octets : List ℕ) (m : MessageValue) (text : List ℕ) → IsMessage octets m → raw_of m.content ≡ None
+    → HasLines (Named names) before octets m text → ShownAfter names before octets text
+message_shown names before octets m text (h, headed, (content, carries, is)) none (lines, carried, text_is) =
     let after = after_header octets h headed in
-    let w = fields_lines octets m m.content lines carried none in
+    let w = fields_lines names octets m m.content lines carried none in
     let place : place_of m.teid ≡ h.at = ap (λ (x : MessageValue). place_of x.teid) is ∙ after.place in
     let here : AreElements h.at (drop h.at octets) w.0 = subst (λ (n : ℕ). AreElements n (drop n octets) w.0) place w.1 in
     let are : AreElements h.at h.rest w.0 = subst (λ (xs : List ℕ). AreElements h.at xs w.0) after.rest here in
-    let first : List ℕ = first_line h.kind h.teid h.seq h.priority in
-    let title : head_line m ≡ first = ap head_line is in
-    let rest : lines ≡ flat_map (element_lines Worded) w.0 ++ rest_line [] = w.2 ∙ sym (append-nil (flat_map (element_lines Worded) w.0)) in
+    let first : List ℕ = first_line (title_in names h.kind) h.kind h.teid h.seq h.priority in
+    let title : head_by (Named names) m ≡ first = ap (head_by (Named names)) is in
+    let kind : m.kind ≡ h.kind = ap (λ (x : MessageValue). x.kind) is in
+    let named : lines ≡ flat_map (named_lines names h.kind) w.0 = w.2 ∙ ap (λ (n : ℕ). flat_map (named_lines names n) w.0) kind in
+    let rest : lines ≡ flat_map (named_lines names h.kind) w.0 ++ rest_line [] = named ∙ sym (append-nil (flat_map (named_lines names h.kind) w.0)) in
     record {
       head = h;
       headed = headed;
-      lines = first ++ (flat_map (element_lines Worded) w.0 ++ rest_line []);
+      lines = first ++ (flat_map (named_lines names h.kind) w.0 ++ rest_line []);
       shown = (w.0, [], all_front h.at h.rest w.0 are, refl);
       is = text_is ∙ (ap (λ (xs : List ℕ). before ++ (xs ++ lines)) title ∙ ap (λ (xs : List ℕ). before ++ (first ++ xs)) rest);
     }
 
 pub whole_shown : WholeShown
-whole_shown octets text typed (inl (m, is, has)) =
+whole_shown names octets text typed (inl (m, is, has)) =
     let spelled = inl (m, is, refl) in
-    let s = message_shown [] octets m text is (typed (alone m) spelled) has in
-    let here : ShownBy None (head_at octets) text =
-    subst (λ (w : Option Headed). ShownBy None w text) (sym (head_is octets s.head s.headed))
-    (subst (λ (xs : List ℕ). MessageShown s.head xs) (sym s.is) s.shown) in
-    ((alone m, spelled), subst (λ (p : Option (Headed × List ℕ)). ShownBy p (head_at octets) text) (sym (no_pair octets s.head s.headed)) here)
-whole_shown octets text typed (inr (front, back, announces, (before, (a, isa, hasa), (b, isb, hasb)))) =
+    let s = message_shown names [] octets m text is (typed (alone m) spelled) has in
+    let here : ShownBy names None (head_at octets) text =
+    subst (λ (w : Option Headed). ShownBy names None w text) (sym (head_is octets s.head s.headed))
+    (subst (λ (xs : List ℕ). MessageShown names s.head xs) (sym s.is) s.shown) in
+    ((alone m, spelled), subst (λ (p : Option (Headed × List ℕ)). ShownBy names p (head_at octets) text) (sym (no_pair octets s.head s.headed)) here)
+whole_shown names octets text typed (inr (front, back, announces, (before, (a, isa, hasa), (b, isb, hasb)))) =
     let spelled = inr (front, back, announces, (a, isa, (b, isb, refl))) in
     let each = typed (both a b) spelled in
-    let one = message_shown [] front a before isa each.0 hasa in
-    let two = message_shown before back b text isb each.1 hasb in
-    let second : SecondShown back (head_at back) two.lines = subst (λ (w : Option Headed). SecondShown back w two.lines) (sym (head_is back two.head two.headed)) two.shown in
+    let one = message_shown names [] front a before isa each.0 hasa in
+    let two = message_shown names before back b text isb each.1 hasb in
+    let second : SecondShown names back (head_at back) two.lines = subst (λ (w : Option Headed). SecondShown names back w two.lines) (sym (head_is back two.head two.headed)) two.shown in
     let both_are : text ≡ one.lines ++ two.lines = two.is ∙ ap (λ (xs : List ℕ). xs ++ two.lines) one.is in (
       (both a b, spelled),
-      subst (λ (p : Option (Headed × List ℕ)). ShownBy p (head_at octets) text) (sym (announced octets front back one.head announces one.headed))
+      subst (λ (p : Option (Headed × List ℕ)). ShownBy names p (head_at octets) text) (sym (announced octets front back one.head announces one.headed))
           (one.lines, two.lines, one.shown, second, both_are),
     )

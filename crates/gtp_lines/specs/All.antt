@@ -16,11 +16,14 @@ use Rattle.gtp_v2.specs.declared.fault.V2Fault.TheVariants as faults
 use Rattle.gtp_v2.specs.Headed.{Headed}
 use Rattle.gtp_v2.specs.Pair.{DatagramValue, IsDatagram, IsDatagramFault}
 use Rattle.gtp_user.specs.declared.fault.UserFault.{UserFault}
-use Rattle.gtp_user.specs.Datagram.{IsUserFault}
+use Rattle.gtp_user.specs.Message.{MessageValue as UserMessage}
+use Rattle.gtp_user.specs.Datagram.{IsUserMessage, IsUserFault}
 use Rattle.gtp_lines.specs.Text.{octets_text}
-use Rattle.gtp_lines.specs.declared.words.Wording.TheVariants.{Worded}
-use Rattle.gtp_lines.specs.Control.{element_lines, first_line, fault_line}
-use Rattle.gtp_lines.specs.User.{kind_title, some_shown, user_fault_line, UserLines}
+use Rattle.gtp_names.specs.declared.names.Names.{Names}
+use Rattle.gtp_lines.specs.Control.{first_line, fault_line}
+use Rattle.gtp_lines.specs.Fronts.{front_of, front_lines, chain_at}
+use Rattle.gtp_lines.specs.Named.{title_in, named_lines, named_user_lines}
+use Rattle.gtp_lines.specs.User.{kind_title, some_shown, user_fault_line}
 
 -- ---- elements
 
@@ -129,38 +132,38 @@ context_line (Some number) = numbered_line number
 
 -- ---- lines of the control plane
 
--- the first line of a message, the lines of its elements with their words, as many as are whole, and the octets that are left
-abbrev pub MessageShown : Headed → List ℕ → Type 0
-MessageShown h text =
-    (es : List Element) × (rest : List ℕ) × IsFront h.at h.rest es rest × (text ≡ first_line h.kind h.teid h.seq h.priority ++ (flat_map (element_lines Worded) es ++ rest_line rest))
+-- the first line of a message, the lines of its elements by their names and forms, as many as are whole, and the octets that are left
+abbrev pub MessageShown : Names → Headed → List ℕ → Type 0
+MessageShown names h text =
+    (es : List Element) × (rest : List ℕ) × IsFront h.at h.rest es rest × (text ≡ first_line (title_in names h.kind) h.kind h.teid h.seq h.priority ++ (flat_map (named_lines names h.kind) es ++ rest_line rest))
 
 -- a message without a header shows nothing
-abbrev pub AloneShown : Option Headed → List ℕ → Type 0
-AloneShown None text = text ≡ []
-AloneShown (Some h) text = MessageShown h text
+abbrev pub AloneShown : Names → Option Headed → List ℕ → Type 0
+AloneShown names None text = text ≡ []
+AloneShown names (Some h) text = MessageShown names h text
 
 -- a second message without one shows its octets
-abbrev pub SecondShown : List ℕ → Option Headed → List ℕ → Type 0
-SecondShown octets None text = text ≡ rest_line octets
-SecondShown octets (Some h) text = MessageShown h text
+abbrev pub SecondShown : Names → List ℕ → Option Headed → List ℕ → Type 0
+SecondShown names octets None text = text ≡ rest_line octets
+SecondShown names octets (Some h) text = MessageShown names h text
 
 -- the lines of a first message, and then those of the octets after it
-abbrev pub PairShown : Headed → List ℕ → List ℕ → Type 0
-PairShown h back text = (first : List ℕ) × (second : List ℕ) × MessageShown h first × SecondShown back (head_at back) second × (text ≡ first ++ second)
+abbrev pub PairShown : Names → Headed → List ℕ → List ℕ → Type 0
+PairShown names h back text = (first : List ℕ) × (second : List ℕ) × MessageShown names h first × SecondShown names back (head_at back) second × (text ≡ first ++ second)
 
 -- two messages, or one
-abbrev pub ShownBy : Option (Headed × List ℕ) → Option Headed → List ℕ → Type 0
-ShownBy None whole text = AloneShown whole text
-ShownBy (Some pair) whole text = PairShown pair.0 pair.1 text
+abbrev pub ShownBy : Names → Option (Headed × List ℕ) → Option Headed → List ℕ → Type 0
+ShownBy names None whole text = AloneShown names whole text
+ShownBy names (Some pair) whole text = PairShown names pair.0 pair.1 text
 
 -- what can be shown of a datagram: where no second message is announced, or the first is not whole, all its octets are those of one
-abbrev pub ControlShown : List ℕ → List ℕ → Type 0
-ControlShown octets text = ShownBy (pair_at octets) (head_at octets) text
+abbrev pub ControlShown : Names → List ℕ → List ℕ → Type 0
+ControlShown names octets text = ShownBy names (pair_at octets) (head_at octets) text
 
 -- and then the line of its first fault, if it has one, and of the bearer context in which that lies
-abbrev pub AllControl : List ℕ → List ℕ → Bool → Type 0
-AllControl octets text true = (f : V2Fault) × IsDatagramFault octets f × ((shown : List ℕ) × ControlShown octets shown × (text ≡ shown ++ (fault_line f ++ context_line (fault_context octets f))))
-AllControl octets text false = ((d : DatagramValue) × IsDatagram octets d) × ControlShown octets text
+abbrev pub AllControl : Names → List ℕ → List ℕ → Bool → Type 0
+AllControl names octets text true = (f : V2Fault) × IsDatagramFault octets f × ((shown : List ℕ) × ControlShown names octets shown × (text ≡ shown ++ (fault_line f ++ context_line (fault_context octets f))))
+AllControl names octets text false = ((d : DatagramValue) × IsDatagram octets d) × ControlShown names octets text
 
 -- ---- the user plane
 
@@ -182,16 +185,21 @@ user_head_at (first ∷ kind ∷ high ∷ low ∷ a ∷ b ∷ c ∷ d ∷ rest) 
     if first / 16 == 3 then Some (numbered_head ((first / 2) % 2 == 1) kind (from_be_bytes w32 (a ∷ b ∷ c ∷ d ∷ [])) rest) else None
 user_head_at octets = None
 
--- what can be shown of a datagram at fault
-abbrev pub user_shown : Option UserHead → List ℕ
-user_shown None = []
-user_shown (Some h) = kind_title h.kind ++ (codes " teid " ++ (teid_text h.teid ++ (some_shown (codes " seq ") h.seq ++ (codes "\n" ++ rest_line h.rest))))
+-- what follows the first line of a datagram at fault: its extension headers, where it says that it has some, and what is after them
+abbrev pub behind_head : Names → UserHead → Option (ℕ × List ℕ) → List ℕ
+behind_head names h None = rest_line h.rest
+behind_head names h (Some chain) = front_lines names h.kind (front_of chain.0 chain.1)
 
-abbrev pub AllUser : List ℕ → List ℕ → Bool → Type 0
-AllUser octets text true = (f : UserFault) × IsUserFault octets f × (text ≡ user_shown (user_head_at octets) ++ user_fault_line f)
-AllUser octets text false = UserLines octets text false
+-- what can be shown of it
+abbrev pub user_shown : Names → Option UserHead → Option (ℕ × List ℕ) → List ℕ
+user_shown names None chain = []
+user_shown names (Some h) chain = kind_title h.kind ++ (codes " teid " ++ (teid_text h.teid ++ (some_shown (codes " seq ") h.seq ++ (codes "\n" ++ behind_head names h chain))))
+
+abbrev pub AllUser : Names → List ℕ → List ℕ → Bool → Type 0
+AllUser names octets text true = (f : UserFault) × IsUserFault octets f × (text ≡ user_shown names (user_head_at octets) (chain_at octets) ++ user_fault_line f)
+AllUser names octets text false = (m : UserMessage) × IsUserMessage octets m × (text ≡ named_user_lines names m)
 
 -- All that can be shown of a datagram; and then the line of its first fault, if it has one.
-abbrev pub AllLines : Plane → List ℕ → List ℕ → Bool → Type 0
-AllLines planes.Control octets text faulty = AllControl octets text faulty
-AllLines planes.User octets text faulty = AllUser octets text faulty
+abbrev pub AllLines : Names → Plane → List ℕ → List ℕ → Bool → Type 0
+AllLines names planes.Control octets text faulty = AllControl names octets text faulty
+AllLines names planes.User octets text faulty = AllUser names octets text faulty

@@ -1,44 +1,38 @@
 -- The lines of a control datagram.
-use Rattle.std.specs.Prelude.{◌≡◌, ℕ, ◌+◌, ◌==◌, if◌then◌else◌, Bool, true, false, List, [], ◌++◌, drop, Option, Some, None, Result, Ok, Err, ◌⊎◌, codes, decimal}
+use Rattle.std.specs.Prelude.{ℕ, ◌+◌, ◌==◌, if◌then◌else◌, Bool, true, false, List, [], ◌++◌, Option, Some, None, Result, Ok, Err, codes, decimal}
 use Rattle.std.specs.List.{flat_map}
 use Rattle.gtp_ie.specs.declared.fault.IeFault.{IeFault}
 use Rattle.gtp_ie.specs.declared.fault.IeFault.TheVariants as elements
 use Rattle.gtp_ie.specs.Codes as element_codes
 use Rattle.gtp_ie.specs.Element.{Element, elements_of}
 use Rattle.gtp_ie.specs.Form.{bearer_context}
-use Rattle.gtp_ie.specs.Octets.{AreElements}
 use Rattle.gtp_v2.specs.declared.fault.V2Fault.{V2Fault}
 use Rattle.gtp_v2.specs.declared.fault.V2Fault.TheVariants as faults
 use Rattle.gtp_v2.specs.Codes.{number_of}
 use Rattle.gtp_v2.specs.Table.{Table}
 use Rattle.gtp_v2.specs.Tables.{table_of}
 use Rattle.gtp_v2.specs.Message.{Content, Fields, Raw, MessageValue}
-use Rattle.gtp_v2.specs.Datagram.{IsMessage}
-use Rattle.gtp_v2.specs.Pair.{Announces, IsDatagramFault}
-use Rattle.gtp_v2.specs.Viewed.{Viewed, place_of}
+use Rattle.gtp_v2.specs.Viewed.{Viewed}
 use Rattle.gtp_values.specs.Teid.{teid_text}
 use Rattle.gtp_lines.specs.Text.{octets_text}
-use Rattle.gtp_lines.specs.Values.{field_shown, raw_shown}
-use Rattle.gtp_lines.specs.declared.words.Wording.{Wording}
-use Rattle.gtp_lines.specs.declared.words.Wording.TheVariants.{Plain}
-use Rattle.gtp_lines.specs.Words.{said}
+use Rattle.gtp_lines.specs.Values.{field_shown, raw_shown, body_shown}
 
 -- what stands before an element's value
 abbrev pub element_head : Element → List ℕ
 element_head e = codes "ie " ++ (decimal e.kind ++ (codes " " ++ (decimal e.instance ++ codes " ")))
 
 -- the line of an element inside a group
-abbrev pub inner_line : Wording → Element → List ℕ
-inner_line wording e = codes "  " ++ (element_head e ++ (said wording e.kind e.body ++ codes "\n"))
+abbrev pub inner_line : Element → List ℕ
+inner_line e = codes "  " ++ (element_head e ++ (body_shown e.kind e.body ++ codes "\n"))
 
 -- a bearer context by its elements; or its octets where they are not whole elements
-abbrev pub group_shown : Wording → Element → Result (List Element) ℕ → List ℕ
-group_shown wording e (Ok inner) = codes "bearer-context\n" ++ flat_map (inner_line wording) inner
-group_shown wording e (Err at) = raw_shown e.body ++ codes "\n"
+abbrev pub group_shown : Element → Result (List Element) ℕ → List ℕ
+group_shown e (Ok inner) = codes "bearer-context\n" ++ flat_map inner_line inner
+group_shown e (Err at) = raw_shown e.body ++ codes "\n"
 
 -- the lines of an element
-abbrev pub element_lines : Wording → Element → List ℕ
-element_lines wording e = element_head e ++ (if e.kind == bearer_context then group_shown wording e (elements_of (e.at + 4) e.body) else (said wording e.kind e.body ++ codes "\n"))
+abbrev pub element_lines : Element → List ℕ
+element_lines e = element_head e ++ (if e.kind == bearer_context then group_shown e (elements_of (e.at + 4) e.body) else (body_shown e.kind e.body ++ codes "\n"))
 
 -- the name of a type of message: that of its table, where it has one
 abbrev pub name_shown : Option Table → List ℕ
@@ -57,26 +51,20 @@ priority_shown None = []
 priority_shown (Some priority) = codes " priority " ++ decimal priority
 
 -- the type of a message, by its number and its name
-unfoldable pub title_shown : ℕ → List ℕ
-title_shown kind = field_shown (codes "gtpv2 type ") kind ++ (codes " " ++ message_name kind)
+unfoldable pub title_shown : List ℕ → ℕ → List ℕ
+title_shown name kind = field_shown (codes "gtpv2 type ") kind ++ (codes " " ++ name)
 
--- the first line of a message of this type, TEID, sequence number and priority
-abbrev pub first_line : ℕ → Option ℕ → ℕ → Option ℕ → List ℕ
-first_line kind teid seq priority = title_shown kind ++ (teid_shown teid ++ (field_shown (codes " seq ") seq ++ (priority_shown priority ++ codes "\n")))
+-- the first line of a message of this name, type, TEID, sequence number and priority
+abbrev pub first_line : List ℕ → ℕ → Option ℕ → ℕ → Option ℕ → List ℕ
+first_line name kind teid seq priority = title_shown name kind ++ (teid_shown teid ++ (field_shown (codes " seq ") seq ++ (priority_shown priority ++ codes "\n")))
 
 abbrev pub head_line : MessageValue → List ℕ
-head_line m = first_line m.kind m.teid m.seq m.priority
+head_line m = first_line (message_name m.kind) m.kind m.teid m.seq m.priority
 
 -- the lines after the first: those of the elements in the datagram's order, or the octets of a message of another type
-abbrev pub CarriedLines : Wording → List ℕ → MessageValue → Content → List ℕ → Type 0
-CarriedLines wording octets m (Raw carried) lines = lines ≡ codes "octets " ++ (octets_text carried ++ codes "\n")
-CarriedLines wording octets m (Fields fields) lines =
-    (es : List Element) × AreElements (place_of m.teid) (drop (place_of m.teid) octets) es × (lines ≡ flat_map (element_lines wording) es)
-
--- the same of elements that are at hand, without words
 abbrev pub carried_lines : Content → List Element → List ℕ
 carried_lines (Raw carried) es = codes "octets " ++ (octets_text carried ++ codes "\n")
-carried_lines (Fields fields) es = flat_map (element_lines Plain) es
+carried_lines (Fields fields) es = flat_map element_lines es
 
 -- the lines of a message that is viewed
 abbrev pub seen_lines : Viewed → List ℕ
@@ -121,26 +109,3 @@ fault_shown f = field_shown (codes "H") (number_of f) ++ fault_detail f
 -- the line of a fault
 abbrev pub fault_line : V2Fault → List ℕ
 fault_line f = codes "fault " ++ (fault_shown f ++ codes "\n")
-
--- the text is other text, and then the lines of a message that the octets spell
-abbrev pub HasLines : Wording → List ℕ → List ℕ → MessageValue → List ℕ → Type 0
-HasLines wording before octets m text = (lines : List ℕ) × CarriedLines wording octets m m.content lines × (text ≡ before ++ (head_line m ++ lines))
-
--- the lines of one message alone
-abbrev pub AloneLines : Wording → List ℕ → List ℕ → Type 0
-AloneLines wording octets text = (m : MessageValue) × IsMessage octets m × HasLines wording [] octets m text
-
--- the lines of two messages: those of the first, and then those of the second
-abbrev pub PairLines : Wording → List ℕ → List ℕ → Type 0
-PairLines wording octets text =
-    (front : List ℕ) × (back : List ℕ) × Announces octets front back
-    × ((before : List ℕ) × AloneLines wording front before × ((m : MessageValue) × IsMessage back m × HasLines wording before back m text))
-
--- the lines of a control datagram without a fault
-abbrev pub WholeLines : Wording → List ℕ → List ℕ → Type 0
-WholeLines wording octets text = AloneLines wording octets text ⊎ PairLines wording octets text
-
--- the lines of a control datagram, without words, and whether they are a fault's
-abbrev pub ControlLines : List ℕ → List ℕ → Bool → Type 0
-ControlLines octets text true = (f : V2Fault) × IsDatagramFault octets f × (text ≡ fault_line f)
-ControlLines octets text false = WholeLines Plain octets text

@@ -4,8 +4,9 @@ use Rattle.gtp_values.specs.declared.plane.Plane.{Plane}
 use Rattle.gtp_ie.specs.Element.{Element}
 use Rattle.gtp_v2.specs.Message.{MessageValue, raw_of}
 use Rattle.gtp_v2.specs.Pair.{DatagramValue, IsDatagram, OfEach}
-use Rattle.gtp_lines.specs.declared.words.Wording.TheVariants.{Worded}
-use Rattle.gtp_lines.specs.Control.{WholeLines}
+use Rattle.gtp_names.specs.declared.names.Names.{Names}
+use Rattle.gtp_lines.specs.Named.{Named}
+use Rattle.gtp_lines.specs.Messages.{WholeLines}
 use Rattle.gtp_lines.specs.All.{IsFront, AllControl, AllLines}
 
 -- octets begin with one list of whole elements, and one rest
@@ -18,13 +19,14 @@ OneFront =
 abbrev pub IsTyped : MessageValue → Type 0
 IsTyped m = raw_of m.content ≡ None
 
--- the lines of a datagram without a fault, whose messages are such, with words are all that can be shown of it
+-- the lines of a datagram without a fault, whose messages are such, by names and forms are all that can be shown of it
 abbrev pub WholeShown : Type 0
 WholeShown =
-    (octets : List ℕ) (text : List ℕ) → ((d : DatagramValue) → IsDatagram octets d → OfEach IsTyped d.first d.second) → WholeLines Worded octets text → AllControl octets text false
+    (names : Names) (octets : List ℕ) (text : List ℕ)
+    → ((d : DatagramValue) → IsDatagram octets d → OfEach IsTyped d.first d.second) → WholeLines (Named names) octets text → AllControl names octets text false
 
 -- what is shown of a datagram is one text, and whether it has a fault is determined
 abbrev pub OneText : Type 0
 OneText =
-    (plane : Plane) (octets : List ℕ) (text : List ℕ) (faulty : Bool) (other : List ℕ) (wrong : Bool)
-    → AllLines plane octets text faulty → AllLines plane octets other wrong → (text ≡ other) × (faulty ≡ wrong)
+    (names : Names) (plane : Plane) (octets : List ℕ) (text : List ℕ) (faulty : Bool) (other : List ℕ) (wrong : Bool)
+    → AllLines names plane octets text faulty → AllLines names plane octets other wrong → (text ≡ other) × (faulty ≡ wrong)

@@ -3,6 +3,10 @@ pub mod Values
 pub mod Words
 pub mod Control
 pub mod User
+pub mod Named
+pub mod Messages
+pub mod Fronts
+pub mod Types
 pub mod Lines
 pub mod All
 pub mod Brief

@@ -2,7 +2,7 @@
 use Rattle.std.specs.Prelude.{ℕ, Bool, List}
 use Rattle.gtp_values.specs.declared.plane.Plane.{Plane}
 use Rattle.gtp_values.specs.declared.plane.Plane.TheVariants as planes
-use Rattle.gtp_lines.specs.Control.{ControlLines}
+use Rattle.gtp_lines.specs.Messages.{ControlLines}
 use Rattle.gtp_lines.specs.User.{UserLines}
 
 -- by the protocol, and whether they are a fault's

@@ -8,8 +8,6 @@ use Rattle.gtp_ie.specs.declared.form.Form.{Form}
 use Rattle.gtp_ie.specs.declared.form.Form.TheVariants as forms
 use Rattle.gtp_ie.specs.Form.{form_of}
 use Rattle.gtp_ie.specs.Value.{Value, OfCause, OfPaa, OfRat, OfFTeid, OfPdnType, value_at}
-use Rattle.gtp_lines.specs.declared.words.Wording.{Wording}
-use Rattle.gtp_lines.specs.declared.words.Wording.TheVariants.{Plain, Worded}
 use Rattle.gtp_lines.specs.Values.{body_shown}
 
 -- an allocation of addresses has a number where it is of another type
@@ -52,7 +50,6 @@ abbrev pub word_shown : Option (List ℕ) → List ℕ
 word_shown None = []
 word_shown (Some word) = codes " (" ++ (word ++ codes ")")
 
--- what a body says, and then its word, where words are shown
-abbrev pub said : Wording → ℕ → List ℕ → List ℕ
-said Plain kind body = body_shown kind body
-said Worded kind body = body_shown kind body ++ word_shown (body_word kind body)
+-- what a body says, and then its word
+abbrev pub said : ℕ → List ℕ → List ℕ
+said kind body = body_shown kind body ++ word_shown (body_word kind body)

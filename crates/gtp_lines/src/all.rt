@@ -3,21 +3,23 @@
 ghost use Rattle.std.specs.Prelude.{◌≡◌, ◌++◌, OnOk, IfOk, option_map};
 ghost use Rattle.std.specs.List.{flat_map};
 ghost use Rattle.gtp_lines.specs.Text.{Adds};
-ghost use Rattle.gtp_lines.specs.Control.{element_lines};
-ghost use Rattle.gtp_lines.specs.All.{rest_line, numbered_line, context_line, MessageShown, AloneShown, SecondShown, PairShown, ControlShown, AllControl, user_shown, AllUser, AllLines, head_at as spec_head_at};
-ghost use Rattle.gtp_lines.specs.reading.Header.{headed_of, user_head_of};
+ghost use Rattle.gtp_lines.specs.Named.{named_lines};
+ghost use Rattle.gtp_lines.specs.All.{rest_line, numbered_line, context_line, MessageShown, AloneShown, SecondShown, PairShown, ControlShown, AllControl, behind_head, user_shown, AllUser, AllLines, head_at as spec_head_at};
+ghost use Rattle.gtp_lines.specs.reading.Header.{headed_of, user_head_of, chain_of};
 
 use crate::complete_elements::front_elements;
 use crate::contexts::fault_context;
-use crate::control::{put_elements, put_fault_line, put_first_line};
+use crate::control::{put_fault_line, put_first_line};
+use crate::extension_front::{chain_at, chain_front, put_front};
 use crate::header::{Header, head_at, pair_at};
 use crate::lines::Shown;
+use crate::named::{put_named_elements, put_named_user_message, title_in};
 use crate::text::{put, put_octets, put_teid};
-use crate::user::{put_kind_title, put_some, put_user_fault_line, put_user_message};
+use crate::user::{put_kind_title, put_some, put_user_fault_line};
 use crate::user_header::{UserHeader, user_head_at};
 use crate::values::put_field;
-use crate::words::Wording;
 use gtp_ie::Elements;
+use gtp_names::Names;
 use gtp_v2::view;
 use gtp_values::{Memory, Plane};
 use std::alloc::{AllocError, Global};
@@ -35,35 +37,49 @@ fn put_rest(out: &mut Vec<u8>, rest: &[u8]) -> Result<(), AllocError>
     put(out, b"\n")
 }
 
-/// Appends the lines of elements and of the octets after them.
+/// Appends the lines of the elements of a message of a type and of the octets after them.
 #[tactic(auto, using(crate::proofs::Appends::appending))]
-fn put_list(out: &mut Vec<u8>, elements: &Elements, rest: &[u8]) -> Result<(), AllocError>
+fn put_list(
+    out: &mut Vec<u8>,
+    names: &Names,
+    message: u8,
+    elements: &Elements,
+    rest: &[u8],
+) -> Result<(), AllocError>
     ensures ok { OnOk result (out.new.items
-        ≡ out.old.items ++ (flat_map (element_lines Wording.Worded) elements.now ++ rest_line rest.now)) }
+        ≡ out.old.items ++ (flat_map (named_lines names.now message) elements.now ++ rest_line rest.now)) }
 {
-    put_elements(out, Wording::Worded, elements)?;
+    put_named_elements(out, names, message, elements)?;
     put_rest(out, rest)
 }
 
 /// Appends the lines of a message with this header.
-fn put_message(out: &mut Vec<u8>, header: &Header) -> Result<(), AllocError>
+fn put_message(out: &mut Vec<u8>, names: &Names, header: &Header) -> Result<(), AllocError>
     ensures ok { OnOk result
-        (Adds (MessageShown (headed_of header.now)) out.old.items out.new.items) }
+        (Adds (MessageShown names.now (headed_of header.now)) out.old.items out.new.items) }
 {
-    put_first_line(out, header.kind, header.teid, header.seq, header.priority)?;
+    let title = title_in(names, header.kind);
+    put_first_line(
+        out,
+        title,
+        header.kind,
+        header.teid,
+        header.seq,
+        header.priority,
+    )?;
     let (elements, rest) = front_elements(header.rest, header.place());
-    put_list(out, &elements, rest)?;
+    put_list(out, names, header.kind, &elements, rest)?;
     Ok(())
 }
 
 /// Appends the lines of a message, where there is a header.
-fn put_alone(out: &mut Vec<u8>, octets: &[u8]) -> Result<(), AllocError>
+fn put_alone(out: &mut Vec<u8>, names: &Names, octets: &[u8]) -> Result<(), AllocError>
     ensures ok { OnOk result
-        (Adds (AloneShown (spec_head_at octets.now)) out.old.items out.new.items) }
+        (Adds (AloneShown names.now (spec_head_at octets.now)) out.old.items out.new.items) }
 {
     match head_at(octets) {
         Some(header) => {
-            put_message(out, &header)?;
+            put_message(out, names, &header)?;
             Ok(())
         }
         None => Ok(()),
@@ -71,13 +87,13 @@ fn put_alone(out: &mut Vec<u8>, octets: &[u8]) -> Result<(), AllocError>
 }
 
 /// Appends the lines of a second message, or its octets where there is no header.
-fn put_second(out: &mut Vec<u8>, octets: &[u8]) -> Result<(), AllocError>
+fn put_second(out: &mut Vec<u8>, names: &Names, octets: &[u8]) -> Result<(), AllocError>
     ensures ok { OnOk result
-        (Adds (SecondShown octets.now (spec_head_at octets.now)) out.old.items out.new.items) }
+        (Adds (SecondShown names.now octets.now (spec_head_at octets.now)) out.old.items out.new.items) }
 {
     match head_at(octets) {
         Some(header) => {
-            put_message(out, &header)?;
+            put_message(out, names, &header)?;
             Ok(())
         }
         None => {
@@ -88,26 +104,31 @@ fn put_second(out: &mut Vec<u8>, octets: &[u8]) -> Result<(), AllocError>
 }
 
 /// Appends the lines of a first message with this header, and of the octets after it.
-fn put_pair(out: &mut Vec<u8>, header: &Header, back: &[u8]) -> Result<(), AllocError>
+fn put_pair(
+    out: &mut Vec<u8>,
+    names: &Names,
+    header: &Header,
+    back: &[u8],
+) -> Result<(), AllocError>
     ensures ok { OnOk result
-        (Adds (PairShown (headed_of header.now) back.now) out.old.items out.new.items) }
+        (Adds (PairShown names.now (headed_of header.now) back.now) out.old.items out.new.items) }
 {
-    put_message(out, header)?;
-    put_second(out, back)?;
+    put_message(out, names, header)?;
+    put_second(out, names, back)?;
     Ok(())
 }
 
 /// Appends what can be shown of a control datagram.
-fn put_shown(out: &mut Vec<u8>, octets: &[u8]) -> Result<(), AllocError>
-    ensures ok { OnOk result (Adds (ControlShown octets.now) out.old.items out.new.items) }
+fn put_shown(out: &mut Vec<u8>, names: &Names, octets: &[u8]) -> Result<(), AllocError>
+    ensures ok { OnOk result (Adds (ControlShown names.now octets.now) out.old.items out.new.items) }
 {
     match pair_at(octets) {
         Some((header, back)) => {
-            put_pair(out, &header, back)?;
+            put_pair(out, names, &header, back)?;
             Ok(())
         }
         None => {
-            put_alone(out, octets)?;
+            put_alone(out, names, octets)?;
             Ok(())
         }
     }
@@ -134,11 +155,11 @@ fn put_context(out: &mut Vec<u8>, number: Option<u64>) -> Result<(), AllocError>
 }
 
 /// All lines of a control datagram; `Memory` where an allocation was refused.
-fn all_control(alloc: Global, octets: &[u8]) -> Result<Shown, Memory>
-    ensures { IfOk result (λ shown. AllControl octets.now shown.text.items shown.faulty) }
+fn all_control(alloc: Global, names: &Names, octets: &[u8]) -> Result<Shown, Memory>
+    ensures { IfOk result (λ shown. AllControl names.now octets.now shown.text.items shown.faulty) }
 {
     let mut text = Vec::new(alloc);
-    put_shown(&mut text, octets)?;
+    put_shown(&mut text, names, octets)?;
     match view(octets) {
         Ok(_) => Ok(Shown {
             text,
@@ -152,11 +173,33 @@ fn all_control(alloc: Global, octets: &[u8]) -> Result<Shown, Memory>
     }
 }
 
+/// Appends what follows the first line of a datagram of the user plane that is at fault.
+fn put_behind(
+    out: &mut Vec<u8>,
+    names: &Names,
+    header: &UserHeader,
+    chain: Option<(u8, &[u8])>,
+) -> Result<(), AllocError>
+    ensures ok { OnOk result (out.new.items
+        ≡ out.old.items ++ behind_head names.now (user_head_of header.now) (option_map chain_of chain.entry)) }
+{
+    let Some((first, octets)) = chain else {
+        return put_rest(out, header.rest);
+    };
+    let front = chain_front(*out.allocator(), first, octets)?;
+    put_front(out, names, header.kind, &front)
+}
+
 /// Appends what can be shown of a datagram of the user plane that is at fault.
 #[tactic(auto, using(crate::proofs::Appends::appending))]
-fn put_user_shown(out: &mut Vec<u8>, header: &Option<UserHeader>) -> Result<(), AllocError>
+fn put_user_shown(
+    out: &mut Vec<u8>,
+    names: &Names,
+    header: &Option<UserHeader>,
+    chain: Option<(u8, &[u8])>,
+) -> Result<(), AllocError>
     ensures ok { OnOk result (out.new.items
-        ≡ out.old.items ++ user_shown (option_map user_head_of header.now)) }
+        ≡ out.old.items ++ user_shown names.now (option_map user_head_of header.now) (option_map chain_of chain.entry)) }
 {
     let Some(header) = header else {
         return Ok(());
@@ -166,39 +209,43 @@ fn put_user_shown(out: &mut Vec<u8>, header: &Option<UserHeader>) -> Result<(), 
     put_teid(out, header.teid)?;
     put_some(out, b" seq ", header.seq.map(u64::from))?;
     put(out, b"\n")?;
-    put_rest(out, header.rest)
+    put_behind(out, names, header, chain)
 }
 
 /// All lines of a datagram of the user plane; `Memory` where an allocation was refused.
-fn all_user(alloc: Global, octets: &[u8]) -> Result<Shown, Memory>
-    ensures { IfOk result (λ shown. AllUser octets.now shown.text.items shown.faulty) }
+fn all_user(alloc: Global, names: &Names, octets: &[u8]) -> Result<Shown, Memory>
+    ensures { IfOk result (λ shown. AllUser names.now octets.now shown.text.items shown.faulty) }
 {
     let mut text = Vec::new(alloc);
     match gtp_user::decode(octets) {
         Ok(message) => {
-            put_user_message(&mut text, &message)?;
+            put_named_user_message(&mut text, names, &message)?;
             Ok(Shown {
                 text,
                 faulty: false,
             })
         }
         Err(fault) => {
-            put_user_shown(&mut text, &user_head_at(octets))?;
+            put_user_shown(&mut text, names, &user_head_at(octets), chain_at(octets))?;
             put_user_fault_line(&mut text, &fault)?;
             Ok(Shown { text, faulty: true })
         }
     }
 }
 
-/// All lines of a datagram. Control plane: of each message its header and its elements with their words, as many as are whole, and the
-/// octets that are left; then the line of the datagram's first fault, if it has one, and of the bearer context in which that lies. User plane: the lines of
-/// `decode_lines`; before the line of a fault what the header says, and the octets after that. `Memory` where an
-/// allocation was refused.
-pub fn all_lines(alloc: Global, plane: Plane, octets: &[u8]) -> Result<Shown, Memory>
-    ensures { IfOk result (λ shown. AllLines plane octets.now shown.text.items shown.faulty) }
+/// All lines of a datagram. Control plane: of each message its header, with its name, and its elements, as many as are whole, and the
+/// octets that are left; then the line of the datagram's first fault, if it has one, and of the bearer context in which that lies. User
+/// plane: the lines of its message, with the names of its extension headers; or what the header of a datagram at fault says, the octets
+/// after that, and the line of its fault.
+///
+/// An element that `decode_lines` shows by name has its line, with the word of what it says. Any other has the name of its type and
+/// the fields of its form, in these tables; without a form its octets, and without a name its octets alone. Grouped elements are shown
+/// by theirs. `Memory` where an allocation was refused.
+pub fn all_lines(alloc: Global, names: &Names, plane: Plane, octets: &[u8]) -> Result<Shown, Memory>
+    ensures { IfOk result (λ shown. AllLines names.now plane octets.now shown.text.items shown.faulty) }
 {
     match plane {
-        Plane::Control => all_control(alloc, octets),
-        Plane::User => all_user(alloc, octets),
+        Plane::Control => all_control(alloc, names, octets),
+        Plane::User => all_user(alloc, names, octets),
     }
 }

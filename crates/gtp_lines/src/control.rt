@@ -8,8 +8,7 @@ ghost use Rattle.gtp_lines.specs.Control.{element_head, inner_line, element_line
 ghost use Rattle.gtp_lines.specs.Control.{element_fault_detail, element_fault, mark_shown, fault_detail, fault_shown, fault_line};
 
 use crate::text::{put, put_teid};
-use crate::values::{put_field, put_raw};
-use crate::words::{Wording, put_said};
+use crate::values::{put_body, put_field, put_raw};
 use gtp_ie::{ElementView, Elements, IeFault};
 use gtp_v2::{BEARER_CONTEXT, MessageView, V2Fault, type_name};
 use gtp_values::{Below, Seq, Teid};
@@ -17,7 +16,7 @@ use std::alloc::AllocError;
 
 /// Appends what stands before an element's value.
 #[tactic(auto, using(crate::proofs::Appends::appending))]
-fn put_element_head(out: &mut Vec<u8>, view: &ElementView) -> Result<(), AllocError>
+pub fn put_element_head(out: &mut Vec<u8>, view: &ElementView) -> Result<(), AllocError>
     ensures ok { OnOk result (out.new.items ≡ out.old.items ++ element_head (element_of view.now)) }
 {
     put_field(out, b"ie ", u64::from(view.kind))?;
@@ -27,36 +26,36 @@ fn put_element_head(out: &mut Vec<u8>, view: &ElementView) -> Result<(), AllocEr
 
 /// Appends the line of an element inside a group.
 #[tactic(auto, using(crate::proofs::Appends::appending))]
-fn put_inner(out: &mut Vec<u8>, wording: Wording, view: &ElementView) -> Result<(), AllocError>
-    ensures ok { OnOk result (out.new.items ≡ out.old.items ++ inner_line wording (element_of view.now)) }
+fn put_inner(out: &mut Vec<u8>, view: &ElementView) -> Result<(), AllocError>
+    ensures ok { OnOk result (out.new.items ≡ out.old.items ++ inner_line (element_of view.now)) }
 {
     put(out, b"  ")?;
     put_element_head(out, view)?;
-    put_said(out, wording, view.kind, view.body)?;
+    put_body(out, view.kind, view.body)?;
     put(out, b"\n")
 }
 
 /// Appends the lines of the elements inside a group.
-fn put_all_inner(out: &mut Vec<u8>, wording: Wording, elements: &Elements) -> Result<(), AllocError>
-    ensures ok { OnOk result (out.new.items ≡ out.old.items ++ flat_map (inner_line wording) elements.now) }
+fn put_all_inner(out: &mut Vec<u8>, elements: &Elements) -> Result<(), AllocError>
+    ensures ok { OnOk result (out.new.items ≡ out.old.items ++ flat_map inner_line elements.now) }
 {
     for view in elements.iter() {
-        put_inner(out, wording, &view)?;
+        put_inner(out, &view)?;
     }
     Ok(())
 }
 
 /// Appends a bearer context by its elements, or its octets where they are not whole elements.
 #[tactic(auto, using(crate::proofs::Appends::appending))]
-fn put_group(out: &mut Vec<u8>, wording: Wording, view: &ElementView) -> Result<(), AllocError>
+fn put_group(out: &mut Vec<u8>, view: &ElementView) -> Result<(), AllocError>
     ensures ok { OnOk result
         (out.new.items ≡ out.old.items
-        ++ group_shown wording (element_of view.now) (elements_of (view.now.at + 4) view.now.body.now)) }
+        ++ group_shown (element_of view.now) (elements_of (view.now.at + 4) view.now.body.now)) }
 {
     match view.inner() {
         Ok(inner) => {
             put(out, b"bearer-context\n")?;
-            put_all_inner(out, wording, &inner)?;
+            put_all_inner(out, &inner)?;
             Ok(())
         }
         Err(_) => {
@@ -68,29 +67,25 @@ fn put_group(out: &mut Vec<u8>, wording: Wording, view: &ElementView) -> Result<
 
 /// Appends the lines of an element.
 #[tactic(auto, using(crate::proofs::Appends::appending))]
-fn put_element(out: &mut Vec<u8>, wording: Wording, view: &ElementView) -> Result<(), AllocError>
+fn put_element(out: &mut Vec<u8>, view: &ElementView) -> Result<(), AllocError>
     ensures ok { OnOk result
-        (out.new.items ≡ out.old.items ++ element_lines wording (element_of view.now)) }
+        (out.new.items ≡ out.old.items ++ element_lines (element_of view.now)) }
 {
     put_element_head(out, view)?;
     if view.kind == BEARER_CONTEXT {
-        return put_group(out, wording, view);
+        return put_group(out, view);
     }
-    put_said(out, wording, view.kind, view.body)?;
+    put_body(out, view.kind, view.body)?;
     put(out, b"\n")
 }
 
 /// Appends the lines of elements.
-pub fn put_elements(
-    out: &mut Vec<u8>,
-    wording: Wording,
-    elements: &Elements,
-) -> Result<(), AllocError>
+pub fn put_elements(out: &mut Vec<u8>, elements: &Elements) -> Result<(), AllocError>
     ensures ok { OnOk result
-        (out.new.items ≡ out.old.items ++ flat_map (element_lines wording) elements.now) }
+        (out.new.items ≡ out.old.items ++ flat_map element_lines elements.now) }
 {
     for view in elements.iter() {
-        put_element(out, wording, &view)?;
+        put_element(out, &view)?;
     }
     Ok(())
 }
@@ -127,27 +122,28 @@ fn put_some_priority(out: &mut Vec<u8>, priority: Option<Below<16>>) -> Result<(
 
 /// Appends the type of a message, by its number and its name.
 #[tactic(auto, unfolding(crate::specs::Control::title_shown), using(crate::proofs::Appends::appending))]
-fn put_title(out: &mut Vec<u8>, kind: u8) -> Result<(), AllocError>
-    ensures ok { OnOk result (out.new.items ≡ out.old.items ++ title_shown kind) }
+fn put_title(out: &mut Vec<u8>, name: &str, kind: u8) -> Result<(), AllocError>
+    ensures ok { OnOk result (out.new.items ≡ out.old.items ++ title_shown name.now kind) }
 {
     put_field(out, b"gtpv2 type ", u64::from(kind))?;
     put(out, b" ")?;
-    put(out, message_name(kind).as_bytes())
+    put(out, name.as_bytes())
 }
 
-/// Appends the first line of a message of this type, TEID, sequence number and priority.
+/// Appends the first line of a message of this name, type, TEID, sequence number and priority.
 #[tactic(auto, using(crate::proofs::Appends::appending))]
 pub fn put_first_line(
     out: &mut Vec<u8>,
+    name: &str,
     kind: u8,
     teid: Option<Teid>,
     seq: Seq,
     priority: Option<Below<16>>,
 ) -> Result<(), AllocError>
     ensures ok { OnOk result (out.new.items
-        ≡ out.old.items ++ first_line kind teid seq priority) }
+        ≡ out.old.items ++ first_line name.now kind teid seq priority) }
 {
-    put_title(out, kind)?;
+    put_title(out, name, kind)?;
     put_some_teid(out, teid)?;
     put_field(out, b" seq ", u64::from(seq.number()))?;
     put_some_priority(out, priority)?;
@@ -158,7 +154,15 @@ pub fn put_first_line(
 pub fn put_head(out: &mut Vec<u8>, seen: &MessageView) -> Result<(), AllocError>
     ensures ok { OnOk result (out.new.items ≡ out.old.items ++ head_line seen.now.message) }
 {
-    put_first_line(out, seen.kind(), seen.teid(), seen.seq(), seen.priority())
+    let kind = seen.kind();
+    put_first_line(
+        out,
+        message_name(kind),
+        kind,
+        seen.teid(),
+        seen.seq(),
+        seen.priority(),
+    )
 }
 
 /// Appends what follows the number of a fault of elements.

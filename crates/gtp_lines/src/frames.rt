@@ -11,19 +11,20 @@ use crate::brief::put_brief;
 use crate::lines::{Shown, decode_lines};
 use crate::text::{put, put_ip, put_number};
 use gtp_capture::{Captured, Packet, Time, Unit};
+use gtp_names::Names;
 use gtp_values::{Endpoint, Memory, Plane};
 use itoa::Buffer;
 use std::alloc::{AllocError, Global};
 
 /// In which form a datagram of a capture is shown.
-#[derive(Clone, Copy, Debug, PartialEq, Eq)]
+#[derive(Clone, Copy, Debug)]
 pub enum Form {
     /// The line of its frame, and then the lines of `decode_lines`.
     Lines,
     /// The line of its frame, and then those of `all_lines`.
-    All,
+    All(Names),
     /// One line: frame, time, ends, and the name, TEID and sequence number of its message, or its first fault.
-    Brief,
+    Brief(Names),
 }
 
 /// The room for a line at first: most brief lines are shorter.
@@ -201,8 +202,8 @@ fn put_start(out: &mut Vec<u8>, form: Form, captured: &Captured) -> Result<(), A
         (out.new.items ≡ out.old.items ++ start_of form (seen_of captured.now)) }
 {
     match form {
-        Form::Lines | Form::All => put_frame(out, captured),
-        Form::Brief => put_brief_start(out, captured),
+        Form::Lines | Form::All(_) => put_frame(out, captured),
+        Form::Brief(_) => put_brief_start(out, captured),
     }
 }
 
@@ -223,13 +224,13 @@ fn put_lines(
             put(out, &shown.text)?;
             Ok(shown.faulty)
         }
-        Form::All => {
-            let shown = all_lines(alloc, plane, octets)?;
+        Form::All(names) => {
+            let shown = all_lines(alloc, &names, plane, octets)?;
             put(out, &shown.text)?;
             Ok(shown.faulty)
         }
-        Form::Brief => {
-            let faulty = put_brief(out, plane, octets)?;
+        Form::Brief(names) => {
+            let faulty = put_brief(out, &names, plane, octets)?;
             Ok(faulty)
         }
     }

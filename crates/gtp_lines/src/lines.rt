@@ -1,7 +1,8 @@
 //! The lines of a datagram.
 
 ghost use Rattle.std.specs.Prelude.{◌≡◌, ◌++◌, OnOk, IfOk};
-ghost use Rattle.gtp_lines.specs.Control.{ControlLines, seen_lines, datagram_lines};
+ghost use Rattle.gtp_lines.specs.Control.{seen_lines, datagram_lines};
+ghost use Rattle.gtp_lines.specs.Messages.{ControlLines};
 ghost use Rattle.gtp_lines.specs.User.{UserLines};
 ghost use Rattle.gtp_lines.specs.Lines.{LinesOf};
 
@@ -9,7 +10,6 @@ use crate::control::{put_elements, put_fault_line, put_head};
 use crate::text::put;
 use crate::user::{put_user_fault_line, put_user_message};
 use crate::values::put_raw;
-use crate::words::Wording;
 use gtp_v2::{DatagramView, MessageView, view};
 use gtp_values::{Memory, Plane};
 use std::alloc::{AllocError, Global};
@@ -35,7 +35,7 @@ fn put_message(out: &mut Vec<u8>, seen: &MessageView) -> Result<(), AllocError>
             put_raw(out, carried)?;
             put(out, b"\n")
         }
-        None => put_elements(out, Wording::Plain, &seen.elements()),
+        None => put_elements(out, &seen.elements()),
     }
 }
 

@@ -93,7 +93,7 @@ pub fn put_some(out: &mut Vec<u8>, mark: &[u8], number: Option<u64>) -> Result<(
 
 /// Appends the first line of a message.
 #[tactic(auto, using(crate::proofs::Appends::appending))]
-fn put_head(out: &mut Vec<u8>, message: &UserMessage) -> Result<(), AllocError>
+pub fn put_head(out: &mut Vec<u8>, message: &UserMessage) -> Result<(), AllocError>
     ensures ok { OnOk result
         (out.new.items ≡ out.old.items ++ user_head_line (message_value message.now)) }
 {
@@ -140,7 +140,7 @@ fn put_octets_line(out: &mut Vec<u8>, mark: &[u8], octets: &[u8]) -> Result<(), 
 
 /// Appends what a message carries.
 #[tactic(auto, using(crate::proofs::Appends::appending))]
-fn put_carried(out: &mut Vec<u8>, body: &UserBody) -> Result<(), AllocError>
+pub fn put_carried(out: &mut Vec<u8>, body: &UserBody) -> Result<(), AllocError>
     ensures ok { OnOk result
         (out.new.items ≡ out.old.items ++ carried_shown (content_of body.now)) }
 {

@@ -12,13 +12,6 @@ use gtp_ie::{Form, IeValue, PdnType, Rat};
 use gtp_values::{Cause, FTeid, Paa};
 use std::alloc::AllocError;
 
-/// Whether the word of what an element says ends its line.
-#[derive(Clone, Copy)]
-pub enum Wording {
-    Plain,
-    Worded,
-}
-
 /// A value with a number that may have a word.
 trait Named: IeValue {
     /// The word of its number, where it has one.
@@ -110,19 +103,11 @@ fn put_word(out: &mut Vec<u8>, word: Option<&'static str>) -> Result<(), AllocEr
     put(out, b")")
 }
 
-/// Appends what a body of this type of element says, and its word where it is wanted and has one.
+/// Appends what a body of this type of element says, and its word, where it has one.
 #[tactic(auto, using(crate::proofs::Appends::appending))]
-pub fn put_said(
-    out: &mut Vec<u8>,
-    wording: Wording,
-    kind: u8,
-    body: &[u8],
-) -> Result<(), AllocError>
-    ensures ok { OnOk result (out.new.items ≡ out.old.items ++ said wording kind body.now) }
+pub fn put_said(out: &mut Vec<u8>, kind: u8, body: &[u8]) -> Result<(), AllocError>
+    ensures ok { OnOk result (out.new.items ≡ out.old.items ++ said kind body.now) }
 {
     put_body(out, kind, body)?;
-    match wording {
-        Wording::Plain => Ok(()),
-        Wording::Worded => put_word(out, body_word(kind, body)),
-    }
+    put_word(out, body_word(kind, body))
 }

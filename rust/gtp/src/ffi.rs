@@ -275,6 +275,7 @@ pub struct BearerRow {
 pub const DONE: u8 = 0;
 pub const NO_MEMORY: u8 = 2;
 pub const FULL: u8 = 3;
+pub const NONE: u8 = 4;
 pub const TOO_SMALL: u8 = 5;
 pub const REFUSED: u8 = 6;
 pub const SHORT_VALUE: u8 = 10;
@@ -325,6 +326,29 @@ extern "C" {
     pub fn gtp_pdn_type_write(buffer: *mut u8, room: usize, number: u32, size: *mut u64) -> u8;
     pub fn gtp_pti_write(buffer: *mut u8, room: usize, number: u32, size: *mut u64) -> u8;
     pub fn gtp_selection_write(buffer: *mut u8, room: usize, number: u32, size: *mut u64) -> u8;
+
+    pub fn gtp_message_name(buffer: *mut u8, room: usize, message: u8, size: *mut u64) -> u8;
+    pub fn gtp_element_name(buffer: *mut u8, room: usize, kind: u8, size: *mut u64) -> u8;
+    pub fn gtp_element_lines(
+        buffer: *mut u8,
+        room: usize,
+        message: u8,
+        kind: u8,
+        instance: u8,
+        body: *const u8,
+        body_len: usize,
+        size: *mut u64,
+    ) -> u8;
+    pub fn gtp_element_json(
+        buffer: *mut u8,
+        room: usize,
+        message: u8,
+        kind: u8,
+        instance: u8,
+        body: *const u8,
+        body_len: usize,
+        size: *mut u64,
+    ) -> u8;
 
     pub fn gtp_version(buffer: *mut u8, room: usize, size: *mut u64) -> u8;
     pub fn gtp_element_write(

@@ -27,6 +27,7 @@ mod gateway;
 pub mod kinds;
 mod report;
 mod setup;
+mod text;
 mod user;
 mod value;
 mod write;
@@ -39,6 +40,7 @@ pub use error::{CommandError, ControlFault, Error, Refusal, TooSmall, UserFault,
 pub use gateway::{Gateway, Sent};
 pub use report::{Outcome, Received, Ticked};
 pub use setup::{Addresses, Role, SessionRequest, SessionValue, Setup, SetupValue, Template, Timers};
+pub use text::{element_name, message_name};
 pub use user::{Extension, Extensions, UserMessage};
 pub use value::{Ambr, Cause, FTeid, Paa, Quality, Value};
 pub use write::{version, write_element, write_message, write_packet, write_user, write_value, Header, UserHeader};

@@ -22,7 +22,7 @@ pub returns-in-Err-Broken-clause-broken : goal.returns-in-Err-Broken-clause-brok
 returns-in-Err-Broken-clause-broken g c at same =
     let place : c.in-Err-Broken.at ≡ at = cc in
     subst (λ n. IfSome (g.I.Read.remaining c.args.reader.now.inner)
-    (λ file. IsBrokenShown c.args.writer.now.asked c.args.ports file (g.W.Write.contents c.args.writer.now.out.inner)
+    (λ file. IsBrokenShown c.args.writer.now.asked.now c.args.ports file (g.W.Write.contents c.args.writer.now.out.inner)
     (g.W.Write.contents c.read_capture.new.sink.out.inner) n)) place
     (IfSome_then (g.I.Read.remaining c.args.reader.now.inner) c.in-Err-Broken.ensures.read (λ file is.
     broken_shown g.W.Write.contents c.args.ports file c.args.writer.now c.read_capture.new.sink c.in-Err-Broken.at c.requires.counts

@@ -10,7 +10,7 @@ returns-in-None c =
     record {
       ok = (
         [],
-        subst (λ (h : Option Headed). AloneShown c.args.places h []) (sym (ap (option_map headed_of) c.in-None.is) ∙ c.head_at.ensures) refl,
+        subst (λ (h : Option Headed). AloneShown c.args.places c.args.names.now h []) (sym (ap (option_map headed_of) c.in-None.is) ∙ c.head_at.ensures) refl,
         none_written c.args.out.now,
       );
     }

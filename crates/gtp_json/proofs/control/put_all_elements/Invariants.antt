@@ -5,4 +5,4 @@ use Rattle.gtp_json.specs.Control.{element_json}
 use Rattle.gtp_json.proofs.control.put_all_elements.Given as goal
 
 abbrev pub invariant-loop-view : goal.invariant-loop-view
-invariant-loop-view l = l.out ++ flat_map (λ e. json_tokens (element_json l.places e)) l.view-iterator ≡ l.fn.out ++ flat_map (λ e. json_tokens (element_json l.places e)) l.elements
+invariant-loop-view l = l.out ++ flat_map (λ e. json_tokens (element_json e)) l.view-iterator ≡ l.fn.out ++ flat_map (λ e. json_tokens (element_json e)) l.elements

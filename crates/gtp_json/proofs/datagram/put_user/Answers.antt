@@ -2,16 +2,15 @@ use Rattle.std.proofs.Common.{◌≡◌, ◌++◌, Bool, refl, subst}
 use Rattle.gtp_user.specs.Message.{message_value}
 use Rattle.gtp_json.specs.Control.{fault_member}
 use Rattle.gtp_json.specs.reading.Tokens.{written}
-use Rattle.gtp_json.specs.User.{user_members}
 use Rattle.gtp_json.specs.Places.{user_members_at}
-use Rattle.gtp_json.specs.Datagram.{has_places}
+use Rattle.gtp_json.specs.Datagram.{user_members_by, has_places}
 use Rattle.gtp_json.proofs.Tokens.{twice}
 use Rattle.gtp_json.proofs.datagram.put_user.Goals as goal
 
-pub returns-in_ok-put_message-in-Ok : goal.returns-in_ok-put_message-in-Ok
-returns-in_ok-put_message-in-Ok c =
+pub returns-in_ok-put_user_message-in-Ok : goal.returns-in_ok-put_user_message-in-Ok
+returns-in_ok-put_user_message-in-Ok c =
     let m = message_value c.in-Ok.message in
-    (user_members m, (m, c.in-Ok.ensures.found, refl), c.in_ok-put_message-in-Ok.ensures.ok)
+    (user_members_by c.args.members m, (m, c.in-Ok.ensures.found, refl), c.in_ok-put_user_message-in-Ok.ensures.ok)
 
 pub returns-in_ok-put_fault-in-Err : goal.returns-in_ok-put_fault-in-Err
 returns-in_ok-put_fault-in-Err c =

@@ -4,4 +4,4 @@ use Rattle.gtp_lines.specs.Control.{element_lines}
 use Rattle.gtp_lines.proofs.control.put_elements.Given as goal
 
 abbrev pub invariant-loop-view : goal.invariant-loop-view
-invariant-loop-view l = l.out.items ++ flat_map (element_lines l.wording) l.view-iterator ≡ l.fn.out.items ++ flat_map (element_lines l.wording) l.elements
+invariant-loop-view l = l.out.items ++ flat_map element_lines l.view-iterator ≡ l.fn.out.items ++ flat_map element_lines l.elements

@@ -1,4 +1,4 @@
-use Rattle.std.proofs.Common.{rules, refl, subst}
+use Rattle.std.proofs.Common.{rules, inl, refl, subst}
 use Rattle.gtp_counted.specs.Streams.{WritesFront}
 use Rattle.gtp_commands.proofs.FramesShown.{unwritten_why}
 use Rattle.gtp_commands.proofs.capturing.FrameWriterSink.take.Goals as goal
@@ -13,3 +13,6 @@ returns-in-Err-clause-err g c =
       unwritten_why c.args.self.now _ c.in-Err.failed.kind c.unwritten.result c.in-Err.ensures.count unwritten.closed unwritten.write unwritten.kind,
       λ which. (c.in-Ok.shown.text.items, c.in-Ok.shown.faulty, record { chosen = search rules; shown = c.in-Ok.ensures; fault = search rules }, front),
     )
+
+pub returns-then-not-chooses-clause-ok : goal.returns-then-not-chooses-clause-ok
+returns-then-not-chooses-clause-ok g c = inl (inl (search rules), refl)

@@ -1,0 +1,9 @@
+pub mod Numbers
+pub mod Event
+pub mod Told
+pub mod Reading
+pub mod Text
+pub mod Tokens
+pub mod Rows
+pub mod Laws
+pub mod Described
