@@ -447,11 +447,17 @@ def required_rows(messages: list[Message]) -> str:
     text += "ghost use Rattle.gtp_v2.specs.Tables.{table_of};\n\n"
     rows = [row for message in messages for part in [message, *message.contexts] for row in part.checked]
     elements = ", ".join(sorted({row.element.constant for row in rows}))
-    text += f"use crate::kinds::{{{kinds}}};\nuse crate::table::{{Line, Row, Shape}};\nuse gtp_ie::kinds::{{{elements}}};\n\n"
+    text += f"use crate::asked::{{Asked, Others, Tables}};\nuse crate::kinds::{{{kinds}}};\nuse crate::table::{{Line, Row, Shape}};\n"
+    text += f"use gtp_ie::kinds::{{{elements}}};\n\n"
     for message in messages:
         for context in message.contexts:
             text += constant(f"{context.snake.upper()}_ROWS", "Row", context.checked, lambda row: row.code_row)
         text += constant(f"{message.constant}_LINES", "Line", message.checked, lambda row: row.code_line)
+    text += "/// What each type of message asks that has a table here.\nconst TABLES: &[Asked] = &["
+    for message in messages:
+        text += f"Asked {{ kind: {message.constant}, has_teid: Some({antt_bool(message.has_teid)}), lines: {message.constant}_LINES }}, "
+    text += "];\n\n/// What S5/S8 asks: the tables here; of a message of another type nothing, and it is octets.\n"
+    text += "pub const S5S8: Tables = Tables { tables: TABLES, others: Others::Octets };\n\n"
     text += "/// What a type of message asks, where it has a table.\npub fn asked_of(kind: u8) -> Option<Shape>\n"
     text += "ensures { option_map shape_of result ≡ option_map shape_in (table_of kind) }\n{\nmatch kind {\n"
     for message in messages:

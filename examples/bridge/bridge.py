@@ -1,12 +1,13 @@
 #!/usr/bin/env python3
-"""Joins one gateway to UDP and to the clock. It runs `gtpshow gateway`, hands in each datagram that arrives and a tick each
-second, and sends what the gateway tells it to send. It moves octets and knows nothing of GTP.
+"""Joins one gateway, or a node of many peers, to UDP and to the clock. It runs `gtpshow gateway`, or `gtpshow node` where HEAD has
+`peers`, hands in each datagram that arrives and a tick each second, and sends what it is told to send. It moves octets and knows
+nothing of GTP.
 
   examples/bridge/bridge.py HEAD [--counter FILE] [--tick SECONDS] [--lose SHARE] [--repeat SHARE] [--delay SECONDS]
 
-HEAD is a file with the first line of `gtpshow gateway`, without `counter`: the restart counter is kept in FILE (HEAD.counter),
+HEAD is a file with the first line of the program, without `counter`: the restart counter is kept in FILE (HEAD.counter),
 since it has to outlive the gateway, and is one higher at each start (TS 23.007 18). The ends in HEAD are IPv4 addresses.
-Standard input, which may be a terminal, a pipe or a file, has further lines of `gtpshow gateway`: commands. At its end the
+Standard input, which may be a terminal, a pipe or a file, has further lines: commands. At its end the
 gateway goes on. Standard output has a line for each answer but those of ticks in which nothing happened. For tests,
 a share of the datagrams that arrive is lost or comes twice, and each is held back for a random time up to a delay.
 The environment may name the program in GTPSHOW; else it is scripts/gtpshow, or, where that is not there, gtpshow."""
@@ -58,6 +59,8 @@ class Bridge:
         self.head, self.tick, self.lose, self.repeat, self.delay = head, tick, lose, repeat, delay
         self.tell = tell or (lambda line, answer: None)
         self.requests, self.planes = asyncio.Queue(), {}
+        # The peers of a node, which each have ticks of their own.
+        self.peers = len(head["peers"]) if "peers" in head else None
 
     def put(self, request, done=None):
         """Asks the gateway for something, after all that was asked before."""
@@ -100,13 +103,17 @@ class Bridge:
             _, self.planes[name] = await loop.create_datagram_endpoint(
                 lambda name=name: Plane(self, name), local_addr=(self.head[name], port))
         pipe = asyncio.subprocess.PIPE
-        self.process = await asyncio.create_subprocess_exec(PROGRAM, "gateway", stdin=pipe, stdout=pipe, limit=LONGEST)
+        command = "gateway" if self.peers is None else "node"
+        self.process = await asyncio.create_subprocess_exec(PROGRAM, command, stdin=pipe, stdout=pipe, limit=LONGEST)
         return await self.answer_to(json.dumps(self.head))
 
     async def ticks(self):
         while True:
             await asyncio.sleep(self.tick)
-            self.put({"do": "tick"})
+            if self.peers is None:
+                self.put({"do": "tick"})
+            for place in range(self.peers or 0):
+                self.put({"peer": place, "line": {"do": "tick"}})
 
     async def serve(self):
         """Answers until it is cancelled, or the gateway ends."""
@@ -115,6 +122,8 @@ class Bridge:
             while True:
                 line, done = await self.requests.get()
                 answer = await self.answer_to(line)
+                if answer["outcome"] == "added":
+                    self.peers = answer["peer"] + 1
                 for datagram in answer.get("sent", []):
                     self.send(datagram)
                 self.tell(line, answer)
@@ -149,7 +158,7 @@ def read_commands(loop, bridge):
 
 
 async def main():
-    parser = argparse.ArgumentParser(description="Joins one gateway to UDP and to the clock.")
+    parser = argparse.ArgumentParser(description="Joins one gateway, or a node, to UDP and to the clock.")
     parser.add_argument("head", type=pathlib.Path)
     parser.add_argument("--counter", type=pathlib.Path)
     for name, default in ("tick", 1.0), ("lose", 0.0), ("repeat", 0.0), ("delay", 0.0):

@@ -3,18 +3,19 @@ _gtpshow() {
   local word=${COMP_WORDS[COMP_CWORD]} command= each
   for each in "${COMP_WORDS[@]:1:COMP_CWORD-1}"; do
     case $each in
-      decode | capture | replay | gateway | explain | help) command=$each && break ;;
+      decode | capture | replay | gateway | node | explain | help) command=$each && break ;;
     esac
   done
   local words='--help'
   case $command in
-    decode) words='--user --all --json --places --join --help' ;;
-    capture) words='--brief --all --json --places --faults --type --imsi --teid --address --control-port --user-port --help' ;;
+    decode) words='--user --all --json --places --interface --join --help' ;;
+    capture) words='--brief --all --json --places --interface --faults --type --imsi --teid --address --control-port --user-port --help' ;;
     replay) words='--diagram --svg --pcap --json --help' ;;
-    gateway | explain) words='--help' ;;
-    help) words='decode capture replay gateway explain' ;;
-    '') words='decode capture replay gateway explain help --help --version' ;;
+    gateway | node | explain) words='--help' ;;
+    help) words='decode capture replay gateway node explain' ;;
+    '') words='decode capture replay gateway node explain help --help --version' ;;
   esac
+  [ "${COMP_WORDS[COMP_CWORD - 1]}" != --interface ] || words='s5s8 s11 any'
   mapfile -t COMPREPLY < <(compgen -W "$words" -- "$word")
   case $command in
     capture | replay) [[ $word == -* ]] || mapfile -t COMPREPLY < <(compgen -f -- "$word") ;;

@@ -1,4 +1,4 @@
-"""Cases whose input is made: long datagrams, packets and texts, captures that are broken, little memory."""
+"""Cases whose input is made: long datagrams, packets and texts, captures that are broken, a node of many peers, little memory."""
 
 from __future__ import annotations
 
@@ -19,6 +19,7 @@ GATEWAYS = (
     b'"counter":1,"apns":["internet"],"pool":"10.1.0.1","count":10},"events":['
 )
 ECHO = b"40010009000001000300010007"
+ECHOED, PEERS = "40020009000001000300010001", 2000
 MOST_PAYLOAD, MOST_RECORD = 65000, 262144
 SECTION = bytes.fromhex("0a0d0d0a0000001c1a2b3c4d00010000ffffffffffffffff0000001c")
 NO_SECTION = bytes.fromhex("0a0d0d0a0000001c") + 20 * b"0"
@@ -52,6 +53,27 @@ def longest_packets() -> Case:
     output = b"%bevent 3 send G7\nevent 4 send sent\n  sent 2 user 30fffde801000002%b\nevent 5 deliver accepted\n" % (opened, longest)
     output += kept + b"taken packet 01000002 %b owed\nlate 0\n" % longest
     return Case("packets as long as they may be", ["replay"], GATEWAYS + events, output=output)
+
+
+def many_peers() -> Case:
+    """A node of two thousand peers, each of which asks whether it is alive, the last one first."""
+    addresses = [f"10.2.{number // 256}.{number % 256}" for number in range(PEERS)]
+    peers = ",".join(f'{{"control":"{it}","user":"{it}"}}' for it in addresses)
+    lines = [f'{{"role":"serving","control":"10.0.0.1","user":"10.0.0.1","counter":1,"peers":[{peers}]}}']
+    answers = ['{"outcome":"started"}']
+    for place, address in reversed(list(enumerate(addresses))):
+        source = f'{{"address":"{address}","port":2123}}'
+        lines.append(f'{{"do":"receive","plane":"control","from":{source},"octets":"{ECHO.decode()}"}}')
+        sent = f'{{"plane":"control","from":{{"address":"10.0.0.1","port":2123}},"to":{source},"octets":"{ECHOED}"}}'
+        answers.append(f'{{"peer":{place},"outcome":"echoed","sent":[{sent}],"gave_up":[],"forgot":[]}}')
+    given, output = ("".join(f"{line}\n" for line in it).encode() for it in (lines, answers))
+    return Case("a node of two thousand peers", ["node"], given, output=output)
+
+
+def long_node_head() -> Case:
+    """The first line of a node, an octet longer than a line may be."""
+    error = b"bad node head\ngtpshow: the first line of standard input: more than 1048576 octets\n"
+    return Case("a first line that is too long for a node", ["node"], b"{" + b" " * 1_048_575 + b"}\n", 2, error=error)
 
 
 def moved() -> bytes:
@@ -129,6 +151,8 @@ def cases() -> Iterator[Case]:
     """All cases of this file."""
     yield nested()
     yield longest_packets()
+    yield many_peers()
+    yield long_node_head()
     with tempfile.TemporaryDirectory() as folder:
         yield from captures(Path(folder, "capture"))
     yield from little_memory()

@@ -10,7 +10,7 @@ from pathlib import Path
 from running import TOP, Case, Part
 
 sys.path.append(str(TOP / "tests/reference"))
-from heads import context_of
+from heads import context_of, is_elsewhere
 
 MOST_COLUMNS = 100
 FILES = ["control", "control-lengths", "control-all", "user", "user-all", "control-json", "user-json", "control-all-json", "user-all-json"]
@@ -25,6 +25,7 @@ def context_hint(number: object) -> bytes:
     return f"gtpshow: the fault is in bearer-context {number}\n".encode()
 
 
+ELSEWHERE = b"gtpshow: 1 datagram at fault names another interface: with --all, --interface s11 judges by the rules of S11, any by headers and lengths alone\n"
 HINTS = {"control/create-session-request-nested-length": context_hint(1)}
 
 
@@ -75,10 +76,14 @@ def stored_lines(name: str) -> Iterator[tuple[str, str]]:
 
 
 def hint(name: str, digits: str, lines: str) -> bytes:
-    """What standard error says of a datagram: its version, or the bearer context of a fault, which the second implementation finds."""
+    """What standard error says of a datagram: its version, the bearer context of a fault, which the second implementation finds, or, with
+    --all, that it names another interface."""
     for plane, begin, fault, said in OTHER_PLANE:
         if name == plane and re.fullmatch(begin, digits) and lines == fault:
             return Part(said)
+    plane, _, form = name.partition("-")
+    if form.startswith("all"):
+        return ELSEWHERE if is_fault(lines) and is_elsewhere(plane, bytes.fromhex(digits)) else b""
     if name not in ("control", "control-lengths") or digits == "-":
         return b""
     number = context_of("control", bytes.fromhex(digits))

@@ -134,9 +134,10 @@ def codes() -> Iterator[tuple[str, str]]:
 def types() -> Iterator[tuple[str, str]]:
     """Each type of the page of elements is explained by its name, its clause and the names of its fields."""
     parts = Path("docs/ELEMENTS.md").read_text(encoding="utf-8").split("\n## ")[1:]
+    tables = dict(part.split("\n", 1) for part in parts)
     words = {"Elements": "element", "Messages": "message", "Extension headers": "extension"}
-    for part in parts:
-        word = words[part.partition("\n")[0]]
+    for heading, word in words.items():
+        part = tables[heading]
         clause = {"element": "TS 29.274 8.1", "message": "TS 29.274 6.1", "extension": "TS 29.281 5.2.1"}[word]
         for kind, name, *fields in (row.strip("| ").split(" | ") for row in re.findall(r"^\| [0-9a-f]+ \|.*", part, re.M)):
             head, _, told = text_of("explain", word, kind).partition("\n")

@@ -34,9 +34,9 @@ def head(rng: Random) -> Json:
 
 
 class Conversation:
-    def __init__(self, number: int) -> None:
+    def __init__(self, number: int, said: Json | None = None) -> None:
         self.rng = Random(number)
-        self.head = head(self.rng)
+        self.head = said or head(self.rng)
         self.gateway = station(self.head)
         self.requests: list[Json] = []
         self.answers: list[Json] = []
@@ -49,11 +49,14 @@ class Conversation:
     def role(self) -> str:
         return self.gateway.setup.role
 
-    def run(self, length: int) -> tuple[Json, list[Json], list[Json]]:
+    def any_line(self) -> Json:
         kinds = [self.command] * 4 + [self.friendly] * 8 + [self.response] * 5 + [self.mutated] * 5 + [self.repeated] * 2
         kinds += [self.user_datagram] * 4 + [self.noise, self.pair, self.quiet, self.quiet]
+        return self.rng.choice(kinds)()
+
+    def run(self, length: int) -> tuple[Json, list[Json], list[Json]]:
         for _ in range(length):
-            self.do(self.rng.choice(kinds)())
+            self.do(self.any_line())
         self.do({"do": "contexts"})
         return self.head, self.requests, self.answers
 

@@ -108,6 +108,47 @@ ROWS: dict[int, list[Row]] = {
 }
 WITHOUT_TEID = (1, 2, 3)
 
+# Rows of messages between a mobility management entity and a serving gateway (clause 7.2).
+WITH_IDENTITY = [(CONTEXT, 0, "M", [(EBI, 0, "M")])]
+WITH_CAUSE: list[Row] = [(CAUSE, 0, "M")]
+ENDED_CONTEXTS = (CONTEXT, 0, "A", ENDED_CONTEXT)
+S11_ROWS: dict[int, list[Row]] = {
+    **{kind: [(RECOVERY, 0, "M")] for kind in (1, 2)},
+    **{kind: [] for kind in (3, 36, 99, 100, 162, 170, 176)},
+    **{kind: WITH_CAUSE for kind in (35, 37, 39, 65, 70, 163, 165, 167, 169, 171, 177, 212)},
+    32: [(IMSI, 0, "O"), (RAT, 0, "M"), (FTEID, 0, "M"), (APN, 0, "M"), (PDN_TYPE, 0, "O"),
+         (CONTEXT, 0, "M", [(EBI, 0, "M"), (QOS, 0, "M")])],
+    33: [*WITH_CAUSE, (FTEID, 0, "A"), (FTEID, 1, "A"), (PAA, 0, "O"), ENDED_CONTEXTS],
+    34: [(CONTEXT, 0, "O", [(EBI, 0, "M")])],
+    38: [(RAT, 0, "M")],
+    64: [(AMBR, 0, "M"), *WITH_IDENTITY],
+    66: WITH_IDENTITY,
+    67: [*WITH_CAUSE, (CONTEXT, 0, "M", ENDED_CONTEXT)],
+    68: [(EBI, 0, "M"), (PTI, 0, "M")],
+    69: [*WITH_CAUSE, (EBI, 0, "M"), (PTI, 0, "M")],
+    95: [(EBI, 0, "M"), (CONTEXT, 0, "M", [(EBI, 0, "M"), (TFT, 0, "M"), (FTEID, 0, "C"), (QOS, 0, "M")])],
+    96: [*WITH_CAUSE, (CONTEXT, 0, "A", [*ENDED_CONTEXT, (FTEID, 0, "B"), (FTEID, 1, "B")])],
+    97: [*WITH_IDENTITY, (AMBR, 0, "M")],
+    98: [*WITH_CAUSE, ENDED_CONTEXTS],
+}
+
+
+@dataclass(frozen=True)
+class Rules:
+    """What is asked of datagrams on an interface."""
+
+    rows: dict[int, list[Row]]
+    # Whether messages of a type without rows are kept as octets.
+    keeps_others: bool
+    # The types of extension headers that are understood.
+    understood: tuple[int, ...]
+
+
+# The types that TS 29.281 figure 5.2.1-3 defines.
+EXTENSIONS = (0x03, 0x20, 0x40, 0x81, 0x82, 0x83, 0x84, 0x85, 0xC0)
+S5S8 = Rules(ROWS, True, ())
+INTERFACES = {"s5s8": S5S8, "s11": Rules(S11_ROWS, False, EXTENSIONS), "any": Rules({kind: [] for kind in ROWS}, False, EXTENSIONS)}
+
 
 def element_list(octets: bytes) -> list[Element] | None:
     """The elements of a list. None where the list is not complete."""
@@ -172,7 +213,7 @@ class Reading:
                 raise
 
 
-def read_message(octets: bytes) -> Message:
+def read_message(octets: bytes, rules: Rules = S5S8) -> Message:
     """A message that no other follows: clause 7.7, in the order of the profile."""
     if len(octets) < 4:
         raise Fault("H1")
@@ -187,35 +228,35 @@ def read_message(octets: bytes) -> Message:
     size = 12 if has_teid else 8
     if len(octets) < size:
         raise Fault("H1")
-    if kind in ROWS and has_teid == (kind in WITHOUT_TEID):
+    if kind in rules.rows and has_teid == (kind in WITHOUT_TEID):
         raise Fault("H4")
     teid = int.from_bytes(octets[4:8], "big") if has_teid else None
     message = Message(kind, teid, int.from_bytes(octets[size - 4 : size - 1], "big"), [])
-    if kind not in ROWS:
+    if kind not in rules.rows and rules.keeps_others:
         return message
     found = element_list(octets[size:])
     if found is None:
         raise Fault("H7")
     message.found = found
     reading = Reading(message, found)
-    reading.read(ROWS[kind])
-    if kind == 99 and not reading.every(EBI, 0) and not reading.every(EBI, 1):
+    reading.read(rules.rows.get(kind, []))
+    if rules == S5S8 and kind == 99 and not reading.every(EBI, 0) and not reading.every(EBI, 1):
         reading.missing(EBI, 0, "C")
     message.found = reading.found
     return message
 
 
-def read_datagram(octets: bytes) -> list[Message]:
+def read_datagram(octets: bytes, rules: Rules = S5S8) -> list[Message]:
     """The messages of a datagram: one, or two (clause 5.5.1)."""
     if len(octets) < 4 or octets[0] >> 5 != 2 or octets[0] & 16 == 0:
-        return [read_message(octets)]
+        return [read_message(octets, rules)]
     size = 4 + int.from_bytes(octets[2:4], "big")
     if len(octets) < size:
         raise Fault("H3")
-    front = read_message(bytes([octets[0] & ~16]) + octets[1:size])
+    front = read_message(bytes([octets[0] & ~16]) + octets[1:size], rules)
     if len(octets) == size:
         raise Fault("H5")
-    return [front, read_message(octets[size:])]
+    return [front, read_message(octets[size:], rules)]
 
 
 # The user plane.
@@ -230,8 +271,8 @@ class UserMessage:
     found: dict[int, bytes]
 
 
-def behind_chain(octets: bytes, kind: int) -> int:
-    """The place behind the extension headers (clause 5.2.1), and the type of the first one that must be understood."""
+def behind_chain(octets: bytes, kind: int, rules: Rules) -> int:
+    """The place behind the extension headers (clause 5.2.1), of which each that has to be understood is."""
     at = 12
     while kind != 0:
         if at >= len(octets):
@@ -241,8 +282,8 @@ def behind_chain(octets: bytes, kind: int) -> int:
         after = at + 4 * octets[at]
         if after > len(octets):
             raise Fault("U6")
-        if kind & 128:
-            raise Fault("U7")
+        if kind & 128 and kind not in rules.understood:
+            raise Fault("U7", kind=kind)
         kind, at = octets[after - 1], after
     return at
 
@@ -264,7 +305,7 @@ def user_elements(octets: bytes) -> dict[int, bytes]:
 NEEDED = {2: [14], ERROR_INDICATION: [16, 133], 31: [141]}
 
 
-def read_user_datagram(octets: bytes) -> UserMessage:
+def read_user_datagram(octets: bytes, rules: Rules = S5S8) -> UserMessage:
     if len(octets) < 8:
         raise Fault("U1")
     flags, kind = octets[0], octets[1]
@@ -278,7 +319,7 @@ def read_user_datagram(octets: bytes) -> UserMessage:
     if flags & 7:
         if len(octets) < 12:
             raise Fault("U1")
-        at = behind_chain(octets, octets[11] if flags & 4 else 0)
+        at = behind_chain(octets, octets[11] if flags & 4 else 0, rules)
         number = int.from_bytes(octets[8:10], "big") if flags & 2 else 0
     body, found = octets[at:], {}
     if kind in NEEDED:

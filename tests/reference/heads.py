@@ -9,7 +9,7 @@ import re
 from collections.abc import Iterator
 from typing import Optional
 
-from decoding import ROWS, Fault, element_list, read_datagram, read_message, read_user_datagram
+from decoding import ROWS, S5S8, Fault, Rules, element_list, read_datagram, read_message, read_user_datagram
 from gateways import CONTEXT, FTEID, IMSI, Json, elements_and_rest, packed
 from named_elements import (element_json, element_lines, extension_headers, extension_json, extension_line, front_lines, front_members,
                             has_headers, message_name, without_values)
@@ -22,10 +22,10 @@ CONTROL, USER = MESSAGES["control"], MESSAGES["user"]
 Head = tuple[int, Optional[str], int, Optional[int], int]
 
 
-def first_fault(plane: str, octets: bytes) -> Fault | None:
+def first_fault(plane: str, octets: bytes, rules: Rules = S5S8) -> Fault | None:
     """The first fault, or None."""
     try:
-        (read_user_datagram if plane == "user" else read_datagram)(octets)
+        (read_user_datagram if plane == "user" else read_datagram)(octets, rules)
     except Fault as fault:
         return fault
     return None
@@ -281,6 +281,23 @@ def elements_behind(octets: bytes) -> list[tuple[int, bytes]]:
 def is_tunnel_end(body: bytes) -> bool:
     """Whether a body is an F-TEID with an address and all of its octets (clause 8.22)."""
     return len(body) >= 5 and body[0] & 0xC0 != 0 and len(body) >= 5 + 4 * (body[0] >> 7) + 16 * (body[0] >> 6 & 1)
+
+
+def names_elsewhere(elements: list[tuple[int, bytes]]) -> bool:
+    """Whether one of these elements, or of those inside bearer contexts, is an F-TEID whose interface is none of S5/S8 (clause 8.22)."""
+    return any(kind == FTEID and is_tunnel_end(body) and body[0] & 63 not in (4, 5, 6, 7)
+               or kind == CONTEXT and names_elsewhere([it for it in elements_behind(body) if it[0] != CONTEXT])
+               for kind, body in elements)
+
+
+def is_elsewhere(plane: str, octets: bytes) -> bool:
+    """Whether a datagram names an interface other than S5/S8: an F-TEID of one, or a PDU session container as its fault."""
+    if plane == "user":
+        fault = first_fault(plane, octets)
+        return fault is not None and (fault.code, fault.kind) == ("U7", 0x85)
+    messages = messages_of(octets) if is_pair(octets) else [octets]
+    heads = [(it, control_head(it)) for it in messages]
+    return any(head is not None and names_elsewhere(elements_behind(it[head[4]:])) for it, head in heads)
 
 
 def teids_among(elements: list[tuple[int, bytes]]) -> Iterator[str]:

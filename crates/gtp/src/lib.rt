@@ -1,4 +1,4 @@
-//! The libraries under one name, for callers: both codecs, names, captures, a gateway, and a simulated network of two gateways. Contracts
+//! The libraries under one name, for callers: both codecs, names, captures, a gateway, a node of many, and a simulated network of two gateways. Contracts
 //! and documentation are those of the items that are named here.
 #![tactic(auto)]
 
@@ -55,6 +55,11 @@ pub mod gateway {
         Sent, Seq, Session, SessionList, SessionSpec, State, Step, Subscriber, Teid, Tft, Ticked,
         Timers, ValueFault,
     };
+}
+
+/// A gateway for each of many peers, under one pair of own addresses: a datagram goes to the gateway of the peer that it comes from.
+pub mod node {
+    pub use gtp_node::{Node, Places, Routed};
 }
 
 /// Both gateways and the network between them.

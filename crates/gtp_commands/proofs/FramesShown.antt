@@ -24,7 +24,7 @@ use Rattle.gtp_capture.specs.declared.fault.CaptureFault.TheVariants.{Broken}
 use Rattle.gtp_commands.specs.Captured.{nothing_shown, is_cut, counted, AreShown, TakesFrame, IsFull, IsUnshown, IsFrameInPart, RefusesFrame, AreWritten, IsBrokenShown, IsFirstShown, IsNextShown}
 use Rattle.gtp_commands.specs.Stops.{StopsCapture}
 use Rattle.gtp_commands.specs.declared.command.Failure.{Failure}
-use Rattle.gtp_commands.specs.declared.command.Failure.TheVariants.{BadWords, BadPort, BadFilter, BadHex, BadCode, BadGateway, BadCapture}
+use Rattle.gtp_commands.specs.declared.command.Failure.TheVariants.{BadWords, BadPort, BadInterface, BadFilter, BadHex, BadCode, BadGateway, BadNode, BadCapture}
 use Rattle.gtp_commands.specs.declared.command.Failure.TheVariants.{BrokenCapture, Memory, Read, TooLong, Write, Closed, NoPacket}
 use Rattle.gtp_commands.specs.declared.capturing.Counts.{Counts}
 use Rattle.gtp_commands.specs.declared.capturing.FrameWriter.{FrameWriter}
@@ -119,10 +119,12 @@ refusal_by before middle after Write few kept is = let failed = is (omega (arith
 refusal_by before middle after Closed few kept is = let failed = is (omega (arith, few, kept)) in (failed.0 ∙ ap (λ n. n + 1) kept, failed.1)
 refusal_by before middle after BadWords few kept is = absurd is
 refusal_by before middle after BadPort few kept is = absurd is
+refusal_by before middle after BadInterface few kept is = absurd is
 refusal_by before middle after BadFilter few kept is = absurd is
 refusal_by before middle after BadHex few kept is = absurd is
 refusal_by before middle after BadCode few kept is = absurd is
 refusal_by before middle after BadGateway few kept is = absurd is
+refusal_by before middle after BadNode few kept is = absurd is
 refusal_by before middle after BadCapture few kept is = absurd is
 refusal_by before middle after (BrokenCapture at) few kept is = absurd is
 refusal_by before middle after Read few kept is = absurd is
@@ -152,10 +154,12 @@ refusal_else before after Write is unwritten unclosed = absurd (unwritten refl)
 refusal_else before after Closed is unwritten unclosed = absurd (unclosed refl)
 refusal_else before after BadWords is unwritten unclosed = absurd is
 refusal_else before after BadPort is unwritten unclosed = absurd is
+refusal_else before after BadInterface is unwritten unclosed = absurd is
 refusal_else before after BadFilter is unwritten unclosed = absurd is
 refusal_else before after BadHex is unwritten unclosed = absurd is
 refusal_else before after BadCode is unwritten unclosed = absurd is
 refusal_else before after BadGateway is unwritten unclosed = absurd is
+refusal_else before after BadNode is unwritten unclosed = absurd is
 refusal_else before after BadCapture is unwritten unclosed = absurd is
 refusal_else before after (BrokenCapture at) is unwritten unclosed = absurd is
 refusal_else before after Read is unwritten unclosed = absurd is
@@ -168,10 +172,12 @@ refusal_stops before after Write is = tt
 refusal_stops before after Closed is = tt
 refusal_stops before after BadWords is = absurd is
 refusal_stops before after BadPort is = absurd is
+refusal_stops before after BadInterface is = absurd is
 refusal_stops before after BadFilter is = absurd is
 refusal_stops before after BadHex is = absurd is
 refusal_stops before after BadCode is = absurd is
 refusal_stops before after BadGateway is = absurd is
+refusal_stops before after BadNode is = absurd is
 refusal_stops before after BadCapture is = absurd is
 refusal_stops before after (BrokenCapture at) is = absurd is
 refusal_stops before after Read is = absurd is

@@ -1,5 +1,5 @@
 -- What the arguments of a command ask for.
-use Rattle.std.specs.Prelude.{◌≡◌, ◌≢◌, ◌<◌, ◌⊎◌, ℕ, Bool, true, false, List, codes, map, Option, Some, None, IsSomeAnd, bytes_eq}
+use Rattle.std.specs.Prelude.{◌≡◌, ◌≢◌, ◌<◌, ◌⊎◌, ◌&&◌, ◌||◌, not, ℕ, Bool, true, false, List, codes, map, Option, Some, None, IsSomeAnd, bytes_eq}
 use Rattle.gtp_values.specs.Address.{IsIpText}
 use Rattle.gtp_values.specs.Imsi.{IsImsiText, value_of_digit}
 use Rattle.gtp_values.specs.Teid.{WritesTeid}
@@ -14,6 +14,8 @@ use Rattle.gtp_lines.specs.declared.type_text.TypeOf.{TypeOf}
 use Rattle.gtp_lines.specs.declared.type_text.TypeOf.TheVariants as types
 use Rattle.gtp_dump.specs.declared.decoding.Asked.{Asked}
 use Rattle.gtp_names.specs.declared.names.Names.{Names}
+use Rattle.gtp_interfaces.specs.declared.interface.Interface.{Interface}
+use Rattle.gtp_interfaces.specs.declared.interface.Interface.TheVariants as interfaces
 use Rattle.gtp_lines.specs.Named.{name_in}
 use Rattle.gtp_dump.specs.declared.decoding.Form.{Form as DumpForm}
 use Rattle.gtp_dump.specs.declared.decoding.Form.TheVariants as dump
@@ -34,19 +36,19 @@ plane_of (Some plane) = plane
 plane_of None = Control
 
 -- what `--json`, `--all` and `--places` ask of `decode`
-abbrev pub dump_form : (names : Names) (json all places : Bool) → DumpForm
-dump_form names true true places = dump.Json (members.All names places)
-dump_form names true false places = dump.Json members.Plain
-dump_form names false true places = dump.All names
-dump_form names false false places = dump.Lines
+abbrev pub dump_form : (names : Names) (interface : Interface) (json all places : Bool) → DumpForm
+dump_form names interface true true places = dump.Json (members.All names interface places)
+dump_form names interface true false places = dump.Json members.Plain
+dump_form names interface false true places = dump.All names interface
+dump_form names interface false false places = dump.Lines
 
 -- and, with `--brief`, of `capture`
-abbrev pub capture_form : (names : Names) (json brief all places : Bool) → CaptureForm
-capture_form names true brief true places = Json (members.All names places)
-capture_form names true brief false places = Json members.Plain
-capture_form names false true all places = Text (frames.Brief names)
-capture_form names false false true places = Text (frames.All names)
-capture_form names false false false places = Text frames.Lines
+abbrev pub capture_form : (names : Names) (interface : Interface) (json brief all places : Bool) → CaptureForm
+capture_form names interface true brief true places = Json (members.All names interface places)
+capture_form names interface true brief false places = Json members.Plain
+capture_form names interface false true all places = Text (frames.Brief names)
+capture_form names interface false false true places = Text (frames.All names interface)
+capture_form names interface false false false places = Text frames.Lines
 
 -- of several forms of `replay` the first counts
 abbrev pub replay_form : (json pcap svg diagram : Bool) → ReplayForm
@@ -74,6 +76,21 @@ abbrev pub AreKinds : Names → List ℕ → Kinds → Type 0
 AreKinds names word kinds =
     (IsKindNumber word × (kinds ≡ numbered (digits_value 10 (without_leading_plus word))))
     ⊎ ((IsKindNumber word → ⊥) × IsKindOf (name_in names) word kinds.control × IsKindOf user_name word kinds.user)
+
+-- the word for an interface
+abbrev pub interface_word : Interface → List ℕ
+interface_word interfaces.S5S8 = codes "s5s8"
+interface_word interfaces.S11 = codes "s11"
+interface_word interfaces.Any = codes "any"
+
+-- the interface that `--interface` names; S5/S8 without it
+abbrev pub SaysInterface : Option (List ℕ) → Interface → Type 0
+SaysInterface None interface = interface ≡ interfaces.S5S8
+SaysInterface (Some word) interface = word ≡ interface_word interface
+
+-- S5/S8 judges everywhere, another interface where this says so
+abbrev pub IsJudged : Bool → Interface → Type 0
+IsJudged judges interface = interface ≢ interfaces.S5S8 → judges ≡ true
 
 -- the word for what has types
 abbrev pub type_word : TypeOf → List ℕ
@@ -118,13 +135,31 @@ says_true (Some value) = bytes_eq value (codes "true")
 abbrev pub is_set : Values → List ℕ → Bool
 is_set values name = says_true (values name)
 
--- what the words of `decode` ask for
-abbrev pub dump_of : Names → Values → Asked
-dump_of names values = record { plane = plane_named (is_set values (codes "user")); form = dump_form names (is_set values (codes "json")) (is_set values (codes "all")) (is_set values (codes "places")); join = is_set values (codes "join") }
+-- what the words of `decode` ask for, with an interface
+abbrev pub dump_of : Names → Interface → Values → Asked
+dump_of names interface values = record { plane = plane_named (is_set values (codes "user")); form = dump_form names interface (is_set values (codes "json")) (is_set values (codes "all")) (is_set values (codes "places")); join = is_set values (codes "join") }
+
+-- the same with the one that they name, where it judges
+pub record IsDumpAsked (names : Names) (values : Values) (asked : Asked) : Type 0 where
+  pub interface : Interface
+  pub says : SaysInterface (values (codes "interface")) interface
+  pub judged : IsJudged (is_set values (codes "all")) interface
+  pub asks : asked ≡ dump_of names interface values
 
 -- in which form the words of `capture` and of `replay` ask for what is shown
-abbrev pub capture_form_of : Names → Values → CaptureForm
-capture_form_of names values = capture_form names (is_set values (codes "json")) (is_set values (codes "brief")) (is_set values (codes "all")) (is_set values (codes "places"))
+abbrev pub capture_form_of : Names → Interface → Values → CaptureForm
+capture_form_of names interface values = capture_form names interface (is_set values (codes "json")) (is_set values (codes "brief")) (is_set values (codes "all")) (is_set values (codes "places"))
+
+-- whether an interface judges: all of a datagram is shown, and not in one line
+abbrev pub capture_judges : Values → Bool
+capture_judges values = is_set values (codes "all") && (is_set values (codes "json") || not (is_set values (codes "brief")))
+
+-- that of `capture` with the interface that they name, where it judges
+pub record IsFormAsked (names : Names) (values : Values) (form : CaptureForm) : Type 0 where
+  pub interface : Interface
+  pub says : SaysInterface (values (codes "interface")) interface
+  pub judged : IsJudged (capture_judges values) interface
+  pub asks : form ≡ capture_form_of names interface values
 
 abbrev pub replay_form_of : Values → ReplayForm
 replay_form_of values = replay_form (is_set values (codes "json")) (is_set values (codes "pcap")) (is_set values (codes "svg")) (is_set values (codes "diagram"))
@@ -148,7 +183,7 @@ SaysImsi word digits = IsImsiText word × (digits ≡ map value_of_digit word)
 
 -- what the words of `capture` ask for
 pub record IsCaptureAsked (names : Names) (values : Values) (asked : CaptureAsked) : Type 0 where
-  pub form : asked.frames.form ≡ capture_form_of names values
+  pub form : IsFormAsked names values asked.frames.form
   pub faults : asked.frames.only_faults ≡ is_set values (codes "faults")
   pub kinds : IsSaid (AreKinds names) (values (codes "type")) asked.frames.filter.kinds
   pub imsi : IsSaid SaysImsi (values (codes "imsi")) asked.frames.filter.imsi

@@ -8,6 +8,7 @@ use Rattle.gtp_lines.specs.Lines.{LinesOf}
 use Rattle.gtp_dump.specs.Decoded.{ShowsWord, AreTold}
 use Rattle.gtp_dump.specs.declared.decoding.Asked.{Asked}
 use Rattle.gtp_dump.specs.declared.decoding.Tally.{Tally}
+use Rattle.gtp_commands.specs.declared.showing.DumpShown.{DumpShown}
 
 -- the exit status where lines were shown: 1 for those of a fault
 abbrev pub status_shown : Bool → ℕ
@@ -39,5 +40,6 @@ abbrev pub dump_status : Tally → ℕ
 dump_status tally = if tally.bad then 2 else status_shown tally.faulty
 
 -- all lines of a dump were told
-abbrev pub IsDumpShown : Asked → List ℕ → (out out_after err err_after : Option (List ℕ)) → ℕ → Type 0
-IsDumpShown asked octets out out_after err err_after status = (tally : Tally) × AreTold asked octets [] tally out out_after err err_after × (status ≡ dump_status tally)
+abbrev pub IsDumpShown : Asked → List ℕ → (out out_after err err_after : Option (List ℕ)) → DumpShown → Type 0
+IsDumpShown asked octets out out_after err err_after shown =
+    (tally : Tally) × AreTold asked octets [] tally out out_after err err_after × (shown ≡ record { status = dump_status tally; elsewhere = tally.elsewhere })

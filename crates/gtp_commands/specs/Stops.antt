@@ -1,9 +1,9 @@
 -- Which failures an answer has, and that reads and writes are told as they were.
-use Rattle.std.specs.Prelude.{◌≡◌, ◌≢◌, ◌+◌, Result, Err}
+use Rattle.std.specs.Prelude.{◌≡◌, ◌≢◌, ◌+◌, ◌⊎◌, Result, Err}
 use Rattle.gtp_counted.specs.Counts.{failures_of, NoneFailed, FailedOnce, ClosedOnce}
 use Rattle.gtp_counted.specs.declared.counted.Counted.{Counted}
 use Rattle.gtp_commands.specs.declared.command.Failure.{Failure}
-use Rattle.gtp_commands.specs.declared.command.Failure.TheVariants.{BadHex, BadCode, BadGateway, BadCapture, BrokenCapture, Memory, Read, TooLong, Write, Closed, NoPacket}
+use Rattle.gtp_commands.specs.declared.command.Failure.TheVariants.{BadHex, BadCode, BadGateway, BadNode, BadCapture, BrokenCapture, Memory, Read, TooLong, Write, Closed, NoPacket}
 
 -- The answer is `Read` exactly if a call of the reader failed.
 pub record TellsReads {A R : Type 0} (answer : Result A Failure) (before after : Counted R) : Type 0 where
@@ -63,10 +63,15 @@ StopsReplay Write = Unit {0}
 StopsReplay (NoPacket number) = Unit {0}
 StopsReplay other = ⊥
 
--- what serving one gateway can stop at
-abbrev pub StopsGateway : Failure → Type 0
-StopsGateway BadGateway = Unit {0}
-StopsGateway other = StopsDump other
+-- what serving can stop at, where the first line starts nothing so
+abbrev pub StopsServing : Failure → Failure → Type 0
+StopsServing bad failure = (failure ≡ bad) ⊎ StopsDump failure
+
+-- the first line says no gateway, or no node
+abbrev pub IsBadHead : Failure → Type 0
+IsBadHead BadGateway = Unit {0}
+IsBadHead BadNode = Unit {0}
+IsBadHead other = ⊥
 
 -- what explaining a code can stop at
 abbrev pub StopsExplain : Failure → Type 0

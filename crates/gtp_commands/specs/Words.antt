@@ -21,7 +21,8 @@ needed_word name = record (plain_word name) { required = true }
 
 -- further forms of a datagram
 abbrev pub with_form_words : App → App
-with_form_words app = with_rule (with_rule (with_rule app (flag_word (codes "all"))) (flag_word (codes "json"))) (flag_word (codes "places"))
+with_form_words app =
+    with_rule (with_rule (with_rule (with_rule app (flag_word (codes "all"))) (flag_word (codes "json"))) (flag_word (codes "places"))) (option_word (codes "interface"))
 
 -- to show datagrams
 abbrev pub decode_words : App
@@ -53,6 +54,10 @@ replay_words =
 abbrev pub gateway_words : App
 gateway_words = new_app (codes "gateway")
 
+-- to run a node
+abbrev pub node_words : App
+node_words = new_app (codes "node")
+
 -- to explain codes and types
 abbrev pub explain_words : App
 explain_words = with_rule (with_rule (new_app (codes "explain")) (plain_word (codes "code"))) (plain_word (codes "type"))
@@ -64,5 +69,5 @@ gtpshow_word = record (new_app (codes "gtpshow")).top { has_version = true; subc
 -- all of them
 abbrev pub program_words : App
 program_words =
-    with_subcommand (with_subcommand (with_subcommand (with_subcommand (with_subcommand
-    (record { top = gtpshow_word; subs = [] }) decode_words.top) capture_words.top) replay_words.top) gateway_words.top) explain_words.top
+    with_subcommand (with_subcommand (with_subcommand (with_subcommand (with_subcommand (with_subcommand
+    (record { top = gtpshow_word; subs = [] }) decode_words.top) capture_words.top) replay_words.top) gateway_words.top) node_words.top) explain_words.top

@@ -11,14 +11,15 @@ ghost use Rattle.gtp_commands.specs.Stops.{TellsReads, TellsClosed, StopsCounts,
 
 use crate::command::Failure;
 use crate::dumping::BUFFERED;
-use crate::hinting::{hint_of_broken, hint_of_capture};
+use crate::hinting::{hint_of_broken, hint_of_capture, hint_of_interface};
 use crate::replaying::unopened;
 use crate::watched_readers::Watched;
 use gtp_capture::{CaptureFault, Captured, Packet, Ports, Refused, Sink, Stop, read_capture};
 use gtp_counted::{Counted, Failed};
+use gtp_dump::count_elsewhere;
 use gtp_json::{Members, frame_json};
 use gtp_lines::text::{put, put_number};
-use gtp_lines::{Filter, Form, Shown, frame_lines};
+use gtp_lines::{Filter, Form, Interface, Shown, frame_lines};
 use gtp_values::Memory;
 use std::alloc::{AllocError, Global};
 use std::fs;
@@ -160,6 +161,15 @@ fn shown_as(alloc: Global, form: CaptureForm, captured: &Captured) -> Result<Sho
     }
 }
 
+/// The interface by which a form judges.
+fn interface_of(form: CaptureForm) -> Interface {
+    match form {
+        CaptureForm::Text(Form::All(_, interface))
+        | CaptureForm::Json(Members::All { interface, .. }) => interface,
+        _ => Interface::S5S8,
+    }
+}
+
 /// A writer of the lines of datagrams, in a form.
 #[derive(Drop)]
 pub struct FrameWriter<'a, W> {
@@ -167,6 +177,8 @@ pub struct FrameWriter<'a, W> {
     asked: &'a FramesAsked,
     out: Counted<W>,
     counts: Counts,
+    /// How many of the datagrams at fault that were shown name an interface other than S5/S8.
+    elsewhere: u64,
     /// Why a datagram was not shown.
     unshown: Option<Failure>,
 }
@@ -189,6 +201,7 @@ impl<'a, W: Write> FrameWriter<'a, W> {
                 cut: 0,
                 fragments: 0,
             },
+            elsewhere: 0,
             unshown: None,
         }
     }
@@ -219,6 +232,9 @@ impl<'a, W: Write> Sink for FrameWriter<'a, W> {
             return Err(Refused);
         }
         self.counts = counts;
+        let packet = &captured.packet;
+        let elsewhere = count_elsewhere(shown.faulty, packet.plane, packet.octets);
+        self.elsewhere = self.elsewhere.saturating_add(elsewhere);
         Ok(())
     }
 }
@@ -378,6 +394,9 @@ fn capture_printed<R: Print + Eprint, I: Read + Drop>(
     let shown = capture_from(alloc, asked.ports, &mut reader, &mut writer);
     writer.out.flush().map_err(unwritten)?;
     let read = reader.into_inner().into_inner();
+    if interface_of(asked.frames.form) == Interface::S5S8 {
+        let _ = hint_of_interface(rt, writer.elsewhere);
+    }
     match shown {
         Err(Failure::BadCapture) => {
             let _ = eprintln!(rt; "{}", Failure::BadCapture);

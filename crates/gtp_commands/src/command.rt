@@ -4,7 +4,7 @@ ghost use Rattle.std.specs.Prelude.{◌≡◌, false, IfOk, Some};
 ghost use Rattle.clap.specs.Words.{app_of, rule_of, with_rule};
 ghost use Rattle.clap.specs.declared.builder.command.Command.TheViews.{out-Command as fields_of};
 ghost use Rattle.gtp_commands.specs.Status.{status_of, failure_by, failure_text};
-ghost use Rattle.gtp_commands.specs.Words.{flag_word, option_word, plain_word, with_form_words, with_filter_words, with_port_words, decode_words, capture_words, replay_words, gateway_words, explain_words, program_words};
+ghost use Rattle.gtp_commands.specs.Words.{flag_word, option_word, plain_word, with_form_words, with_filter_words, with_port_words, decode_words, capture_words, replay_words, gateway_words, node_words, explain_words, program_words};
 
 use clap::{Arg, ArgAction, Command};
 use gtp_replay::ReplayFault;
@@ -21,9 +21,8 @@ Examples:
   gtpshow replay examples/scenarios/attach.json
   gtpshow explain CODE
 
-A message of any interface is judged by the rules of the interface S5/S8 (3GPP TS 29.274).
-Exit status: 0 shown, or as expected; 1 a fault, or an event that came to something else; 2 bad words,
-hexadecimal, port, filter, code, capture, scenario or gateway; 3 no memory, or a failed read or write";
+A datagram is judged by the rules of the interface S5/S8 (3GPP TS 29.274), or by those of --interface.
+Exit status: 0 as expected, 1 a fault or another outcome, 2 bad words or input, 3 no memory or a failed read or write";
 
 const SCENARIO: &str = "\
 A scenario:
@@ -44,6 +43,18 @@ Lines:
   {\"do\":\"create_session\",\"imsi\":\"001010123456789\",\"apn\":\"internet\",\"ebi\":5}
   {\"do\":\"receive\",\"plane\":\"control\",\"from\":{\"address\":\"127.0.0.3\",\"port\":2123},\"octets\":\"..\"}
   {\"do\":\"tick\"}
+
+FORMATS.md (docs, or share/doc/gtpshow where it is installed) lists all lines and answers; examples/bridge
+beside it joins UDP sockets to it";
+
+const NODE: &str = "\
+Lines:
+  {\"role\":\"packet\",\"control\":\"127.0.0.3\",\"user\":\"127.0.0.3\",\"counter\":1,
+   \"apns\":[\"internet\"],\"pool\":\"10.1.0.1\",\"count\":100,
+   \"peers\":[{\"control\":\"127.0.0.2\",\"user\":\"127.0.0.2\"}]}               first, and on one line
+  {\"do\":\"receive\",\"plane\":\"control\",\"from\":{\"address\":\"127.0.0.2\",\"port\":2123},\"octets\":\"..\"}
+  {\"peer\":0,\"line\":{\"do\":\"tick\"}}                                   a line of 'gateway' for a peer
+  {\"do\":\"add\",\"peer\":{\"control\":\"127.0.0.4\",\"user\":\"127.0.0.4\"}}
 
 FORMATS.md (docs, or share/doc/gtpshow where it is installed) lists all lines and answers; examples/bridge
 beside it joins UDP sockets to it";
@@ -116,12 +127,21 @@ fn with_forms<'a>(alloc: Global, command: Command<'a>) -> Result<Command<'a>, Al
             "Shows a JSON object a line for each datagram",
         ),
     )?;
-    taking(
+    let command = taking(
         command,
         flag(
             alloc,
             "places",
             "With --all --json: the octets of a datagram, and where each element stands",
+        ),
+    )?;
+    taking(
+        command,
+        option(
+            alloc,
+            "interface",
+            "NAME",
+            "With --all: judges by this interface: s5s8 (the default), s11, or any: by headers and lengths alone",
         ),
     )
 }
@@ -309,6 +329,16 @@ fn gateway_command<'a>(alloc: Global) -> Command<'a>
         .after_help(GATEWAY)
 }
 
+/// The arguments of `node`: none.
+fn node_command<'a>(alloc: Global) -> Command<'a>
+    ensures words { app_of result ≡ node_words }
+    ensures own { (fields_of result).has_globals ≡ false }
+{
+    Command::new(alloc, "node")
+        .about("Runs a gateway for each of many peers, behind lines of JSON")
+        .after_help(NODE)
+}
+
 /// The arguments of `explain`.
 fn explain_command<'a>(alloc: Global) -> Result<Command<'a>, AllocError>
     ensures words { IfOk result (λ command. app_of command ≡ explain_words) }
@@ -343,7 +373,7 @@ pub fn command<'a>(alloc: Global) -> Result<Command<'a>, AllocError>
 {
     Command::new(alloc, "gtpshow")
         .about(
-            "Shows GTP datagrams, replays scenarios of two gateways, runs one gateway, and explains codes",
+            "Shows GTP datagrams, replays scenarios of two gateways, runs gateways, and explains codes",
         )
         .version(VERSION)
         .after_help(NOTES)
@@ -352,6 +382,7 @@ pub fn command<'a>(alloc: Global) -> Result<Command<'a>, AllocError>
         .subcommand(capture_command(alloc)?)?
         .subcommand(replay_command(alloc)?)?
         .subcommand(gateway_command(alloc))?
+        .subcommand(node_command(alloc))?
         .subcommand(explain_command(alloc)?)
 }
 
@@ -362,6 +393,8 @@ pub enum Failure {
     BadWords,
     /// The word for a port is no number from 0 to 65,535.
     BadPort,
+    /// The word for an interface is none, or one by which nothing is judged here.
+    BadInterface,
     /// A word says no type of message, IMSI, TEID or address.
     BadFilter,
     /// The octets of a datagram are not hexadecimal digits, or their number is odd.
@@ -370,6 +403,8 @@ pub enum Failure {
     BadCode,
     /// The first line says no gateway.
     BadGateway,
+    /// The first line says no node.
+    BadNode,
     /// A file is no capture.
     BadCapture,
     /// From this octet of a capture on, counted from 0, no record stands.
@@ -396,10 +431,12 @@ impl Failure {
         match self {
             Failure::BadWords
             | Failure::BadPort
+            | Failure::BadInterface
             | Failure::BadFilter
             | Failure::BadHex
             | Failure::BadCode
             | Failure::BadGateway
+            | Failure::BadNode
             | Failure::BadCapture
             | Failure::BrokenCapture { .. } => 2,
             Failure::Memory
@@ -432,10 +469,17 @@ impl fmt::Display for Failure {
         match self {
             Failure::BadWords => write!(f, "bad words: an argument is not UTF-8"),
             Failure::BadPort => write!(f, "bad port: a number from 0 to 65535 is wanted"),
+            Failure::BadInterface => {
+                write!(
+                    f,
+                    "bad interface: s5s8 is wanted, or s11 or any with --all and without --brief"
+                )
+            }
             Failure::BadFilter => write!(f, "bad filter"),
             Failure::BadHex => write!(f, "bad hex"),
             Failure::BadCode => write!(f, "bad code"),
             Failure::BadGateway => write!(f, "bad gateway head"),
+            Failure::BadNode => write!(f, "bad node head"),
             Failure::BadCapture => write!(f, "bad capture"),
             Failure::BrokenCapture { at } => write!(f, "bad capture at {at}"),
             Failure::Memory => write!(f, "no memory"),

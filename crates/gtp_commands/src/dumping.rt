@@ -4,11 +4,13 @@ ghost use Rattle.std.specs.Prelude.{◌≤◌, IfOk};
 
 use crate::capturing::unwritten;
 use crate::command::Failure;
-use crate::hinting::{hint_of_dump, hint_of_pasted};
+use crate::hinting::{hint_of_dump, hint_of_interface, hint_of_pasted};
 use crate::showing::show_dump;
 use crate::watched_readers::Watched;
 use gtp_counted::Counted;
-use gtp_dump::Asked;
+use gtp_dump::{Asked, Form};
+use gtp_interfaces::Interface;
+use gtp_json::Members;
 use std::alloc::Global;
 use std::io::{self, BufReader, BufWriter, ErrorKind, Write};
 use std::str;
@@ -38,6 +40,14 @@ impl<P: Eprint> Write for Errors<'_, P> {
     }
 }
 
+/// The interface by which a form judges.
+pub fn interface_of(form: Form) -> Interface {
+    match form {
+        Form::All(_, interface) | Form::Json(Members::All { interface, .. }) => interface,
+        _ => Interface::S5S8,
+    }
+}
+
 /// Shows the datagrams of standard input, says on standard error what it is if it is something else, and returns the exit status.
 pub fn dump_printed<R: Print + Eprint + Input>(
     rt: &R,
@@ -62,11 +72,15 @@ pub fn dump_printed<R: Print + Eprint + Input>(
     );
     out.flush().map_err(unwritten)?;
     let first = reader.into_inner().into_inner().first;
-    if shown == Ok(2) {
+    let shown = shown?;
+    if shown.status == 2 {
         let _ = hint_of_dump(rt, &first);
     }
-    if shown == Ok(1) {
+    if shown.status == 1 {
         let _ = hint_of_pasted(rt, alloc, &first);
     }
-    shown
+    if interface_of(asked.form) == Interface::S5S8 {
+        let _ = hint_of_interface(rt, shown.elsewhere);
+    }
+    Ok(shown.status)
 }

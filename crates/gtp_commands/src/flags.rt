@@ -1,13 +1,14 @@
 //! What the arguments of a command ask for.
 
-ghost use Rattle.std.specs.Prelude.{◌≡◌, ◌≢◌, None, Ok, Some, Err, true, false, IfOk, IfErr, IfSome, IsSomeAnd, OnOk, OnErr, option_map, if◌then◌else◌};
+ghost use Rattle.std.specs.Prelude.{◌≡◌, ◌≢◌, None, Ok, Some, Err, true, false, codes, IfOk, IfErr, IfSome, IsSomeAnd, OnOk, OnErr, option_map, if◌then◌else◌};
 ghost use Rattle.std.specs.IoError.{error_kind};
 ghost use Rattle.gtp_lines.specs.Named.{name_in as spec_name_in};
 ghost use Rattle.gtp_lines.specs.User.{user_name as spec_user_name};
 ghost use Rattle.gtp_values.specs.Address.{IsIpText, SomeIpText};
 ghost use Rattle.gtp_values.specs.Imsi.{IsImsiText};
 ghost use Rattle.gtp_values.specs.Teid.{IsTeidText, WritesTeid};
-ghost use Rattle.gtp_commands.specs.Flags.{plane_named, plane_of, dump_form, capture_form, replay_form, IsKindOf, IsTypeWord, type_base, IsTypeWritten, AreKinds, no_kinds, IsPortNumber, SaysPort, SaysImsi, is_set, dump_of, capture_form_of, replay_form_of, IsCaptureAsked};
+ghost use Rattle.gtp_commands.specs.Flags.{plane_named, plane_of, dump_form, capture_form, replay_form, IsKindOf, IsTypeWord, type_base, IsTypeWritten, AreKinds, no_kinds, IsPortNumber, SaysPort, SaysImsi, is_set, dump_of, SaysInterface, IsJudged, IsDumpAsked, IsFormAsked, replay_form_of, IsCaptureAsked};
+ghost use Rattle.gtp_interfaces.specs.declared.interface.Interface.{Interface as AnyInterface};
 ghost use Rattle.clap.specs.Words.{first_value, found_of};
 
 use crate::capturing::{CaptureAsked, CaptureForm, FramesAsked};
@@ -15,6 +16,7 @@ use crate::command::Failure;
 use clap::ArgMatches;
 use gtp_capture::Ports;
 use gtp_dump::Asked;
+use gtp_interfaces::Interface;
 use gtp_json::Members;
 use gtp_lines::{Filter, Form, Imsi, Ip, Kinds, Names, Plane, Teid, TypeOf, name_in, user_name};
 use std::io::{self, ErrorKind};
@@ -34,13 +36,23 @@ pub fn plane_of(named: Option<Plane>) -> Plane
 }
 
 /// In which form `decode` shows datagrams.
-fn dump_form(names: Names, is_json: bool, is_all: bool, places: bool) -> gtp_dump::Form
-    ensures { result ≡ dump_form names is_json is_all places }
+fn dump_form(
+    names: Names,
+    interface: Interface,
+    is_json: bool,
+    is_all: bool,
+    places: bool,
+) -> gtp_dump::Form
+    ensures { result ≡ dump_form names interface is_json is_all places }
 {
     match (is_json, is_all) {
-        (true, true) => gtp_dump::Form::Json(Members::All { names, places }),
+        (true, true) => gtp_dump::Form::Json(Members::All {
+            names,
+            interface,
+            places,
+        }),
         (true, false) => gtp_dump::Form::Json(Members::Plain),
-        (false, true) => gtp_dump::Form::All(names),
+        (false, true) => gtp_dump::Form::All(names, interface),
         (false, false) => gtp_dump::Form::Lines,
     }
 }
@@ -48,18 +60,23 @@ fn dump_form(names: Names, is_json: bool, is_all: bool, places: bool) -> gtp_dum
 /// In which form `capture` shows them.
 fn capture_form(
     names: Names,
+    interface: Interface,
     is_json: bool,
     is_brief: bool,
     is_all: bool,
     places: bool,
 ) -> CaptureForm
-    ensures { result ≡ capture_form names is_json is_brief is_all places }
+    ensures { result ≡ capture_form names interface is_json is_brief is_all places }
 {
     match (is_json, is_brief, is_all) {
-        (true, _, true) => CaptureForm::Json(Members::All { names, places }),
+        (true, _, true) => CaptureForm::Json(Members::All {
+            names,
+            interface,
+            places,
+        }),
         (true, _, false) => CaptureForm::Json(Members::Plain),
         (false, true, _) => CaptureForm::Text(Form::Brief(names)),
-        (false, false, true) => CaptureForm::Text(Form::All(names)),
+        (false, false, true) => CaptureForm::Text(Form::All(names, interface)),
         (false, false, false) => CaptureForm::Text(Form::Lines),
     }
 }
@@ -87,33 +104,74 @@ fn is_set(asked: &ArgMatches, name: &str) -> bool
     }
 }
 
-/// What the arguments of `decode` ask for, by these names and forms.
-pub fn dump_asked(names: Names, asked: &ArgMatches) -> Asked
-    ensures { result ≡ dump_of names (first_value (found_of asked.now)) }
+/// The interface of a word, S5/S8 without one: `BadInterface` for a word that names none.
+fn interface_of(word: Option<&str>) -> Result<Interface, Failure>
+    ensures some { IfOk result (SaysInterface (option_map (λ w. w.now) word.entry)) }
+    ensures bad { IfErr result (λ failure. failure ≡ Failure.BadInterface) }
+    ensures only { OnErr result ((interface : AnyInterface) →
+        SaysInterface (option_map (λ w. w.now) word.entry) interface → ⊥) }
 {
-    Asked {
-        plane: plane_named(is_set(asked, "user")),
-        form: dump_form(
-            names,
-            is_set(asked, "json"),
-            is_set(asked, "all"),
-            is_set(asked, "places"),
-        ),
-        join: is_set(asked, "join"),
+    match word {
+        None | Some("s5s8") => Ok(Interface::S5S8),
+        Some("s11") => Ok(Interface::S11),
+        Some("any") => Ok(Interface::Any),
+        Some(_) => Err(Failure::BadInterface),
     }
 }
 
-/// In which form those of `capture` ask for datagrams.
-fn capture_form_asked(names: Names, asked: &ArgMatches) -> CaptureForm
-    ensures { result ≡ capture_form_of names (first_value (found_of asked.now)) }
+/// The interface of the arguments, S5/S8 without one: `BadInterface` for a word that names none, and for another one than S5/S8
+/// where none judges.
+fn interface_asked(asked: &ArgMatches, judges: bool) -> Result<Interface, Failure>
+    ensures says { IfOk result (SaysInterface (first_value (found_of asked.now) (codes "interface"))) }
+    ensures judged { IfOk result (IsJudged judges) }
+    ensures bad { IfErr result (λ failure. failure ≡ Failure.BadInterface) }
+    ensures only { OnErr result ((interface : AnyInterface) → IsJudged judges interface →
+        SaysInterface (first_value (found_of asked.now) (codes "interface")) interface → ⊥) }
 {
-    capture_form(
+    let interface = interface_of(asked.get_str("interface"))?;
+    match (interface, judges) {
+        (Interface::S5S8, _) | (_, true) => Ok(interface),
+        (_, false) => Err(Failure::BadInterface),
+    }
+}
+
+/// What the arguments of `decode` ask for, by these names and forms: `BadInterface` where they name no interface by which it judges.
+pub fn dump_asked(names: Names, asked: &ArgMatches) -> Result<Asked, Failure>
+    ensures asked { IfOk result (IsDumpAsked names (first_value (found_of asked.now))) }
+    ensures bad { IfErr result (λ failure. failure ≡ Failure.BadInterface) }
+{
+    let is_all = is_set(asked, "all");
+    let interface = interface_asked(asked, is_all)?;
+    Ok(Asked {
+        plane: plane_named(is_set(asked, "user")),
+        form: dump_form(
+            names,
+            interface,
+            is_set(asked, "json"),
+            is_all,
+            is_set(asked, "places"),
+        ),
+        join: is_set(asked, "join"),
+    })
+}
+
+/// In which form those of `capture` ask for datagrams.
+fn capture_form_asked(names: Names, asked: &ArgMatches) -> Result<CaptureForm, Failure>
+    ensures asked { IfOk result (IsFormAsked names (first_value (found_of asked.now))) }
+    ensures bad { IfErr result (λ failure. failure ≡ Failure.BadInterface) }
+{
+    let is_json = is_set(asked, "json");
+    let is_brief = is_set(asked, "brief");
+    let is_all = is_set(asked, "all");
+    let interface = interface_asked(asked, is_all && (is_json || !is_brief))?;
+    Ok(capture_form(
         names,
-        is_set(asked, "json"),
-        is_set(asked, "brief"),
-        is_set(asked, "all"),
+        interface,
+        is_json,
+        is_brief,
+        is_all,
         is_set(asked, "places"),
-    )
+    ))
 }
 
 /// In which form those of `replay` ask for a run.
@@ -128,7 +186,7 @@ pub fn replay_form_asked(asked: &ArgMatches) -> gtp_replay::Form
     )
 }
 
-/// What the arguments of `capture` ask for, by these names and forms: `BadFilter` and `BadPort` for words that say nothing of their kind.
+/// What the arguments of `capture` ask for, by these names and forms: `BadFilter`, `BadPort` and `BadInterface` for words that say nothing of their kind.
 pub fn capture_asked(names: Names, asked: &ArgMatches) -> Result<CaptureAsked, Failure>
     ensures asked { IfOk result (IsCaptureAsked names (first_value (found_of asked.now))) }
 {
@@ -143,7 +201,7 @@ pub fn capture_asked(names: Names, asked: &ArgMatches) -> Result<CaptureAsked, F
         user: port_of(asked.get_str("user-port"))?,
     };
     let frames = FramesAsked {
-        form: capture_form_asked(names, asked),
+        form: capture_form_asked(names, asked)?,
         filter,
         only_faults: is_set(asked, "faults"),
     };

@@ -5,12 +5,18 @@ use crate::flags::{imsi_of, kinds_of, teid_of, type_of_word, type_written};
 use crate::watched_readers::Watched;
 use clap::ArgMatches;
 use gtp_capture::begins_as_capture;
-use gtp_dump::{Flaw, Hint, LineFault, begins_dump, flaw_of, hint_of, read_line, row_digits};
+use gtp_dump::{
+    Flaw, Hint, LineFault, begins_dump, count_elsewhere, flaw_of, hint_of, read_line, row_digits,
+};
 use gtp_lines::{Plane, TypeOf, decode_lines, fault_context};
 use gtp_names::all_names;
-use gtp_scenario::reason_of;
-use gtp_serve::head_reason;
+use gtp_scenario::{
+    Fault, Items, Role, Tree, access_points_at, address_of, as_list, counter_at, has_only, ipv6_of,
+    json_flaw, json_of, pools_at, reason_of, role_of, text_at, timers_at, value_at,
+};
+use gtp_serve::{MOST_OCTETS, head_reason};
 use gtp_v2::view;
+use json::Scratch;
 use std::alloc::Global;
 use std::rt::{Env, Files};
 use std::{env, fs, io};
@@ -257,6 +263,34 @@ pub fn hint_of_context<R: Eprint>(rt: &R, alloc: Global, word: &str) -> io::Resu
     }
 }
 
+/// Says how many datagrams at fault name an interface other than S5/S8, by whose rules they were judged.
+pub fn hint_of_interface<R: Eprint>(rt: &R, count: u64) -> io::Result<()> {
+    match count {
+        0 => Ok(()),
+        1 => eprintln!(rt;
+            "gtpshow: 1 datagram at fault names another interface: with --all, --interface s11 judges by the rules of S11, any by headers and lengths alone"
+        ),
+        _ => eprintln!(rt;
+            "gtpshow: {count} datagrams at fault name another interface: with --all, --interface s11 judges by the rules of S11, any by headers and lengths alone"
+        ),
+    }
+}
+
+/// The same of a datagram at fault that a word spells.
+pub fn hint_of_elsewhere<R: Eprint>(
+    rt: &R,
+    alloc: Global,
+    plane: Option<Plane>,
+    word: &str,
+) -> io::Result<()> {
+    match read_line(alloc, plane, word.as_bytes()) {
+        Ok(Some(dumped)) => {
+            hint_of_interface(rt, count_elsewhere(true, dumped.plane, &dumped.octets))
+        }
+        _ => Ok(()),
+    }
+}
+
 /// Says why these octets, of a file or of standard input, are no scenario.
 pub fn hint_of_scenario<R: Eprint>(
     rt: &R,
@@ -286,6 +320,128 @@ pub fn hint_of_gateway<R: Eprint>(rt: &R, alloc: Global, line: &[u8]) -> io::Res
     match head_reason(alloc, line) {
         Ok(Some(reason)) => eprintln!(rt; "gtpshow: the first line of standard input: {reason}"),
         _ => Ok(()),
+    }
+}
+
+/// Whether the value of a key is an address.
+fn is_address(value: &Tree<'_, '_>, key: &str) -> bool {
+    match text_at(value, key) {
+        Some(text) => address_of(text).is_some() || ipv6_of(text).is_some(),
+        None => false,
+    }
+}
+
+/// Whether the value is the addresses of a peer, and nothing else.
+fn is_peer(value: &Tree<'_, '_>) -> bool {
+    has_only(value, &["control", "user"])
+        && is_address(value, "control")
+        && is_address(value, "user")
+}
+
+/// The place of the first value that is no peer.
+fn first_bad_peer(mut values: Items<'_, '_>) -> Option<usize> {
+    let mut place: usize = 0;
+    while let Some(value) = values.next() {
+        if !is_peer(&value) {
+            return Some(place);
+        }
+        place = place.saturating_add(1);
+    }
+    None
+}
+
+/// What is wrong with data that say no node.
+enum NodeFlaw {
+    /// Of a key, or of several together.
+    Says(&'static str),
+    /// Of the peer at this place.
+    Peer(usize),
+}
+
+/// What is wrong with the peers of a node.
+fn flaw_of_peers(value: &Tree<'_, '_>) -> Option<NodeFlaw> {
+    let Some(peers) = value_at(value, "peers") else {
+        return Some(NodeFlaw::Says("peers is missing"));
+    };
+    let Some(values) = as_list(&peers) else {
+        return Some(NodeFlaw::Says("peers: a list is wanted"));
+    };
+    first_bad_peer(values).map(NodeFlaw::Peer)
+}
+
+/// What is wrong with what only the node of a packet gateway has.
+fn flaw_of_packet(alloc: Global, value: &Tree<'_, '_>) -> &'static str {
+    if access_points_at(alloc, value).is_err() {
+        return "apns: a list of at most 16 access point names is wanted";
+    }
+    if pools_at(value).is_none() {
+        return "pool and count, or pool6 and count6: a first address and a number of addresses are wanted";
+    }
+    "a key is unknown, a template is none, or addresses end before the last peer has its own"
+}
+
+/// What is wrong with data that say no node: the first key that is, in the order of `docs/FORMATS.md`.
+fn flaw_of_node(alloc: Global, value: &Tree<'_, '_>) -> NodeFlaw {
+    let role = match text_at(value, "role") {
+        Some(word) => role_of(word),
+        None => None,
+    };
+    let Some(role) = role else {
+        return NodeFlaw::Says("role: \"serving\" or \"packet\" is wanted");
+    };
+    if !is_address(value, "control") {
+        return NodeFlaw::Says("control: an IPv4 address or 32 hexadecimal digits are wanted");
+    }
+    if !is_address(value, "user") {
+        return NodeFlaw::Says("user: an IPv4 address or 32 hexadecimal digits are wanted");
+    }
+    if let Some(flaw) = flaw_of_peers(value) {
+        return flaw;
+    }
+    if counter_at(value).is_none() {
+        return NodeFlaw::Says("counter: a number from 0 to 255 is wanted");
+    }
+    if timers_at(value).is_none() {
+        return NodeFlaw::Says("t3, n3 or hold is out of range");
+    }
+    match role {
+        Role::Packet => NodeFlaw::Says(flaw_of_packet(alloc, value)),
+        Role::Serving => NodeFlaw::Says("a key is none of a serving gateway"),
+    }
+}
+
+/// Says what is wrong with data that say no node.
+fn hint_of_node_flaw<R: Eprint>(rt: &R, flaw: NodeFlaw) -> io::Result<()> {
+    match flaw {
+        NodeFlaw::Says(words) => {
+            eprintln!(rt; "gtpshow: the first line of standard input: {words}")
+        }
+        NodeFlaw::Peer(place) => eprintln!(rt;
+            "gtpshow: the first line of standard input: peers[{place}]: an object with the addresses control and user is wanted"
+        ),
+    }
+}
+
+/// Says why the first line of standard input says no node.
+pub fn hint_of_node<R: Eprint>(rt: &R, alloc: Global, line: &[u8]) -> io::Result<()> {
+    if line.iter().all(u8::is_ascii_whitespace) {
+        return eprintln!(rt;
+            "gtpshow: the first line of standard input has to say a node: 'node --help' shows one"
+        );
+    }
+    if line.len() > MOST_OCTETS {
+        return eprintln!(rt;
+            "gtpshow: the first line of standard input: more than {MOST_OCTETS} octets"
+        );
+    }
+    let mut scratch = Scratch::new(alloc);
+    match json_of(alloc, line, &mut scratch) {
+        Ok(tape) => hint_of_node_flaw(rt, flaw_of_node(alloc, &Tree::root(&tape))),
+        Err(Fault::Wrong) => match json_flaw(alloc, line) {
+            Ok(flaw) => eprintln!(rt; "gtpshow: the first line of standard input: {flaw}"),
+            Err(_) => Ok(()),
+        },
+        Err(Fault::Memory) => Ok(()),
     }
 }
 

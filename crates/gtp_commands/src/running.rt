@@ -4,20 +4,23 @@ ghost use Rattle.std.specs.Prelude.{◌≤◌, IfOk};
 
 use crate::capturing::capture_file;
 use crate::command::{Failure, command};
-use crate::dumping::dump_printed;
+use crate::dumping::{dump_printed, interface_of};
 use crate::explaining::{explain_code, explain_type};
 use crate::flags::{
     capture_asked, dump_asked, plane_of, replay_form_asked, status_printed, type_of_word,
     type_written, unread_words,
 };
-use crate::hinting::{hint_of_context, hint_of_octets, hint_of_version, hint_of_words};
+use crate::hinting::{
+    hint_of_context, hint_of_elsewhere, hint_of_octets, hint_of_version, hint_of_words,
+};
 use crate::replaying::replay_file;
-use crate::serving::gateway_printed;
+use crate::serving::{gateway_printed, node_printed};
 use crate::showing::{show, show_word};
 use clap::ArgMatches;
 use clap::error::ErrorKind;
 use gtp_codes::parts;
 use gtp_counted::Counted;
+use gtp_interfaces::Interface;
 use gtp_lines::Plane;
 use gtp_names::all_names;
 use std::alloc::Global;
@@ -33,12 +36,19 @@ fn decode<R: Print + Eprint + Input>(
     ensures { IfOk result (λ status. status ≤ 2) }
 {
     let digits = asked.get_str("octets").unwrap_or("");
-    let asked = dump_asked(all_names(), asked);
+    let asked = match dump_asked(all_names(), asked) {
+        Ok(asked) => asked,
+        Err(failure) => return Err(failure),
+    };
     if digits == "-" {
         return dump_printed(rt, alloc, asked);
     }
     if !matches!(asked.form, gtp_dump::Form::Lines) {
-        return show_word(alloc, &mut Counted::new(io::writer(rt)), asked, digits);
+        let status = show_word(alloc, &mut Counted::new(io::writer(rt)), asked, digits)?;
+        if status == 1 && interface_of(asked.form) == Interface::S5S8 {
+            let _ = hint_of_elsewhere(rt, alloc, asked.plane, digits);
+        }
+        return Ok(status);
     }
     let plane = plane_of(asked.plane);
     let status = show(alloc, &mut Counted::new(io::writer(rt)), plane, digits)?;
@@ -48,6 +58,9 @@ fn decode<R: Print + Eprint + Input>(
     if status == 1 && plane == Plane::Control {
         let _ = hint_of_context(rt, alloc, digits);
         let _ = hint_of_octets(rt, alloc, digits);
+    }
+    if status == 1 {
+        let _ = hint_of_elsewhere(rt, alloc, Some(plane), digits);
     }
     Ok(status)
 }
@@ -118,12 +131,13 @@ fn carry_out<R: Print + Eprint + Input + Files>(
         Some(("capture", asked)) => capture(rt, alloc, asked),
         Some(("replay", asked)) => replay(rt, alloc, asked),
         Some(("gateway", _)) => gateway_printed(rt, alloc),
+        Some(("node", _)) => node_printed(rt, alloc),
         Some(("explain", asked)) => explain(rt, alloc, asked),
         _ => Ok(2),
     }
 }
 
-/// Carries out the command line of the environment: `decode`, `capture`, `replay`, `gateway` or `explain`. The exit status that
+/// Carries out the command line of the environment: `decode`, `capture`, `replay`, `gateway`, `node` or `explain`. The exit status that
 /// the program ends with, at most 2; or why the command ended early.
 pub fn run<R: Print + Eprint + Input + Env + Files + AllocGlobal>(rt: &R) -> Result<u8, Failure>
     ensures { IfOk result (λ status. status ≤ 2) }

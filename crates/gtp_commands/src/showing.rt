@@ -5,13 +5,13 @@ ghost use Rattle.hex.specs.Hex.{decode_of};
 ghost use Rattle.gtp_counted.specs.Counts.{inner_of, failures_of, NoneFailed};
 ghost use Rattle.gtp_dump.specs.Decoded.{AreFirstTold, AreToldInPart, WriteFailed, WriteClosed};
 ghost use Rattle.gtp_dump.specs.Text.{IsBlank, IsBad};
-ghost use Rattle.gtp_commands.specs.Shown.{IsShown, IsShownInPart, IsWordShown, IsWordShownInPart, IsDumpShown};
+ghost use Rattle.gtp_commands.specs.Shown.{IsShown, IsShownInPart, IsWordShown, IsWordShownInPart, dump_status, IsDumpShown};
 ghost use Rattle.gtp_commands.specs.Stops.{TellsReads, TellsWrites, TellsClosed, StopsShow, StopsWord, StopsDump};
 
 use crate::capturing::unwritten;
 use crate::command::Failure;
 use gtp_counted::Counted;
-use gtp_dump::{Asked, DumpFault, LineFault, decode_dump, decode_word};
+use gtp_dump::{Asked, DumpFault, LineFault, Tally, decode_dump, decode_word};
 use gtp_lines::{Plane, decode_lines};
 use hex::FromHexError;
 use std::alloc::Global;
@@ -85,8 +85,27 @@ pub fn show_word<W: Write>(
     }
 }
 
-/// Writes the lines of the datagrams of a dump, and of its bad lines as errors, and returns the exit status: 2 if a line was bad,
-/// else 1 if a datagram had a fault, else 0. `Memory` if an allocation was refused, `Read` if a read failed, `Write` or `Closed`
+/// The exit status of a dump.
+fn dump_status(tally: Tally) -> u8
+    ensures { result ≡ dump_status tally }
+{
+    match (tally.bad, tally.faulty) {
+        (true, _) => 2,
+        (false, true) => 1,
+        (false, false) => 0,
+    }
+}
+
+/// What came of a dump that was shown.
+#[derive(Clone, Copy, Debug, PartialEq, Eq)]
+pub struct DumpShown {
+    /// The exit status: 2 if a line was bad, else 1 if a datagram had a fault, else 0.
+    pub status: u8,
+    /// How many of the datagrams at fault name an interface other than S5/S8.
+    pub elsewhere: u64,
+}
+
+/// Writes the lines of the datagrams of a dump, and of its bad lines as errors, and says what came of it. `Memory` if an allocation was refused, `Read` if a read failed, `Write` or `Closed`
 /// if a write did, `TooLong` if the dump has 2^64 - 1 octets or more.
 pub fn show_dump<R: BufRead, W: Write, E: Write>(
     alloc: Global,
@@ -94,15 +113,15 @@ pub fn show_dump<R: BufRead, W: Write, E: Write>(
     reader: &mut Counted<R>,
     out: &mut Counted<W>,
     err: &mut Counted<E>,
-) -> Result<u8, Failure>
+) -> Result<DumpShown, Failure>
     requires reads { failures_of reader.old < 2 ^ 64 - 1 }
     requires writes { failures_of out.old < 2 ^ 64 - 1 }
     requires errors { failures_of err.old < 2 ^ 64 - 1 }
-    ensures shown { IfOk result (λ status. IfSome (R.remaining (inner_of reader.old)) (λ octets.
+    ensures shown { IfOk result (λ shown. IfSome (R.remaining (inner_of reader.old)) (λ octets.
         IsDumpShown asked octets
         (W.contents (inner_of out.old)) (W.contents (inner_of out.new))
-        (E.contents (inner_of err.old)) (E.contents (inner_of err.new)) status)) }
-    ensures small { IfOk result (λ status. status ≤ 2) }
+        (E.contents (inner_of err.old)) (E.contents (inner_of err.new)) shown)) }
+    ensures small { IfOk result (λ shown. shown.status ≤ 2) }
     ensures first { IfErr result (λ failure. failure ≢ Failure.Write → failure ≢ Failure.Closed →
         IfSome (R.remaining (inner_of reader.old)) (λ octets.
         AreFirstTold asked octets
@@ -123,8 +142,10 @@ pub fn show_dump<R: BufRead, W: Write, E: Write>(
     ensures kind { IfErr result StopsDump }
 {
     match decode_dump(alloc, asked, reader, out, err) {
-        Ok(tally) if tally.bad => Ok(2),
-        Ok(tally) => Ok(if tally.faulty { 1 } else { 0 }),
+        Ok(tally) => Ok(DumpShown {
+            status: dump_status(tally),
+            elsewhere: tally.elsewhere,
+        }),
         Err(DumpFault::Memory) => Err(Failure::Memory),
         Err(DumpFault::Read) => Err(Failure::Read),
         Err(DumpFault::TooLong) => Err(Failure::TooLong),

@@ -1,5 +1,5 @@
 -- What is told of the lines of a hex dump.
-use Rattle.std.specs.Prelude.{◌≡◌, ℕ, ◌+◌, ◌||◌, ◌⊎◌, Bool, true, false, List, [], ◌∷◌, ◌++◌, map, length, take, Option, codes, decimal}
+use Rattle.std.specs.Prelude.{◌≡◌, ℕ, ◌+◌, ◌-◌, ◌^◌, min, ◌||◌, ◌⊎◌, Bool, true, false, List, [], ◌∷◌, ◌++◌, map, length, take, Option, codes, decimal}
 use Rattle.std.specs.List.{flat_map}
 use Rattle.std.specs.Io.BufRead.{take_through}
 use Rattle.std.specs.Io.KnownBytes.{Appends}
@@ -12,6 +12,7 @@ use Rattle.gtp_lines.specs.Lines.{LinesOf}
 use Rattle.gtp_lines.specs.All.{AllLines}
 use Rattle.gtp_json.specs.Datagram.{DatagramJson}
 use Rattle.gtp_dump.specs.Text.{SpellsWord}
+use Rattle.gtp_dump.specs.Elsewhere.{CountsElsewhere}
 use Rattle.gtp_dump.specs.Flaw.{flaw_text}
 use Rattle.gtp_dump.specs.Entries.{Reading, Nothing, Bad, Datagram, IsEntry}
 use Rattle.gtp_dump.specs.declared.flaw.Flaw.{Flaw}
@@ -38,7 +39,7 @@ bad_text number flaw = bad_line number ++ flaw_line number flaw
 -- a datagram in a form
 abbrev pub ShowsAs : Form → Plane → List ℕ → List ℕ → Bool → Type 0
 ShowsAs forms.Lines plane octets text faulty = LinesOf plane octets text faulty
-ShowsAs (forms.All names) plane octets text faulty = AllLines names plane octets text faulty
+ShowsAs (forms.All names interface) plane octets text faulty = AllLines names interface plane octets text faulty
 ShowsAs (forms.Json members) plane octets text faulty = DatagramJson members plane octets text faulty
 
 -- this of the datagram of a word
@@ -48,7 +49,7 @@ ShowsWord asked word text faulty = (plane : Plane) × (octets : List ℕ) × Spe
 -- the line before those of a datagram; none before an object
 abbrev pub index_line : Form → ℕ → List ℕ
 index_line forms.Lines index = datagram_line index
-index_line (forms.All names) index = datagram_line index
+index_line (forms.All names interface) index = datagram_line index
 index_line (forms.Json members) index = []
 
 -- of a datagram its index, and then this
@@ -57,7 +58,7 @@ Shows form plane octets index text faulty = (lines : List ℕ) × ShowsAs form p
 
 -- nothing was read yet
 abbrev pub nothing_read : Tally
-nothing_read = record { lines = 0; datagrams = 0; faulty = false; bad = false }
+nothing_read = record { lines = 0; datagrams = 0; faulty = false; elsewhere = 0; bad = false }
 
 -- lines without digits tell nothing
 pub record TellsNothing (before : Tally) (count : ℕ) (after : Tally) (out err : List ℕ) : Type 0 where
@@ -74,8 +75,15 @@ pub record TellsBad (before : Tally) (count number : ℕ) (flaw : Flaw) (after :
 -- a datagram is shown, and its index told, which counts from 0
 pub record TellsDatagram (form : Form) (before : Tally) (count : ℕ) (plane : Plane) (octets : List ℕ) (after : Tally) (out err : List ℕ) : Type 0 where
   pub faulty : Bool
+  pub elsewhere : ℕ
   pub shows : Shows form plane octets before.datagrams out faulty
-  pub tally : after ≡ record before { lines = before.lines + count; datagrams = before.datagrams + 1; faulty = before.faulty || faulty }
+  pub counts : CountsElsewhere faulty plane octets elsewhere
+  pub tally : after ≡ record before {
+    lines = before.lines + count;
+    datagrams = before.datagrams + 1;
+    faulty = before.faulty || faulty;
+    elsewhere = min (before.elsewhere + elsewhere) (2 ^ 64 - 1);
+  }
   pub error : err ≡ []
 
 -- what is told of so many lines that give this: what they add to the output and to the errors

@@ -1,3 +1,4 @@
+pub mod Elsewhere
 pub mod Text
 pub mod Row
 pub mod Flaw

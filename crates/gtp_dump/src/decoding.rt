@@ -8,13 +8,14 @@ ghost use Rattle.gtp_dump.specs.Decoded.{nothing_read, bad_text, index_line, Sho
 ghost use Rattle.gtp_dump.specs.Held.{reading_of, Stands, GoesOnAfter, lines_read, datagrams_begun, Moves, MovesInPart};
 
 use crate::bounded_line::next_line;
+use crate::elsewhere::count_elsewhere;
 use crate::entry::{Kept, Reading, goes_on, opening, read_alone};
 use crate::flaw::{Flaw, put_flaw};
 use crate::text::{Dumped, LineFault, read_word};
 use gtp_counted::{Counted, Failed};
 use gtp_json::{Members, datagram_json};
 use gtp_lines::text::{put, put_number};
-use gtp_lines::{Names, Shown, all_lines, decode_lines};
+use gtp_lines::{Interface, Names, Shown, all_lines, decode_lines};
 use gtp_values::{Memory, Plane};
 use std::alloc::{AllocError, Global};
 use std::io::{BufRead, ErrorKind, Write};
@@ -25,8 +26,8 @@ use thiserror::Error;
 pub enum Form {
     /// The lines of its message, or of its first fault.
     Lines,
-    /// The lines of all that can be shown of it, by these names and forms, and then of its fault.
-    All(Names),
+    /// The lines of all that can be shown of it, by these names and forms, and then of its fault on this interface.
+    All(Names, Interface),
     /// A JSON object on one line, of these members.
     Json(Members),
 }
@@ -50,6 +51,8 @@ pub struct Tally {
     pub datagrams: u64,
     /// Whether one of them had a fault.
     pub faulty: bool,
+    /// How many of them had one and name an interface other than S5/S8; 2^64 - 1 stands for all above.
+    pub elsewhere: u64,
     /// Whether a line was no hexadecimal, or too long.
     pub bad: bool,
 }
@@ -112,6 +115,7 @@ impl Tally {
             lines: 0,
             datagrams: 0,
             faulty: false,
+            elsewhere: 0,
             bad: false,
         }
     }
@@ -124,7 +128,9 @@ fn lines_of(alloc: Global, form: Form, dumped: &Dumped) -> Result<Shown, Memory>
 {
     match form {
         Form::Lines => decode_lines(alloc, dumped.plane, &dumped.octets),
-        Form::All(names) => all_lines(alloc, &names, dumped.plane, &dumped.octets),
+        Form::All(names, interface) => {
+            all_lines(alloc, &names, interface, dumped.plane, &dumped.octets)
+        }
         Form::Json(members) => datagram_json(alloc, members, dumped.plane, &dumped.octets),
     }
 }
@@ -135,7 +141,7 @@ fn put_index(out: &mut Vec<u8>, form: Form, index: u64) -> Result<(), AllocError
     ensures ok { OnOk result (out.new.items ≡ out.old.items ++ index_line form index) }
 {
     match form {
-        Form::Lines | Form::All(_) => {
+        Form::Lines | Form::All(..) => {
             put(out, b"datagram ")?;
             put_number(out, index)?;
             put(out, b"\n")
@@ -213,6 +219,7 @@ fn tell<W: Write, E: Write>(
         Reading::Nothing => Ok(Tally { lines, ..before }),
         Reading::Datagram(dumped) => {
             let shown = shown(alloc, form, before.datagrams, dumped)?;
+            let elsewhere = count_elsewhere(shown.faulty, dumped.plane, &dumped.octets);
             if let Err(failed) = out.write_all(&shown.text) {
                 return Err(unwritten(failed));
             }
@@ -220,6 +227,7 @@ fn tell<W: Write, E: Write>(
                 lines,
                 datagrams: before.datagrams + 1,
                 faulty: before.faulty | shown.faulty,
+                elsewhere: before.elsewhere.saturating_add(elsewhere),
                 ..before
             })
         }

@@ -4,6 +4,7 @@
 
 mod bounded_line;
 mod decoding;
+mod elsewhere;
 mod entry;
 mod flaw;
 mod hint;
@@ -11,6 +12,7 @@ mod row;
 mod text;
 
 pub use decoding::{Asked, DumpFault, Form, Tally, decode_dump, decode_word};
+pub use elsewhere::count_elsewhere;
 pub use flaw::{Flaw, flaw_of};
 pub use hint::{Hint, hint_of};
 pub use row::{begins_dump, row_digits};

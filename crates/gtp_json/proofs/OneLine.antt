@@ -11,12 +11,16 @@ use Rattle.gtp_v2.specs.declared.fault.V2Fault.{V2Fault}
 use Rattle.gtp_v2.specs.Datagram.{IsMessage, IsFault}
 use Rattle.gtp_v2.specs.Headed.{Headed}
 use Rattle.gtp_v2.specs.Message.{Content, Fields, Raw, MessageValue}
-use Rattle.gtp_v2.specs.Pair.{DatagramValue, IsDatagram, IsDatagramFault, alone, both}
+use Rattle.gtp_v2.specs.Pair.{DatagramValue, IsDatagram, IsDatagramBy, IsDatagramFaultBy, alone, both}
 use Rattle.gtp_v2.specs.Viewed.{place_of}
-use Rattle.gtp_v2.proofs.Pairs.{datagram_decided}
+use Rattle.gtp_v2.proofs.Pairs.{datagram_by_decided}
 use Rattle.gtp_v2.proofs.Told.{message_decided}
-use Rattle.gtp_user.specs.Datagram.{IsUserMessage, IsUserFault}
-use Rattle.gtp_user.proofs.Messages.{message_decided as user_decided}
+use Rattle.gtp_user.specs.Message.{MessageValue as UserMessage}
+use Rattle.gtp_user.specs.Datagram.{IsUserMessage, IsUserMessageBy, IsUserFaultBy}
+use Rattle.gtp_user.proofs.Messages.{message_with_decided}
+use Rattle.gtp_interfaces.specs.declared.interface.Interface.{Interface}
+use Rattle.gtp_interfaces.specs.declared.interface.Interface.TheVariants as interfaces
+use Rattle.gtp_interfaces.specs.Interface.{asked_on, understood_on}
 use Rattle.gtp_capture.specs.Packet.{Packet as Captured}
 use Rattle.gtp_lines.specs.All.{head_at, pair_at}
 use Rattle.gtp_lines.proofs.Alike.{one_front}
@@ -26,12 +30,12 @@ use Rattle.gtp_json.specs.declared.datagram.Members.TheVariants.{Plain, All}
 use Rattle.gtp_json.specs.Tree.{object_of, line_of}
 use Rattle.gtp_json.specs.Control.{CarriedMembers, MessageMembers, PairMembers, header_members, head_members, elements_members, second_member, placed_members, fault_member}
 use Rattle.gtp_json.specs.Places.{FaultMembers, user_members_at}
-use Rattle.gtp_json.specs.User.{some_member}
+use Rattle.gtp_json.specs.User.{some_member, user_members}
 use Rattle.gtp_names.specs.declared.names.Names.{Names}
 use Rattle.gtp_lines.specs.Named.{name_in}
-use Rattle.gtp_json.specs.Named.{named_elements}
+use Rattle.gtp_json.specs.Named.{named_elements, named_user_members}
 use Rattle.gtp_json.specs.All.{rest_members, MessageShown, AloneShown, SecondShown, ShownBy}
-use Rattle.gtp_json.specs.Datagram.{user_members_by, plane_member, ControlMembers, BeforeFault, WithFault, MembersBy, has_places, octets_shown, WholeMembers}
+use Rattle.gtp_json.specs.Datagram.{interface_of, UserShown, UserMembers, plane_member, ControlMembers, BeforeFault, WithFault, MembersBy, has_places, octets_shown, WholeMembers}
 use Rattle.gtp_json.specs.Frames.{frame_members, RestMembers}
 use Rattle.gtp_json.specs.Laws.{OneLine, OneFrameLine}
 use Rattle.gtp_json.proofs.FaultPlaces.{same_parts, place_one}
@@ -49,6 +53,14 @@ one_of {X} {E} r Is Fails d = record {
   fault = λ f g a b. err_same X f g (sym (d.fails f a) ∙ d.fails g b);
   either = λ x f a b. apart x f (sym (d.is x a) ∙ d.fails f b);
 }
+
+-- on an interface
+pub control_by : (interface : Interface) (octets : List ℕ) → One (IsDatagramBy (asked_on interface) octets) (IsDatagramFaultBy (asked_on interface) octets)
+control_by interface octets = one_of _ (IsDatagramBy (asked_on interface) octets) (IsDatagramFaultBy (asked_on interface) octets) (datagram_by_decided (asked_on interface) octets)
+
+pub user_by : (interface : Interface) (octets : List ℕ) → One (IsUserMessageBy (understood_on interface) octets) (IsUserFaultBy (understood_on interface) octets)
+user_by interface octets =
+    one_of _ (IsUserMessageBy (understood_on interface) octets) (IsUserFaultBy (understood_on interface) octets) (message_with_decided (understood_on interface) octets)
 
 -- ---- control
 
@@ -82,14 +94,14 @@ spelled_alone octets ms (m, spelled, rest) = (m, inl (m, spelled, refl))
 spelled_both : (octets : List ℕ) (ms : List (List ℕ × Json)) → PairMembers octets ms → (a : MessageValue) × (b : MessageValue) × IsDatagram octets (both a b)
 spelled_both octets ms (front, back, announces, (a, b, (m, sm, am), (n, sn, bn), is)) = (m, n, inr (front, back, announces, (m, sm, (n, sn, refl))))
 
-pub spelled : (members : Members) (octets : List ℕ) (ms : List (List ℕ × Json)) → ControlMembers members octets ms → (d : DatagramValue) × IsDatagram octets d
+pub spelled : (members : Members) (octets : List ℕ) (ms : List (List ℕ × Json)) → ControlMembers members octets ms → (d : DatagramValue) × IsDatagramBy (asked_on (interface_of members)) octets d
 spelled Plain octets ms (inl h) = let s = spelled_alone octets ms h in (alone s.0, s.1)
 spelled Plain octets ms (inr h) = let s = spelled_both octets ms h in (both s.0 s.1, s.2)
-spelled (All names places) octets ms (d, how) = d
+spelled (All names interface places) octets ms (d, how) = d
 
 not_both : (octets : List ℕ) (ms ns : List (List ℕ × Json)) → MessageMembers octets ms → PairMembers octets ns → ⊥
 not_both octets ms ns a p =
-    let one = one_of _ (IsDatagram octets) (IsDatagramFault octets) (datagram_decided octets) in
+    let one = control_by interfaces.S5S8 octets in
     let s = spelled_alone octets ms a in
     let t = spelled_both octets ns p in
     let same : None ≡ Some t.1 = ap (λ (d : DatagramValue). d.second) (one.value (alone s.0) (both t.0 t.1) s.1 t.2) in
@@ -127,12 +139,12 @@ control_one Plain octets ms ns (inl a) (inl b) = message_one octets ms ns a b
 control_one Plain octets ms ns (inl a) (inr b) = absurd (not_both octets ms ns a b)
 control_one Plain octets ms ns (inr a) (inl b) = absurd (not_both octets ns ms b a)
 control_one Plain octets ms ns (inr a) (inr b) = pair_one octets ms ns a b
-control_one (All names places) octets ms ns (d, a) (e, b) = shown_one places names (pair_at octets) (head_at octets) ms ns a b
+control_one (All names interface places) octets ms ns (d, a) (e, b) = shown_one places names (pair_at octets) (head_at octets) ms ns a b
 
 before_one : (members : Members) (plane : Plane) (octets : List ℕ) (ms ns : List (List ℕ × Json)) → BeforeFault members plane octets ms → BeforeFault members plane octets ns → ms ≡ ns
 before_one Plain plane octets ms ns a b = a ∙ sym b
-before_one (All names places) planes.Control octets ms ns a b = shown_one places names (pair_at octets) (head_at octets) ms ns a b
-before_one (All names places) planes.User octets ms ns a b = a ∙ sym b
+before_one (All names interface places) planes.Control octets ms ns a b = shown_one places names (pair_at octets) (head_at octets) ms ns a b
+before_one (All names interface places) planes.User octets ms ns a b = a ∙ sym b
 
 fault_one : (members : Members) (plane : Plane) (octets : List ℕ) (fs gs ms ns : List (List ℕ × Json)) → fs ≡ gs → WithFault members plane octets fs ms → WithFault members plane octets gs ns → ms ≡ ns
 fault_one members plane octets fs gs ms ns same (a, before, is) (b, other, ns_is) =
@@ -145,35 +157,55 @@ same_fault : (places : Bool) (octets : List ℕ) (f : V2Fault) (fs gs : List (Li
 same_fault false octets f fs gs a b = a ∙ sym b
 same_fault true octets f fs gs (p, lies, is) (q, lie, gs_is) = is ∙ (ap (λ (x : Option ℕ). placed_members octets f ++ some_member (codes "at") x) (place_one octets f p q lies lie) ∙ sym gs_is)
 
+-- what is shown of a datagram of the user plane without a fault
+user_shown_one : (names : Names) (octets : List ℕ) (ms ns : List (List ℕ × Json)) → UserShown names octets ms → UserShown names octets ns → ms ≡ ns
+user_shown_one names octets ms ns (inl (m, said, is)) (inl (n, other, ns_is)) =
+    let one = user_by interfaces.S5S8 octets in
+    is ∙ (ap (named_user_members names) (one.value m n said other) ∙ sym ns_is)
+user_shown_one names octets ms ns (inl (m, said, is)) (inr (none, ns_is)) = absurd (none m said)
+user_shown_one names octets ms ns (inr (none, is)) (inl (n, other, ns_is)) = absurd (none n other)
+user_shown_one names octets ms ns (inr (none, is)) (inr (others, ns_is)) = is ∙ sym ns_is
+
+user_one : (members : Members) (octets : List ℕ) (ms ns : List (List ℕ × Json)) → UserMembers members octets ms → UserMembers members octets ns → ms ≡ ns
+user_one Plain octets ms ns (m, said, is) (n, other, ns_is) =
+    let one = user_by interfaces.S5S8 octets in
+    is ∙ (ap user_members (one.value m n said other) ∙ sym ns_is)
+user_one (All names interface places) octets ms ns (m, a) (n, b) = user_shown_one names octets ms ns a b
+
+-- the message that it spells, by who understands what is understood on the interface
+pub user_spelled : (members : Members) (octets : List ℕ) (ms : List (List ℕ × Json)) → UserMembers members octets ms → (m : UserMessage) × IsUserMessageBy (understood_on (interface_of members)) octets m
+user_spelled Plain octets ms (m, said, is) = (m, said)
+user_spelled (All names interface places) octets ms (m, shown) = m
+
 members_one : (members : Members) (plane : Plane) (octets : List ℕ) (ms ns : List (List ℕ × Json)) (x y : Bool) → MembersBy members plane octets ms x
     → MembersBy members plane octets ns y → (ms ≡ ns) × (x ≡ y)
 members_one members planes.Control octets ms ns true true (f, fails, (fs, its, has)) (g, fault, (gs, other, had)) =
-    let one = one_of _ (IsDatagram octets) (IsDatagramFault octets) (datagram_decided octets) in
+    let one = control_by (interface_of members) octets in
     let places = has_places members in
     let same = same_fault places octets g fs gs (subst (λ (x : V2Fault). FaultMembers places octets x fs) (one.fault f g fails fault) its) other in
     (fault_one members planes.Control octets fs gs ms ns same has had, refl)
 members_one members planes.Control octets ms ns true false (f, fails, has) h =
-    let one = one_of _ (IsDatagram octets) (IsDatagramFault octets) (datagram_decided octets) in
+    let one = control_by (interface_of members) octets in
     let s = spelled members octets ns h in
     absurd (one.either s.0 f s.1 fails)
 members_one members planes.Control octets ms ns false true h (f, fails, has) =
-    let one = one_of _ (IsDatagram octets) (IsDatagramFault octets) (datagram_decided octets) in
+    let one = control_by (interface_of members) octets in
     let s = spelled members octets ms h in
     absurd (one.either s.0 f s.1 fails)
 members_one members planes.Control octets ms ns false false a b = (control_one members octets ms ns a b, refl)
 members_one members planes.User octets ms ns true true (f, fails, has) (g, fault, had) =
-    let one = one_of _ (IsUserMessage octets) (IsUserFault octets) (user_decided octets) in
+    let one = user_by (interface_of members) octets in
     let told = user_members_at (has_places members) in
     (fault_one members planes.User octets (told f) (told g) ms ns (ap told (one.fault f g fails fault)) has had, refl)
-members_one members planes.User octets ms ns true false (f, fails, has) (m, said, ns_is) =
-    let one = one_of _ (IsUserMessage octets) (IsUserFault octets) (user_decided octets) in
-    absurd (one.either m f said fails)
-members_one members planes.User octets ms ns false true (m, said, is) (f, fails, has) =
-    let one = one_of _ (IsUserMessage octets) (IsUserFault octets) (user_decided octets) in
-    absurd (one.either m f said fails)
-members_one members planes.User octets ms ns false false (m, said, is) (n, other, ns_is) =
-    let one = one_of _ (IsUserMessage octets) (IsUserFault octets) (user_decided octets) in
-    (is ∙ (ap (user_members_by members) (one.value m n said other) ∙ sym ns_is), refl)
+members_one members planes.User octets ms ns true false (f, fails, has) h =
+    let one = user_by (interface_of members) octets in
+    let s = user_spelled members octets ns h in
+    absurd (one.either s.0 f s.1 fails)
+members_one members planes.User octets ms ns false true h (f, fails, has) =
+    let one = user_by (interface_of members) octets in
+    let s = user_spelled members octets ms h in
+    absurd (one.either s.0 f s.1 fails)
+members_one members planes.User octets ms ns false false a b = (user_one members octets ms ns a b, refl)
 
 whole_one : (members : Members) (plane : Plane) (octets : List ℕ) (ms ns : List (List ℕ × Json)) (x y : Bool) → WholeMembers members plane octets ms x
     → WholeMembers members plane octets ns y → (ms ≡ ns) × (x ≡ y)

@@ -50,7 +50,7 @@ use Rattle.gtp_lines.specs.Named.{name_in, is_named}
 use Rattle.gtp_json.specs.Named.{place_members, placed_head, fields_member, form_fields, row_fields, named_fields, content_members, leaf_members, leaf_json, group_octets, group_head}
 use Rattle.gtp_json.specs.Named.{group_members as named_group}
 use Rattle.gtp_json.specs.Named.{part_members as part_of, part_json, named_element, named_json, named_elements, extension_fields, named_extension, named_extension_json, named_extensions, named_user_members}
-use Rattle.gtp_json.specs.Datagram.{user_members_by, plane_member, ControlMembers, BeforeFault, WithFault, MembersBy, has_places, octets_shown, WholeMembers}
+use Rattle.gtp_json.specs.Datagram.{UserShown, UserMembers, plane_member, ControlMembers, BeforeFault, WithFault, MembersBy, has_places, octets_shown, WholeMembers}
 use Rattle.gtp_v2.specs.Headed.{Headed}
 use Rattle.gtp_lines.specs.Fronts.{front_of, chain_at}
 use Rattle.gtp_lines.specs.All.{UserHead, fault_context, head_at, pair_at, user_head_at}
@@ -497,20 +497,25 @@ control_within Plain octets ms (inr (front, back, announces, (a, b, ha, hb, is))
     subst (Within 24) (sym is)
     (join 24 a (second_member b) (more 6 24 a (omega arith) (message_within front a ha))
     (more 7 24 (second_member b) (omega arith) (one 7 (codes "second") (object_of b) (object_depth 6 b (message_within back b hb)))))
-control_within (All names places) octets ms (is, how) = by_within places names (pair_at octets) (head_at octets) ms how
+control_within (All names interface places) octets ms (is, how) = by_within places names (pair_at octets) (head_at octets) ms how
 
 before_within : (members : Members) (plane : Plane) (octets : List ℕ) (ms : List (List ℕ × Json)) → BeforeFault members plane octets ms → Within 24 ms
 before_within Plain plane octets ms is = subst (Within 24) (sym is) tt
-before_within (All names places) planes.Control octets ms how = by_within places names (pair_at octets) (head_at octets) ms how
-before_within (All names places) planes.User octets ms is = subst (Within 24) (sym is) (more 19 24 (user_shown names (user_head_at octets) (chain_at octets)) (omega arith) (user_shown_within names (user_head_at octets) (chain_at octets)))
+before_within (All names interface places) planes.Control octets ms how = by_within places names (pair_at octets) (head_at octets) ms how
+before_within (All names interface places) planes.User octets ms is = subst (Within 24) (sym is) (more 19 24 (user_shown names (user_head_at octets) (chain_at octets)) (omega arith) (user_shown_within names (user_head_at octets) (chain_at octets)))
 
 with_fault_within : (members : Members) (plane : Plane) (octets : List ℕ) (fault ms : List (List ℕ × Json)) → Within 1 fault → WithFault members plane octets fault ms → Within 24 ms
 with_fault_within members plane octets fault ms low (before, how, is) =
     subst (Within 24) (sym is) (join 24 before _ (before_within members plane octets before how) (more 7 24 (fault_member fault) (omega arith) (fault_member_within fault low)))
 
-user_by_within : (members : Members) (m : UserMessage) → Within 24 (user_members_by members m)
-user_by_within Plain m = more 7 24 (user_members m) (omega arith) (user_message_within m)
-user_by_within (All names places) m = named_user_within names m
+user_message_shallow : (names : Names) (octets : List ℕ) (ms : List (List ℕ × Json)) → UserShown names octets ms → Within 24 ms
+user_message_shallow names octets ms (inl (m, spelled, is)) = subst (Within 24) (sym is) (named_user_within names m)
+user_message_shallow names octets ms (inr (none, is)) =
+    subst (Within 24) (sym is) (more 19 24 (user_shown names (user_head_at octets) (chain_at octets)) (omega arith) (user_shown_within names (user_head_at octets) (chain_at octets)))
+
+user_by_within : (members : Members) (octets : List ℕ) (ms : List (List ℕ × Json)) → UserMembers members octets ms → Within 24 ms
+user_by_within Plain octets ms (m, spelled, is) = subst (Within 24) (sym is) (more 7 24 (user_members m) (omega arith) (user_message_within m))
+user_by_within (All names interface places) octets ms (m, shown) = user_message_shallow names octets ms shown
 
 by_members_within : (members : Members) (plane : Plane) (octets : List ℕ) (ms : List (List ℕ × Json)) (faulty : Bool) → MembersBy members plane octets ms faulty → Within 24 ms
 by_members_within members planes.Control octets ms true (f, first, (fault, its, has)) =
@@ -518,13 +523,13 @@ by_members_within members planes.Control octets ms true (f, first, (fault, its, 
 by_members_within members planes.Control octets ms false has = control_within members octets ms has
 by_members_within members planes.User octets ms true (f, first, has) =
     with_fault_within members planes.User octets (user_members_at (has_places members) f) ms (user_members_at_within (has_places members) f) has
-by_members_within members planes.User octets ms false (m, spelled, is) = subst (Within 24) (sym is) (user_by_within members m)
+by_members_within members planes.User octets ms false has = user_by_within members octets ms has
 
 octets_shown_within : (members : Members) (octets : List ℕ) → Within 24 (octets_shown members octets)
 unfolding member
 octets_shown_within Plain octets = tt
-octets_shown_within (All names false) octets = tt
-octets_shown_within (All names true) octets = (omega arith, tt)
+octets_shown_within (All names interface false) octets = tt
+octets_shown_within (All names interface true) octets = (omega arith, tt)
 
 pub whole_within : (members : Members) (plane : Plane) (octets : List ℕ) (ms : List (List ℕ × Json)) (faulty : Bool) → WholeMembers members plane octets ms faulty → Within 24 ms
 whole_within members plane octets ms faulty (said, has, is) =

@@ -4,10 +4,14 @@ use Rattle.json.specs.Json.{Json, string}
 use Rattle.gtp_values.specs.declared.plane.Plane.{Plane}
 use Rattle.gtp_values.specs.declared.plane.Plane.TheVariants.{Control, User}
 use Rattle.gtp_v2.specs.declared.fault.V2Fault.{V2Fault}
-use Rattle.gtp_v2.specs.Pair.{DatagramValue, IsDatagram, IsDatagramFault}
+use Rattle.gtp_v2.specs.Pair.{DatagramValue, IsDatagramBy, IsDatagramFaultBy}
 use Rattle.gtp_user.specs.declared.fault.UserFault.{UserFault}
 use Rattle.gtp_user.specs.Message.{MessageValue as UserMessage}
-use Rattle.gtp_user.specs.Datagram.{IsUserMessage, IsUserFault}
+use Rattle.gtp_user.specs.Datagram.{IsUserMessage, IsUserMessageBy, IsUserFaultBy}
+use Rattle.gtp_interfaces.specs.declared.interface.Interface.{Interface}
+use Rattle.gtp_interfaces.specs.declared.interface.Interface.TheVariants as interfaces
+use Rattle.gtp_interfaces.specs.Interface.{asked_on, understood_on}
+use Rattle.gtp_names.specs.declared.names.Names.{Names}
 use Rattle.gtp_lines.specs.All.{user_head_at}
 use Rattle.gtp_lines.specs.Fronts.{chain_at}
 use Rattle.gtp_json.specs.declared.datagram.Members.{Members}
@@ -27,16 +31,21 @@ plane_word User = codes "user"
 abbrev pub plane_member : Plane → List (List ℕ × Json)
 plane_member plane = member (codes "plane") (string (plane_word plane))
 
+-- the interface on which a datagram is judged
+abbrev pub interface_of : Members → Interface
+interface_of Plain = interfaces.S5S8
+interface_of (All names interface places) = interface
+
 -- the members of a control datagram without a fault: those of its message or of its two; or all that can be shown of it, where it spells these
 abbrev pub ControlMembers : Members → List ℕ → List (List ℕ × Json) → Type 0
 ControlMembers Plain octets ms = MessageMembers octets ms ⊎ PairMembers octets ms
-ControlMembers (All names places) octets ms = ((d : DatagramValue) × IsDatagram octets d) × ControlShown places names octets ms
+ControlMembers (All names interface places) octets ms = ((d : DatagramValue) × IsDatagramBy (asked_on interface) octets d) × ControlShown places names octets ms
 
 -- what stands before a fault: nothing; or all that can be shown
 abbrev pub BeforeFault : Members → Plane → List ℕ → List (List ℕ × Json) → Type 0
 BeforeFault Plain plane octets ms = ms ≡ []
-BeforeFault (All names places) Control octets ms = ControlShown places names octets ms
-BeforeFault (All names places) User octets ms = ms ≡ user_shown names (user_head_at octets) (chain_at octets)
+BeforeFault (All names interface places) Control octets ms = ControlShown places names octets ms
+BeforeFault (All names interface places) User octets ms = ms ≡ user_shown names (user_head_at octets) (chain_at octets)
 
 -- and then the fault, of these members
 abbrev pub WithFault : Members → Plane → List ℕ → List (List ℕ × Json) → List (List ℕ × Json) → Type 0
@@ -45,22 +54,28 @@ WithFault members plane octets fault ms = (before : List (List ℕ × Json)) × 
 -- whether places are asked for
 abbrev pub has_places : Members → Bool
 has_places Plain = false
-has_places (All names places) = places
+has_places (All names interface places) = places
 
--- the members of a message of the user plane
-abbrev pub user_members_by : Members → UserMessage → List (List ℕ × Json)
-user_members_by Plain m = user_members m
-user_members_by (All names places) m = named_user_members names m
+-- what is shown of a user datagram without a fault: its message; or, where some of its extension headers are not understood on S5/S8, all that can be shown
+abbrev pub UserShown : Names → List ℕ → List (List ℕ × Json) → Type 0
+UserShown names octets ms =
+    ((m : UserMessage) × IsUserMessage octets m × (ms ≡ named_user_members names m))
+    ⊎ (((m : UserMessage) → IsUserMessage octets m → ⊥) × (ms ≡ user_shown names (user_head_at octets) (chain_at octets)))
 
--- those of the message that octets of the user plane spell
+-- its members: those of its message; or what is shown of it
 abbrev pub UserMembers : Members → List ℕ → List (List ℕ × Json) → Type 0
-UserMembers members octets ms = (m : UserMessage) × IsUserMessage octets m × (ms ≡ user_members_by members m)
+UserMembers Plain octets ms = (m : UserMessage) × IsUserMessage octets m × (ms ≡ user_members m)
+UserMembers (All names interface places) octets ms = ((m : UserMessage) × IsUserMessageBy (understood_on interface) octets m) × UserShown names octets ms
 
--- The members of a datagram after its plane, and whether it has a fault, which is its first. A user datagram without one has those of its message, in each form.
+-- the members of a control datagram with this fault
+abbrev pub FaultShown : Members → List ℕ → V2Fault → List (List ℕ × Json) → Type 0
+FaultShown members octets f ms = (fault : List (List ℕ × Json)) × FaultMembers (has_places members) octets f fault × WithFault members Control octets fault ms
+
+-- The members of a datagram after its plane, and whether it has a fault on the interface, which is its first.
 abbrev pub MembersBy : Members → Plane → List ℕ → List (List ℕ × Json) → Bool → Type 0
-MembersBy members Control octets ms true = (f : V2Fault) × IsDatagramFault octets f × ((fault : List (List ℕ × Json)) × FaultMembers (has_places members) octets f fault × WithFault members Control octets fault ms)
+MembersBy members Control octets ms true = (f : V2Fault) × IsDatagramFaultBy (asked_on (interface_of members)) octets f × FaultShown members octets f ms
 MembersBy members Control octets ms false = ControlMembers members octets ms
-MembersBy members User octets ms true = (f : UserFault) × IsUserFault octets f × WithFault members User octets (user_members_at (has_places members) f) ms
+MembersBy members User octets ms true = (f : UserFault) × IsUserFaultBy (understood_on (interface_of members)) octets f × WithFault members User octets (user_members_at (has_places members) f) ms
 MembersBy members User octets ms false = UserMembers members octets ms
 
 -- its octets, where places are asked for

@@ -4,18 +4,19 @@ ghost use Rattle.std.specs.Prelude.{◌≡◌, ◌++◌, OnOk, IfOk};
 ghost use Rattle.gtp_values.specs.declared.plane.Plane.TheVariants as planes;
 ghost use Rattle.gtp_json.specs.reading.Tokens.{written};
 ghost use Rattle.gtp_json.specs.Adds.{Adds};
-ghost use Rattle.gtp_user.specs.Message.{message_value};
-ghost use Rattle.gtp_json.specs.Datagram.{user_members_by, plane_word, plane_member, BeforeFault, MembersBy, has_places, octets_shown, WholeMembers, IsDatagramJson, DatagramJson};
+ghost use Rattle.gtp_json.specs.Places.{user_members_at};
+ghost use Rattle.gtp_json.specs.Datagram.{plane_word, plane_member, BeforeFault, WithFault, FaultShown, UserShown, MembersBy, has_places, octets_shown, WholeMembers, IsDatagramJson, DatagramJson};
 ghost use Rattle.gtp_json.specs.Reads.{ReadsBack};
 
 use crate::all::{put_shown, put_user_shown};
 use crate::named::put_named_message;
 use crate::object::Output;
 use crate::{control, user};
+use gtp_interfaces::{Interface, judge_control, judge_user};
 use gtp_lines::Shown;
 use gtp_names::Names;
-use gtp_user::UserMessage;
-use gtp_v2::view;
+use gtp_user::UserFault;
+use gtp_v2::{V2Fault, view};
 use gtp_values::{Memory, Plane};
 use std::alloc::{AllocError, Global};
 
@@ -24,11 +25,15 @@ use std::alloc::{AllocError, Global};
 pub enum Members {
     /// Those of its message or of its two; or, in their place, its first fault.
     Plain,
-    /// All that can be shown of it, by these names and forms, and then its first fault, if it has one; of a user datagram without a
-    /// fault, those of its message.
+    /// All that can be shown of it, by these names and forms, and then its first fault on this interface, if it has one; of a user
+    /// datagram without a fault on S5/S8, those of its message.
     /// With places: the octets of the datagram before these, of each element of the control plane where it stands, and of the
     /// fault where it lies.
-    All { names: Names, places: bool },
+    All {
+        names: Names,
+        interface: Interface,
+        places: bool,
+    },
 }
 
 impl Members {
@@ -68,60 +73,144 @@ fn put_before(
 {
     match (members, plane) {
         (Members::Plain, _) => Ok(()),
-        (Members::All { names, places }, Plane::Control) => put_shown(out, places, &names, octets),
+        (Members::All { names, places, .. }, Plane::Control) => {
+            put_shown(out, places, &names, octets)
+        }
         (Members::All { names, .. }, Plane::User) => put_user_shown(out, &names, octets),
     }
 }
 
-/// Writes the members of a control datagram after its plane, and tells whether it has a fault.
-fn put_control(out: &mut Output, members: Members, octets: &[u8]) -> Result<bool, AllocError>
+/// Writes the members of a control datagram at fault.
+fn put_control_fault(
+    out: &mut Output,
+    members: Members,
+    octets: &[u8],
+    fault: &V2Fault,
+) -> Result<(), AllocError>
+    ensures ok { OnOk result (Adds (FaultShown members octets.now fault.now) out.old out.new) }
+{
+    put_before(out, members, Plane::Control, octets)?;
+    control::put_fault(out, members.has_places(), octets, fault)?;
+    Ok(())
+}
+
+/// Writes the members of a control datagram, and tells whether it has a fault.
+fn put_plain_control(out: &mut Output, octets: &[u8]) -> Result<bool, AllocError>
     ensures { IfOk result (λ faulty.
-        Adds (λ ms. MembersBy members planes.Control octets.now ms faulty) out.old out.new) }
+        Adds (λ ms. MembersBy Members.Plain planes.Control octets.now ms faulty) out.old out.new) }
 {
     match view(octets) {
         Ok(seen) => {
-            match members {
-                Members::Plain => control::put_datagram(out, &seen)?,
-                Members::All { names, places } => put_shown(out, places, &names, octets)?,
-            }
+            control::put_datagram(out, &seen)?;
             Ok(false)
         }
         Err(fault) => {
-            put_before(out, members, Plane::Control, octets)?;
-            control::put_fault(out, members.has_places(), octets, &fault)?;
+            put_control_fault(out, Members::Plain, octets, &fault)?;
             Ok(true)
         }
     }
 }
 
-/// Writes the members of a message of the user plane.
-fn put_user_message(
+/// Writes all that can be shown of one, and tells whether it has a fault on an interface.
+fn put_all_control(
     out: &mut Output,
-    members: Members,
-    message: &UserMessage,
-) -> Result<(), AllocError>
-    ensures ok { OnOk result
-        (out.new ≡ out.old ++ written (user_members_by members (message_value message.now))) }
-{
-    match members {
-        Members::Plain => user::put_message(out, message),
-        Members::All { names, .. } => put_named_message(out, &names, message),
-    }
-}
-
-/// The same of a datagram of the user plane.
-fn put_user(out: &mut Output, members: Members, octets: &[u8]) -> Result<bool, AllocError>
+    names: Names,
+    interface: Interface,
+    places: bool,
+    octets: &[u8],
+) -> Result<bool, AllocError>
     ensures { IfOk result (λ faulty.
-        Adds (λ ms. MembersBy members planes.User octets.now ms faulty) out.old out.new) }
+        Adds (λ ms. MembersBy (Members.All names interface places) planes.Control octets.now ms faulty) out.old out.new) }
 {
-    match gtp_user::decode(octets) {
-        Ok(message) => {
-            put_user_message(out, members, &message)?;
+    match judge_control(interface, octets) {
+        Ok(()) => {
+            put_shown(out, places, &names, octets)?;
             Ok(false)
         }
         Err(fault) => {
-            put_before(out, members, Plane::User, octets)?;
-            user::put_fault(out, members.has_places(), &fault)?;
+            let members = Members::All {
+                names,
+                interface,
+                places,
+            };
+            put_control_fault(out, members, octets, &fault)?;
+            Ok(true)
+        }
+    }
+}
+
+/// Writes the members of a user datagram at fault.
+fn put_user_fault(
+    out: &mut Output,
+    members: Members,
+    octets: &[u8],
+    fault: &UserFault,
+) -> Result<(), AllocError>
+    ensures ok { OnOk result (Adds (WithFault members planes.User octets.now
+        (user_members_at (has_places members) fault.now)) out.old out.new) }
+{
+    put_before(out, members, Plane::User, octets)?;
+    user::put_fault(out, members.has_places(), fault)?;
+    Ok(())
+}
+
+/// Writes the members of a user datagram, and tells whether it has a fault.
+fn put_plain_user(out: &mut Output, octets: &[u8]) -> Result<bool, AllocError>
+    ensures { IfOk result (λ faulty.
+        Adds (λ ms. MembersBy Members.Plain planes.User octets.now ms faulty) out.old out.new) }
+{
+    match gtp_user::decode(octets) {
+        Ok(message) => {
+            user::put_message(out, &message)?;
+            Ok(false)
+        }
+        Err(fault) => {
+            put_user_fault(out, Members::Plain, octets, &fault)?;
+            Ok(true)
+        }
+    }
+}
+
+/// Writes the members of the message of a user datagram; or all that can be shown of one whose extension headers are not all understood
+/// on S5/S8.
+fn put_user_message(out: &mut Output, names: &Names, octets: &[u8]) -> Result<(), AllocError>
+    ensures ok { OnOk result (Adds (UserShown names.now octets.now) out.old out.new) }
+{
+    match gtp_user::decode(octets) {
+        Ok(message) => {
+            put_named_message(out, names, &message)?;
+            Ok(())
+        }
+        Err(_) => {
+            put_user_shown(out, names, octets)?;
+            Ok(())
+        }
+    }
+}
+
+/// Writes all that can be shown of a user datagram, and tells whether it has a fault on an interface.
+fn put_all_user(
+    out: &mut Output,
+    names: Names,
+    interface: Interface,
+    places: bool,
+    octets: &[u8],
+) -> Result<bool, AllocError>
+    ensures { IfOk result (λ faulty.
+        Adds (λ ms. MembersBy (Members.All names interface places) planes.User octets.now ms faulty) out.old out.new) }
+{
+    match judge_user(interface, octets) {
+        Ok(()) => {
+            put_user_message(out, &names, octets)?;
+            Ok(false)
+        }
+        Err(fault) => {
+            let members = Members::All {
+                names,
+                interface,
+                places,
+            };
+            put_user_fault(out, members, octets, &fault)?;
             Ok(true)
         }
     }
@@ -138,6 +227,35 @@ fn put_octets_shown(out: &mut Output, members: Members, octets: &[u8]) -> Result
     out.hex_member("datagram", octets)
 }
 
+/// Writes the members of a datagram, and tells whether it has a fault.
+fn put_plain(out: &mut Output, plane: Plane, octets: &[u8]) -> Result<bool, AllocError>
+    ensures { IfOk result (λ faulty.
+        Adds (λ ms. MembersBy Members.Plain plane octets.now ms faulty) out.old out.new) }
+{
+    match plane {
+        Plane::Control => put_plain_control(out, octets),
+        Plane::User => put_plain_user(out, octets),
+    }
+}
+
+/// Writes all that can be shown of one, and tells whether it has a fault on an interface.
+fn put_all(
+    out: &mut Output,
+    names: Names,
+    interface: Interface,
+    places: bool,
+    plane: Plane,
+    octets: &[u8],
+) -> Result<bool, AllocError>
+    ensures { IfOk result (λ faulty.
+        Adds (λ ms. MembersBy (Members.All names interface places) plane octets.now ms faulty) out.old out.new) }
+{
+    match plane {
+        Plane::Control => put_all_control(out, names, interface, places, octets),
+        Plane::User => put_all_user(out, names, interface, places, octets),
+    }
+}
+
 /// Writes what stands after them, and tells whether the datagram has a fault.
 fn put_said(
     out: &mut Output,
@@ -148,9 +266,13 @@ fn put_said(
     ensures { IfOk result (λ faulty.
         Adds (λ ms. MembersBy members plane octets.now ms faulty) out.old out.new) }
 {
-    match plane {
-        Plane::Control => put_control(out, members, octets),
-        Plane::User => put_user(out, members, octets),
+    match members {
+        Members::Plain => put_plain(out, plane, octets),
+        Members::All {
+            names,
+            interface,
+            places,
+        } => put_all(out, names, interface, places, plane, octets),
     }
 }
 

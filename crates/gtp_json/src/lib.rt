@@ -19,5 +19,6 @@ pub use object::Output;
 
 /// What the signatures here name of the crates below.
 pub use gtp_capture::Captured;
+pub use gtp_interfaces::Interface;
 pub use gtp_lines::Shown;
 pub use gtp_values::{Memory, Plane};

@@ -1,5 +1,5 @@
 -- All that can be shown of a datagram, and then its fault.
-use Rattle.std.specs.Prelude.{◌≡◌, ℕ, ◌+◌, ◌-◌, ◌*◌, ◌/◌, ◌%◌, ◌==◌, ◌&&◌, nat_le, nat_lt, if◌then◌else◌, Bool, true, false, List, [], ◌∷◌, ◌++◌, length, take, drop, Option, Some, None, option_map, codes, decimal}
+use Rattle.std.specs.Prelude.{◌≡◌, ℕ, ◌+◌, ◌-◌, ◌*◌, ◌/◌, ◌%◌, ◌==◌, ◌&&◌, nat_le, nat_lt, if◌then◌else◌, Bool, true, false, List, [], ◌∷◌, ◌++◌, length, take, drop, Option, Some, None, option_map, codes, decimal, ◌⊎◌}
 use Rattle.std.specs.Int.{w32, from_be_bytes}
 use Rattle.std.specs.List.{flat_map}
 use Rattle.byteorder.specs.Endian.{big_number}
@@ -14,10 +14,12 @@ use Rattle.gtp_ie.specs.Octets.{BeginsWith, Spans}
 use Rattle.gtp_v2.specs.declared.fault.V2Fault.{V2Fault}
 use Rattle.gtp_v2.specs.declared.fault.V2Fault.TheVariants as faults
 use Rattle.gtp_v2.specs.Headed.{Headed}
-use Rattle.gtp_v2.specs.Pair.{DatagramValue, IsDatagram, IsDatagramFault}
+use Rattle.gtp_v2.specs.Pair.{DatagramValue, IsDatagramBy, IsDatagramFaultBy}
 use Rattle.gtp_user.specs.declared.fault.UserFault.{UserFault}
 use Rattle.gtp_user.specs.Message.{MessageValue as UserMessage}
-use Rattle.gtp_user.specs.Datagram.{IsUserMessage, IsUserFault}
+use Rattle.gtp_user.specs.Datagram.{IsUserMessage, IsUserMessageBy, IsUserFaultBy}
+use Rattle.gtp_interfaces.specs.declared.interface.Interface.{Interface}
+use Rattle.gtp_interfaces.specs.Interface.{asked_on, understood_on}
 use Rattle.gtp_lines.specs.Text.{octets_text}
 use Rattle.gtp_names.specs.declared.names.Names.{Names}
 use Rattle.gtp_lines.specs.Control.{first_line, fault_line}
@@ -160,10 +162,10 @@ ShownBy names (Some pair) whole text = PairShown names pair.0 pair.1 text
 abbrev pub ControlShown : Names → List ℕ → List ℕ → Type 0
 ControlShown names octets text = ShownBy names (pair_at octets) (head_at octets) text
 
--- and then the line of its first fault, if it has one, and of the bearer context in which that lies
-abbrev pub AllControl : Names → List ℕ → List ℕ → Bool → Type 0
-AllControl names octets text true = (f : V2Fault) × IsDatagramFault octets f × ((shown : List ℕ) × ControlShown names octets shown × (text ≡ shown ++ (fault_line f ++ context_line (fault_context octets f))))
-AllControl names octets text false = ((d : DatagramValue) × IsDatagram octets d) × ControlShown names octets text
+-- and then the line of its first fault on an interface, if it has one, and of the bearer context in which that lies
+abbrev pub AllControl : Names → Interface → List ℕ → List ℕ → Bool → Type 0
+AllControl names interface octets text true = (f : V2Fault) × IsDatagramFaultBy (asked_on interface) octets f × ((shown : List ℕ) × ControlShown names octets shown × (text ≡ shown ++ (fault_line f ++ context_line (fault_context octets f))))
+AllControl names interface octets text false = ((d : DatagramValue) × IsDatagramBy (asked_on interface) octets d) × ControlShown names octets text
 
 -- ---- the user plane
 
@@ -195,11 +197,18 @@ abbrev pub user_shown : Names → Option UserHead → Option (ℕ × List ℕ) �
 user_shown names None chain = []
 user_shown names (Some h) chain = kind_title h.kind ++ (codes " teid " ++ (teid_text h.teid ++ (some_shown (codes " seq ") h.seq ++ (codes "\n" ++ behind_head names h chain))))
 
-abbrev pub AllUser : Names → List ℕ → List ℕ → Bool → Type 0
-AllUser names octets text true = (f : UserFault) × IsUserFault octets f × (text ≡ user_shown names (user_head_at octets) (chain_at octets) ++ user_fault_line f)
-AllUser names octets text false = (m : UserMessage) × IsUserMessage octets m × (text ≡ named_user_lines names m)
+-- what is shown of a datagram without a fault: the lines of its message; or, where some of its extension headers are not understood on S5/S8, all that can be shown
+abbrev pub UserShown : Names → List ℕ → List ℕ → Type 0
+UserShown names octets text =
+    ((m : UserMessage) × IsUserMessage octets m × (text ≡ named_user_lines names m))
+    ⊎ (((m : UserMessage) → IsUserMessage octets m → ⊥) × (text ≡ user_shown names (user_head_at octets) (chain_at octets)))
 
--- All that can be shown of a datagram; and then the line of its first fault, if it has one.
-abbrev pub AllLines : Names → Plane → List ℕ → List ℕ → Bool → Type 0
-AllLines names planes.Control octets text faulty = AllControl names octets text faulty
-AllLines names planes.User octets text faulty = AllUser names octets text faulty
+-- and of any, by whether it has a fault on an interface
+abbrev pub AllUser : Names → Interface → List ℕ → List ℕ → Bool → Type 0
+AllUser names interface octets text true = (f : UserFault) × IsUserFaultBy (understood_on interface) octets f × (text ≡ user_shown names (user_head_at octets) (chain_at octets) ++ user_fault_line f)
+AllUser names interface octets text false = ((m : UserMessage) × IsUserMessageBy (understood_on interface) octets m) × UserShown names octets text
+
+-- All that can be shown of a datagram; and then the line of its first fault on an interface, if it has one.
+abbrev pub AllLines : Names → Interface → Plane → List ℕ → List ℕ → Bool → Type 0
+AllLines names interface planes.Control octets text faulty = AllControl names interface octets text faulty
+AllLines names interface planes.User octets text faulty = AllUser names interface octets text faulty

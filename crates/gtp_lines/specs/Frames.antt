@@ -71,13 +71,13 @@ brief_start d =
 -- what each form shows first
 abbrev pub start_of : Form → Seen → List ℕ
 start_of forms.Lines d = frame_line d
-start_of (forms.All names) d = frame_line d
+start_of (forms.All names interface) d = frame_line d
 start_of (forms.Brief names) d = brief_start d
 
 -- and then of the datagram, and whether it has a fault
 abbrev pub LinesIn : Form → Plane → List ℕ → List ℕ → Bool → Type 0
 LinesIn forms.Lines plane octets text faulty = LinesOf plane octets text faulty
-LinesIn (forms.All names) plane octets text faulty = AllLines names plane octets text faulty
+LinesIn (forms.All names interface) plane octets text faulty = AllLines names interface plane octets text faulty
 LinesIn (forms.Brief names) plane octets text faulty = BriefLine names plane octets text faulty
 
 -- Frame, time and ends; and then, where the capture has all its octets, the datagram's lines in this form, which may be those of a fault.

@@ -5,6 +5,8 @@ use Rattle.gtp_ie.specs.Element.{Element}
 use Rattle.gtp_v2.specs.Message.{MessageValue, raw_of}
 use Rattle.gtp_v2.specs.Pair.{DatagramValue, IsDatagram, OfEach}
 use Rattle.gtp_names.specs.declared.names.Names.{Names}
+use Rattle.gtp_interfaces.specs.declared.interface.Interface.{Interface}
+use Rattle.gtp_interfaces.specs.declared.interface.Interface.TheVariants as interfaces
 use Rattle.gtp_lines.specs.Named.{Named}
 use Rattle.gtp_lines.specs.Messages.{WholeLines}
 use Rattle.gtp_lines.specs.All.{IsFront, AllControl, AllLines}
@@ -19,14 +21,14 @@ OneFront =
 abbrev pub IsTyped : MessageValue → Type 0
 IsTyped m = raw_of m.content ≡ None
 
--- the lines of a datagram without a fault, whose messages are such, by names and forms are all that can be shown of it
+-- the lines of a datagram without a fault on S5/S8, whose messages are such, by names and forms are all that can be shown of it
 abbrev pub WholeShown : Type 0
 WholeShown =
     (names : Names) (octets : List ℕ) (text : List ℕ)
-    → ((d : DatagramValue) → IsDatagram octets d → OfEach IsTyped d.first d.second) → WholeLines (Named names) octets text → AllControl names octets text false
+    → ((d : DatagramValue) → IsDatagram octets d → OfEach IsTyped d.first d.second) → WholeLines (Named names) octets text → AllControl names interfaces.S5S8 octets text false
 
--- what is shown of a datagram is one text, and whether it has a fault is determined
+-- what is shown of a datagram is one text, and whether it has a fault on an interface is determined
 abbrev pub OneText : Type 0
 OneText =
-    (names : Names) (plane : Plane) (octets : List ℕ) (text : List ℕ) (faulty : Bool) (other : List ℕ) (wrong : Bool)
-    → AllLines names plane octets text faulty → AllLines names plane octets other wrong → (text ≡ other) × (faulty ≡ wrong)
+    (names : Names) (interface : Interface) (plane : Plane) (octets : List ℕ) (text : List ℕ) (faulty : Bool) (other : List ℕ) (wrong : Bool)
+    → AllLines names interface plane octets text faulty → AllLines names interface plane octets other wrong → (text ≡ other) × (faulty ≡ wrong)

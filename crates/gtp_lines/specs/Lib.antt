@@ -11,6 +11,7 @@ pub mod Lines
 pub mod All
 pub mod Brief
 pub mod Filter
+pub mod Elsewhere
 pub mod Frames
 pub mod Laws
 pub mod reading

@@ -4,7 +4,7 @@ ghost use Rattle.std.specs.Prelude.{◌≡◌, ◌++◌, OnOk, IfOk, option_map}
 ghost use Rattle.std.specs.List.{flat_map};
 ghost use Rattle.gtp_lines.specs.Text.{Adds};
 ghost use Rattle.gtp_lines.specs.Named.{named_lines};
-ghost use Rattle.gtp_lines.specs.All.{rest_line, numbered_line, context_line, MessageShown, AloneShown, SecondShown, PairShown, ControlShown, AllControl, behind_head, user_shown, AllUser, AllLines, head_at as spec_head_at};
+ghost use Rattle.gtp_lines.specs.All.{rest_line, numbered_line, context_line, MessageShown, AloneShown, SecondShown, PairShown, ControlShown, AllControl, behind_head, user_shown, UserShown, AllUser, AllLines, head_at as spec_head_at};
 ghost use Rattle.gtp_lines.specs.reading.Header.{headed_of, user_head_of, chain_of};
 
 use crate::complete_elements::front_elements;
@@ -19,8 +19,8 @@ use crate::user::{put_kind_title, put_some, put_user_fault_line};
 use crate::user_header::{UserHeader, user_head_at};
 use crate::values::put_field;
 use gtp_ie::Elements;
+use gtp_interfaces::{Interface, judge_control, judge_user};
 use gtp_names::Names;
-use gtp_v2::view;
 use gtp_values::{Memory, Plane};
 use std::alloc::{AllocError, Global};
 
@@ -155,13 +155,18 @@ fn put_context(out: &mut Vec<u8>, number: Option<u64>) -> Result<(), AllocError>
 }
 
 /// All lines of a control datagram; `Memory` where an allocation was refused.
-fn all_control(alloc: Global, names: &Names, octets: &[u8]) -> Result<Shown, Memory>
-    ensures { IfOk result (λ shown. AllControl names.now octets.now shown.text.items shown.faulty) }
+fn all_control(
+    alloc: Global,
+    names: &Names,
+    interface: Interface,
+    octets: &[u8],
+) -> Result<Shown, Memory>
+    ensures { IfOk result (λ shown. AllControl names.now interface octets.now shown.text.items shown.faulty) }
 {
     let mut text = Vec::new(alloc);
     put_shown(&mut text, names, octets)?;
-    match view(octets) {
-        Ok(_) => Ok(Shown {
+    match judge_control(interface, octets) {
+        Ok(()) => Ok(Shown {
             text,
             faulty: false,
         }),
@@ -190,7 +195,7 @@ fn put_behind(
     put_front(out, names, header.kind, &front)
 }
 
-/// Appends what can be shown of a datagram of the user plane that is at fault.
+/// Appends what can be shown of a datagram of the user plane by its octets.
 #[tactic(auto, using(crate::proofs::Appends::appending))]
 fn put_user_shown(
     out: &mut Vec<u8>,
@@ -212,14 +217,36 @@ fn put_user_shown(
     put_behind(out, names, header, chain)
 }
 
-/// All lines of a datagram of the user plane; `Memory` where an allocation was refused.
-fn all_user(alloc: Global, names: &Names, octets: &[u8]) -> Result<Shown, Memory>
-    ensures { IfOk result (λ shown. AllUser names.now octets.now shown.text.items shown.faulty) }
+/// Appends the lines of a message of the user plane; or all that can be shown of one whose extension headers are not all understood
+/// on S5/S8.
+fn put_user(out: &mut Vec<u8>, names: &Names, octets: &[u8]) -> Result<(), AllocError>
+    ensures ok { OnOk result (Adds (UserShown names.now octets.now) out.old.items out.new.items) }
 {
-    let mut text = Vec::new(alloc);
     match gtp_user::decode(octets) {
         Ok(message) => {
-            put_named_user_message(&mut text, names, &message)?;
+            put_named_user_message(out, names, &message)?;
+            Ok(())
+        }
+        Err(_) => {
+            put_user_shown(out, names, &user_head_at(octets), chain_at(octets))?;
+            Ok(())
+        }
+    }
+}
+
+/// All lines of a datagram of the user plane; `Memory` where an allocation was refused.
+fn all_user(
+    alloc: Global,
+    names: &Names,
+    interface: Interface,
+    octets: &[u8],
+) -> Result<Shown, Memory>
+    ensures { IfOk result (λ shown. AllUser names.now interface octets.now shown.text.items shown.faulty) }
+{
+    let mut text = Vec::new(alloc);
+    match judge_user(interface, octets) {
+        Ok(()) => {
+            put_user(&mut text, names, octets)?;
             Ok(Shown {
                 text,
                 faulty: false,
@@ -234,18 +261,24 @@ fn all_user(alloc: Global, names: &Names, octets: &[u8]) -> Result<Shown, Memory
 }
 
 /// All lines of a datagram. Control plane: of each message its header, with its name, and its elements, as many as are whole, and the
-/// octets that are left; then the line of the datagram's first fault, if it has one, and of the bearer context in which that lies. User
+/// octets that are left; then the line of the datagram's first fault on the interface, if it has one, and of the bearer context in which that lies. User
 /// plane: the lines of its message, with the names of its extension headers; or what the header of a datagram at fault says, the octets
 /// after that, and the line of its fault.
 ///
 /// An element that `decode_lines` shows by name has its line, with the word of what it says. Any other has the name of its type and
 /// the fields of its form, in these tables; without a form its octets, and without a name its octets alone. Grouped elements are shown
 /// by theirs. `Memory` where an allocation was refused.
-pub fn all_lines(alloc: Global, names: &Names, plane: Plane, octets: &[u8]) -> Result<Shown, Memory>
-    ensures { IfOk result (λ shown. AllLines names.now plane octets.now shown.text.items shown.faulty) }
+pub fn all_lines(
+    alloc: Global,
+    names: &Names,
+    interface: Interface,
+    plane: Plane,
+    octets: &[u8],
+) -> Result<Shown, Memory>
+    ensures { IfOk result (λ shown. AllLines names.now interface plane octets.now shown.text.items shown.faulty) }
 {
     match plane {
-        Plane::Control => all_control(alloc, names, octets),
-        Plane::User => all_user(alloc, names, octets),
+        Plane::Control => all_control(alloc, names, interface, octets),
+        Plane::User => all_user(alloc, names, interface, octets),
     }
 }

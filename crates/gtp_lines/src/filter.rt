@@ -115,7 +115,7 @@ fn some_hold_teid(teid: Teid, elements: &Elements) -> bool
 }
 
 /// The elements behind a header; none where they are not whole.
-fn elements_behind<'a>(header: &Header<'a>) -> Elements<'a>
+pub fn elements_behind<'a>(header: &Header<'a>) -> Elements<'a>
     ensures { result ≡ spec_elements_behind (headed_of header.now) }
 {
     match elements_at(header.rest, header.place()) {

@@ -11,6 +11,7 @@ use crate::brief::put_brief;
 use crate::lines::{Shown, decode_lines};
 use crate::text::{put, put_ip, put_number};
 use gtp_capture::{Captured, Packet, Time, Unit};
+use gtp_interfaces::Interface;
 use gtp_names::Names;
 use gtp_values::{Endpoint, Memory, Plane};
 use itoa::Buffer;
@@ -21,8 +22,8 @@ use std::alloc::{AllocError, Global};
 pub enum Form {
     /// The line of its frame, and then the lines of `decode_lines`.
     Lines,
-    /// The line of its frame, and then those of `all_lines`.
-    All(Names),
+    /// The line of its frame, and then those of `all_lines`, by these names and on this interface.
+    All(Names, Interface),
     /// One line: frame, time, ends, and the name, TEID and sequence number of its message, or its first fault.
     Brief(Names),
 }
@@ -202,7 +203,7 @@ fn put_start(out: &mut Vec<u8>, form: Form, captured: &Captured) -> Result<(), A
         (out.new.items ≡ out.old.items ++ start_of form (seen_of captured.now)) }
 {
     match form {
-        Form::Lines | Form::All(_) => put_frame(out, captured),
+        Form::Lines | Form::All(..) => put_frame(out, captured),
         Form::Brief(_) => put_brief_start(out, captured),
     }
 }
@@ -224,8 +225,8 @@ fn put_lines(
             put(out, &shown.text)?;
             Ok(shown.faulty)
         }
-        Form::All(names) => {
-            let shown = all_lines(alloc, &names, plane, octets)?;
+        Form::All(names, interface) => {
+            let shown = all_lines(alloc, &names, interface, plane, octets)?;
             put(out, &shown.text)?;
             Ok(shown.faulty)
         }

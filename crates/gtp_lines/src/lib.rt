@@ -7,6 +7,7 @@ mod brief;
 mod complete_elements;
 mod contexts;
 mod control;
+mod elsewhere;
 mod extension_front;
 mod filter;
 mod frames;
@@ -23,6 +24,7 @@ mod words;
 
 pub use all::all_lines;
 pub use control::message_name;
+pub use elsewhere::is_elsewhere;
 pub use filter::{Filter, Kinds};
 pub use frames::{Form, frame_lines, is_whole, second_in, width_of};
 pub use lines::{Shown, decode_lines};
@@ -46,5 +48,6 @@ pub use words::form_word;
 /// What the signatures here name of the crates below.
 pub use gtp_capture::{Captured, Packet};
 pub use gtp_ie::{ElementView, Imsi, Teid};
+pub use gtp_interfaces::Interface;
 pub use gtp_names::Names;
 pub use gtp_values::{Ip, Memory, Plane};

@@ -1,6 +1,6 @@
 //! Pieces of text, appended to a buffer.
 
-ghost use Rattle.std.specs.Prelude.{◌≡◌, ◌<◌, ◌++◌, All, OnOk, IfSome, decimal};
+ghost use Rattle.std.specs.Prelude.{◌≡◌, ◌<◌, ◌++◌, All, OnOk, IfSome};
 ghost use Rattle.hex.specs.Hex.{encode_lower};
 ghost use Rattle.std.specs.Net.Text.{ipv4_text};
 ghost use Rattle.gtp_values.specs.Address.{ip_text};
@@ -9,27 +9,10 @@ ghost use Rattle.gtp_values.specs.Teid.{teid_text};
 ghost use Rattle.gtp_lines.specs.Text.{octets_text};
 
 use crate::values::put_field;
+pub use gtp_forms::text::{put, put_number};
 use gtp_values::{Ip, Teid};
-use itoa::Buffer;
 use std::alloc::AllocError;
 use std::fmt::Display;
-
-/// Appends a text.
-pub fn put(out: &mut Vec<u8>, text: &[u8]) -> Result<(), AllocError>
-    ensures ok { OnOk result (out.new.items ≡ out.old.items ++ text.now) }
-{
-    out.extend_from_slice(text)?;
-    Ok(())
-}
-
-/// Appends a number in decimal.
-pub fn put_number(out: &mut Vec<u8>, number: u64) -> Result<(), AllocError>
-    ensures ok { OnOk result (out.new.items ≡ out.old.items ++ decimal number) }
-{
-    let mut buffer = Buffer::new();
-    out.extend_from_slice(buffer.format(number).as_bytes())?;
-    Ok(())
-}
 
 /// Appends octets in lower case hexadecimal.
 pub fn put_hex(out: &mut Vec<u8>, octets: &[u8]) -> Result<(), AllocError>

@@ -1,3 +1,4 @@
 pub mod Roles
 pub mod Going
 pub mod Faultless
+pub mod Peers

@@ -5,6 +5,9 @@ pub mod Asked
 pub mod Requests
 pub mod Replies
 pub mod Told
-pub mod Answers
 pub mod Served
+pub mod Answers
 pub mod Stops
+pub mod NodeHeads
+pub mod NodeAnswers
+pub mod NodeAsked

@@ -5,7 +5,7 @@ use Rattle.gtp_scenario.specs.Reasons.{IsJsonFlaw, IsGatewayFlaw}
 use Rattle.gtp_scenario.specs.Scenarios.{json_of}
 use Rattle.gtp_serve.specs.declared.reason.HeadReason.{HeadReason}
 use Rattle.gtp_serve.specs.declared.reason.HeadReason.TheVariants as reasons
-use Rattle.gtp_serve.specs.Answers.{most_octets}
+use Rattle.gtp_serve.specs.Served.{most_octets}
 use Rattle.gtp_serve.specs.Heads.{head_in}
 
 -- the line says a gateway

@@ -23,7 +23,7 @@ use Rattle.gtp_json.specs.Tree.{member, object_of, array_of}
 use Rattle.gtp_json.specs.Values.{octets_members, hexadecimal}
 use Rattle.gtp_run_json.specs.Contexts.{sessions_of, bearers_of}
 use Rattle.gtp_run_json.specs.Happened.{came_members, second_members, learned_members, gave_up_members, forgot_members}
-use Rattle.gtp_run_json.specs.Members.{where_some, word_member, teid_member}
+use Rattle.gtp_run_json.specs.Members.{where_some, number_member, word_member, teid_member}
 
 -- what a request came to: the outcome, that of a second message where a datagram had two, the restart counter of the peer that was learned, what is to be sent,
 -- the packet that was accepted, on the bearer with this TEID, the requests that were given up, and those whose answers were forgotten
@@ -100,14 +100,19 @@ told_members reply = came_members reply.outcome ++ (second_members reply.second 
 abbrev pub left_members : Reply → List (List ℕ × Json)
 left_members reply = sent_members reply.sent ++ (accepted_members reply.accepted ++ (gave_up_members reply.gave_up ++ forgot_members reply.forgot))
 
-abbrev pub reply_json : Reply → Json
-reply_json reply = object_of (told_members reply ++ left_members reply)
+-- the place of the peer, where a node answers
+abbrev pub peer_members : Option ℕ → List (List ℕ × Json)
+peer_members peer = where_some (λ place. number_member (codes "peer") place) peer
+
+abbrev pub reply_json : Option ℕ → Reply → Json
+reply_json peer reply = object_of (peer_members peer ++ (told_members reply ++ left_members reply))
 
 -- an answer that has a word for its outcome, and nothing else
-abbrev pub word_json : List ℕ → Json
-word_json word = object_of (word_member (codes "outcome") word)
+abbrev pub word_json : Option ℕ → List ℕ → Json
+word_json peer word = object_of (peer_members peer ++ word_member (codes "outcome") word)
 
 -- the contexts of a gateway: its sessions and its bearers, in order of its own TEIDs
-abbrev pub contexts_json : Role → Node → Json
-contexts_json role node =
-    object_of (word_member (codes "outcome") (codes "listed") ++ (member (codes "sessions") (array_of (sessions_of role node)) ++ member (codes "bearers") (array_of (bearers_of role node))))
+abbrev pub contexts_json : Option ℕ → Role → Node → Json
+contexts_json peer role node =
+    object_of (peer_members peer ++ (word_member (codes "outcome") (codes "listed")
+    ++ (member (codes "sessions") (array_of (sessions_of role node)) ++ member (codes "bearers") (array_of (bearers_of role node)))))

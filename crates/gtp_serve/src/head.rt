@@ -47,7 +47,7 @@ pub(crate) fn ip_at(value: &Tree<'_, '_>, key: &str) -> Option<Ip>
 
 /// The address on each plane.
 #[tactic(auto, unfolding(crate::specs::Heads::addresses_at))]
-fn addresses_at(value: &Tree<'_, '_>) -> Option<Addresses>
+pub(crate) fn addresses_at(value: &Tree<'_, '_>) -> Option<Addresses>
     ensures { result ≡ addresses_at (view value.now) }
 {
     Some(Addresses {
@@ -79,7 +79,12 @@ fn no_pool() -> Pool
 }
 
 /// The settings of a gateway without access points.
-fn without_access_points(alloc: Global, own: Addresses, peer: Addresses, timers: Timers) -> Config
+pub(crate) fn without_access_points(
+    alloc: Global,
+    own: Addresses,
+    peer: Addresses,
+    timers: Timers,
+) -> Config
     requires { AreTimers timers }
     ensures { result ≡ settings_of own peer [] no_pools timers }
 {
@@ -90,7 +95,7 @@ fn without_access_points(alloc: Global, own: Addresses, peer: Addresses, timers:
 }
 
 /// The settings of a gateway with access points.
-fn with_access_points(
+pub(crate) fn with_access_points(
     own: Addresses,
     peer: Addresses,
     access_points: Vec<Apn>,

@@ -6,8 +6,8 @@ ghost use Rattle.gtp_scenario.specs.Trees.{view};
 ghost use Rattle.gtp_serve.specs.Heads.{head_in, head_of};
 ghost use Rattle.gtp_serve.specs.Reasons.{IsWhy, SaysGateway};
 
-use crate::answering::MOST_OCTETS;
 use crate::head::head_in;
+use crate::serving::MOST_OCTETS;
 use gtp_scenario::{Fault, GatewayFlaw, JsonFlaw, Memory, Tree, gateway_flaw, json_flaw, json_of};
 use json::Scratch;
 use std::alloc::Global;

@@ -1,6 +1,6 @@
 //! What a request came to, as a line of JSON.
 
-ghost use Rattle.std.specs.Prelude.{◌≡◌, ◌++◌, true, OnOk, IfOk, map, option_map, codes};
+ghost use Rattle.std.specs.Prelude.{◌≡◌, ◌++◌, true, None, OnOk, IfOk, map, option_map, codes};
 ghost use Rattle.std.specs.List.{flat_map};
 ghost use Rattle.json.specs.Tree.{json_tokens};
 ghost use Rattle.gtp_gateway.specs.messages.Sent.{datagram_by};
@@ -10,11 +10,15 @@ ghost use Rattle.gtp_world.specs.Commands.{command_of, is_command};
 ghost use Rattle.gtp_json.specs.Tree.{line_of, member, array_of};
 ghost use Rattle.gtp_json.specs.reading.Tokens.{written};
 ghost use Rattle.gtp_run_json.specs.Contexts.{sessions_of, bearers_of};
-ghost use Rattle.gtp_serve.specs.Replies.{sent_json, sent_members, packet_members, accepted_json, accepted_members, told_members, left_members, reply_json, word_json, contexts_json, packet_of, plain, of_begun, of_refusal, of_step, of_tick};
+ghost use Rattle.gtp_serve.specs.Replies.{sent_json, sent_members, packet_members, accepted_json, accepted_members, told_members, left_members, peer_members, reply_json, word_json, contexts_json, packet_of, plain, of_begun, of_refusal, of_step, of_tick};
 ghost use Rattle.gtp_serve.specs.Told.{reply_by};
+ghost use Rattle.gtp_machine.specs.World.{Came_to};
+ghost use Rattle.gtp_machine.specs.declared.outcome.Outcome.TheVariants.{Dropped};
+ghost use Rattle.gtp_machine.specs.declared.outcome.DropReason.TheVariants.{NotPeer};
 
 use gtp_gateway::{
-    Accepted, Begun, Counter, Gateway, Outcome, Refusal, Request, Role, Sent, Seq, Step, Ticked,
+    Accepted, Begun, Counter, DropReason, Gateway, Outcome, Refusal, Request, Role, Sent, Seq,
+    Step, Ticked,
 };
 use gtp_json::{Output, put_end};
 use gtp_outcomes::plane_word;
@@ -149,13 +153,25 @@ fn put_left(out: &mut Output, told: &Told<'_>) -> Result<(), AllocError>
     put_forgot(out, told.forgotten)
 }
 
-/// The line of what a request came to.
+/// Writes the member of the place of a peer, where a node answers.
+#[tactic(auto, using(gtp_json::proofs::Tokens::appending))]
+fn put_peer(out: &mut Output, peer: Option<usize>) -> Result<(), AllocError>
+    ensures ok { OnOk result (out.new ≡ out.old ++ written (peer_members peer)) }
+{
+    match peer {
+        None => Ok(()),
+        Some(place) => out.number_member("peer", place as u64),
+    }
+}
+
+/// The line of what a request came to, of the peer at this place.
 #[tactic(auto, using(gtp_json::proofs::Tokens::nesting))]
-fn told_line(alloc: Global, told: &Told<'_>) -> Result<Vec<u8>, AllocError>
-    ensures { IfOk result (λ text. text.items ≡ line_of (reply_json (reply_by told.now))) }
+fn told_line(alloc: Global, peer: Option<usize>, told: &Told<'_>) -> Result<Vec<u8>, AllocError>
+    ensures { IfOk result (λ text. text.items ≡ line_of (reply_json peer (reply_by told.now))) }
 {
     let mut out = Output::new(alloc);
     out.begin_object()?;
+    put_peer(&mut out, peer)?;
     put_outcome(&mut out, told)?;
     put_left(&mut out, told)?;
     out.end_object()?;
@@ -163,14 +179,20 @@ fn told_line(alloc: Global, told: &Told<'_>) -> Result<Vec<u8>, AllocError>
 }
 
 /// The line of a command that was carried out.
-pub fn begun_line(alloc: Global, event: &Event, begun: &Begun) -> Result<Vec<u8>, AllocError>
+pub fn begun_line(
+    alloc: Global,
+    peer: Option<usize>,
+    event: &Event,
+    begun: &Begun,
+) -> Result<Vec<u8>, AllocError>
     requires { is_command event.now ≡ true }
     ensures { IfOk result (λ text.
-        text.items ≡ line_of (reply_json (of_begun (command_of event.now) begun.now))) }
+        text.items ≡ line_of (reply_json peer (of_begun (command_of event.now) begun.now))) }
 {
     let outcome = EventOutcome::CameTo(outcome_of(event, begun.teid));
     told_line(
         alloc,
+        peer,
         &Told {
             sent: slice::from_ref(&begun.out),
             ..Told::of(outcome)
@@ -179,21 +201,23 @@ pub fn begun_line(alloc: Global, event: &Event, begun: &Begun) -> Result<Vec<u8>
 }
 
 /// The line of a command that was refused.
-pub fn refused_line(alloc: Global, why: Refusal) -> Result<Vec<u8>, AllocError>
-    ensures { IfOk result (λ text. text.items ≡ line_of (reply_json (of_refusal why))) }
+pub fn refused_line(alloc: Global, peer: Option<usize>, why: Refusal) -> Result<Vec<u8>, AllocError>
+    ensures { IfOk result (λ text. text.items ≡ line_of (reply_json peer (of_refusal why))) }
 {
     told_line(
         alloc,
+        peer,
         &Told::of(EventOutcome::CameTo(Outcome::Refused(why))),
     )
 }
 
 /// The line of a datagram that was received.
-pub fn step_line(alloc: Global, step: &Step<'_>) -> Result<Vec<u8>, AllocError>
-    ensures { IfOk result (λ text. text.items ≡ line_of (reply_json (of_step step.now))) }
+pub fn step_line(alloc: Global, peer: Option<usize>, step: &Step<'_>) -> Result<Vec<u8>, AllocError>
+    ensures { IfOk result (λ text. text.items ≡ line_of (reply_json peer (of_step step.now))) }
 {
     told_line(
         alloc,
+        peer,
         &Told {
             second: step.report.second,
             learned: step.report.restart,
@@ -204,12 +228,26 @@ pub fn step_line(alloc: Global, step: &Step<'_>) -> Result<Vec<u8>, AllocError>
     )
 }
 
+/// The line of a datagram that comes from no peer of a node: that of a gateway for one that is not its peer's.
+pub fn not_peer_line(alloc: Global) -> Result<Vec<u8>, AllocError>
+    ensures { IfOk result (λ text.
+        text.items ≡ line_of (reply_json None (plain (Came_to (Dropped NotPeer))))) }
+{
+    let outcome = Outcome::Dropped(DropReason::NotPeer);
+    told_line(alloc, None, &Told::of(EventOutcome::CameTo(outcome)))
+}
+
 /// The line of a tick that passed.
-pub fn ticked_line(alloc: Global, ticked: &Ticked) -> Result<Vec<u8>, AllocError>
-    ensures { IfOk result (λ text. text.items ≡ line_of (reply_json (of_tick ticked.now))) }
+pub fn ticked_line(
+    alloc: Global,
+    peer: Option<usize>,
+    ticked: &Ticked,
+) -> Result<Vec<u8>, AllocError>
+    ensures { IfOk result (λ text. text.items ≡ line_of (reply_json peer (of_tick ticked.now))) }
 {
     told_line(
         alloc,
+        peer,
         &Told {
             sent: ticked.resent.as_slice(),
             gave_up: ticked.gave_up.as_slice(),
@@ -221,11 +259,12 @@ pub fn ticked_line(alloc: Global, ticked: &Ticked) -> Result<Vec<u8>, AllocError
 
 /// The line of an outcome that is a word, and nothing else.
 #[tactic(auto, using(gtp_json::proofs::Tokens::nesting))]
-pub fn word_line(alloc: Global, word: &str) -> Result<Vec<u8>, AllocError>
-    ensures { IfOk result (λ text. text.items ≡ line_of (word_json word.now)) }
+pub fn word_line(alloc: Global, peer: Option<usize>, word: &str) -> Result<Vec<u8>, AllocError>
+    ensures { IfOk result (λ text. text.items ≡ line_of (word_json peer word.now)) }
 {
     let mut out = Output::new(alloc);
     out.begin_object()?;
+    put_peer(&mut out, peer)?;
     out.string_member("outcome", word)?;
     out.end_object()?;
     out.into_line()
@@ -257,11 +296,17 @@ fn put_bearers(out: &mut Output, role: Role, gateway: &Gateway) -> Result<(), Al
 
 /// The line of the contexts of a gateway.
 #[tactic(auto, using(gtp_json::proofs::Tokens::nesting))]
-pub fn contexts_line(alloc: Global, role: Role, gateway: &Gateway) -> Result<Vec<u8>, AllocError>
-    ensures { IfOk result (λ text. text.items ≡ line_of (contexts_json role gateway.now.node)) }
+pub fn contexts_line(
+    alloc: Global,
+    peer: Option<usize>,
+    role: Role,
+    gateway: &Gateway,
+) -> Result<Vec<u8>, AllocError>
+    ensures { IfOk result (λ text. text.items ≡ line_of (contexts_json peer role gateway.now.node)) }
 {
     let mut out = Output::new(alloc);
     out.begin_object()?;
+    put_peer(&mut out, peer)?;
     out.string_member("outcome", "listed")?;
     put_sessions(&mut out, role, gateway)?;
     put_bearers(&mut out, role, gateway)?;

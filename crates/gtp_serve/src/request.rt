@@ -85,7 +85,7 @@ fn octets_at(alloc: Global, value: &Tree<'_, '_>) -> Result<Vec<u8>, Fault>
 }
 
 #[tactic(auto, unfolding(crate::specs::Requests::receive_of))]
-fn receive_of(alloc: Global, value: &Tree<'_, '_>) -> Result<Request, Fault>
+pub(crate) fn receive_of(alloc: Global, value: &Tree<'_, '_>) -> Result<Request, Fault>
     ensures read { Gives request_by result (receive_of (view value.now)) }
     ensures asked { IfOk result IsAsked }
 {
@@ -171,7 +171,7 @@ fn request_named(alloc: Global, word: &str, value: &Tree<'_, '_>) -> Result<Requ
 }
 
 #[tactic(auto, unfolding(crate::specs::Requests::request_of))]
-fn request_of(alloc: Global, value: &Tree<'_, '_>) -> Result<Request, Fault>
+pub(crate) fn request_of(alloc: Global, value: &Tree<'_, '_>) -> Result<Request, Fault>
     ensures read { Gives request_by result (request_of (view value.now)) }
     ensures asked { IfOk result IsAsked }
 {

@@ -6,17 +6,18 @@ ghost use Rattle.std.specs.Io.KnownBytes.{Appends, IsAtEnd};
 ghost use Rattle.gtp_counted.specs.Counts.{inner_of, failures_of};
 ghost use Rattle.gtp_counted.specs.Streams.{WritesFront};
 ghost use Rattle.gtp_serve.specs.Stops.{TellsReads, TellsWrites};
-ghost use Rattle.gtp_serve.specs.Served.{AreAnswered, AreFirstAnswered, AreAnsweredInPart, IsAnswered, IsAnsweredInPart, Known, IsStarted, IsServed, IsFirstServed, IsServedInPart, HasNoHead};
+ghost use Rattle.gtp_serve.specs.Served.{Answers, IsLineOf, HasAnswer, AreAnswered, AreFirstAnswered, AreAnsweredInPart, IsAnswered, IsAnsweredInPart, Known, IsStarted, IsServed, IsFirstServed, IsServedInPart, HasNoHead};
 
-use crate::answering::{MOST_OCTETS, answer};
-use crate::head::head_in;
 use crate::reply::word_line;
+use crate::server::Server;
 use gtp_counted::{Counted, Failed, UnreadLine};
-use gtp_gateway::{Gateway, Role};
 use gtp_scenario::Fault;
-use std::alloc::Global;
+use std::alloc::{AllocError, Global};
 use std::io::{BufRead, ErrorKind, Write};
 use thiserror::Error;
+
+/// The most octets of a line, with its line feed.
+pub const MOST_OCTETS: usize = 1_048_576;
 
 /// What is held of a line: an octet more than it may have.
 const MOST_HELD: usize = MOST_OCTETS + 1;
@@ -98,27 +99,35 @@ fn next_line<R: BufRead>(reader: &mut Counted<R>, line: &mut Vec<u8>) -> Result<
     }
 }
 
+/// Answers a line: one that is too long is not read.
+fn answer<S: Server>(alloc: Global, server: &mut S, line: &[u8]) -> Result<Vec<u8>, AllocError>
+    ensures answered { IfOk result (λ text. IsLineOf (Answers S.Does line.now) server.old server.new text.items) }
+    ensures done { HasAnswer (Answers S.Does line.now) server.old server.new }
+{
+    if line.len() > MOST_OCTETS {
+        return word_line(alloc, None, "too long");
+    }
+    server.answer(alloc, line)
+}
+
 /// Answers a line, of which so much is held.
-fn answer_line<W: Write>(
+fn answer_line<S: Server, W: Write>(
     alloc: Global,
-    role: Role,
-    gateway: &mut Gateway,
+    server: &mut S,
     line: &[u8],
     writer: &mut Counted<W>,
 ) -> Result<(), ServeFault>
-    requires role { role ≡ gateway.old.role }
     requires writes { failures_of writer.old < 2 ^ 64 - 1 }
-    ensures answered { OnOk result (IsAnswered line.now gateway.old gateway.new
+    ensures answered { OnOk result (IsAnswered S.Does line.now server.old server.new
         (W.contents (inner_of writer.old)) (W.contents (inner_of writer.new))) }
-    ensures front { IsAnsweredInPart line.now gateway.old gateway.new
+    ensures front { IsAnsweredInPart S.Does line.now server.old server.new
         (W.contents (inner_of writer.old)) (W.contents (inner_of writer.new)) }
-    ensures role { gateway.new.role ≡ gateway.old.role }
     ensures memory { result ≡ Err ServeFault.Memory → writer.new ≡ writer.old }
     ensures writes { TellsWrites result writer.old writer.new }
     ensures kind { IfErr result (λ fault. (fault ≡ ServeFault.Memory) ⊎ (fault ≡ ServeFault.Write)
         ⊎ (fault ≡ ServeFault.Closed)) }
 {
-    let Ok(answer) = answer(alloc, role, gateway, line) else {
+    let Ok(answer) = answer(alloc, server, line) else {
         return Err(ServeFault::Memory);
     };
     write_line(writer, &answer)
@@ -126,24 +135,22 @@ fn answer_line<W: Write>(
 
 /// Answers each line that is left.
 #[tactic(auto, using(gtp_counted::proofs::Lines::lasts_long, gtp_counted::proofs::Lines::lasts_within))]
-fn answer_lines<R: BufRead, W: Write>(
+fn answer_lines<S: Server, R: BufRead, W: Write>(
     alloc: Global,
-    role: Role,
-    gateway: &mut Gateway,
+    server: &mut S,
     reader: &mut Counted<R>,
     writer: &mut Counted<W>,
 ) -> Result<(), ServeFault>
-    requires role { role ≡ gateway.old.role }
     requires reads { failures_of reader.old < 2 ^ 64 - 1 }
     requires writes { failures_of writer.old < 2 ^ 64 - 1 }
     ensures all { OnOk result (IfSome (R.remaining (inner_of reader.old)) (λ octets.
-        AreAnswered octets [] gateway.old gateway.new
+        AreAnswered S.Does octets [] server.old server.new
         (W.contents (inner_of writer.old)) (W.contents (inner_of writer.new)))) }
     ensures first { IfErr result (λ fault. fault ≢ ServeFault.Write → fault ≢ ServeFault.Closed →
-        IfSome (R.remaining (inner_of reader.old)) (λ octets. AreFirstAnswered octets gateway.old
+        IfSome (R.remaining (inner_of reader.old)) (λ octets. AreFirstAnswered S.Does octets server.old
         (W.contents (inner_of writer.old)) (W.contents (inner_of writer.new)))) }
     ensures front { OnErr result (IfSome (R.remaining (inner_of reader.old)) (λ octets.
-        AreAnsweredInPart octets gateway.old
+        AreAnsweredInPart S.Does octets server.old
         (W.contents (inner_of writer.old)) (W.contents (inner_of writer.new)))) }
     ensures long { result ≡ Err ServeFault.TooLong →
         IfSome (R.remaining (inner_of reader.old)) (λ octets. 2 ^ 64 - 1 ≤ length octets) }
@@ -159,25 +166,24 @@ fn answer_lines<R: BufRead, W: Write>(
         if line.is_empty() {
             return Ok(());
         }
-        if let Err(fault) = answer_line(alloc, role, gateway, &line, writer) {
+        if let Err(fault) = answer_line(alloc, server, &line, writer) {
             return Err(fault);
         }
     }
     Err(ServeFault::TooLong)
 }
 
-/// Reads the first line, and starts the gateway that it says.
-fn start<R: BufRead>(
+/// Reads the first line, and starts what it says.
+fn start<S: Server, R: BufRead>(
     alloc: Global,
     reader: &mut Counted<R>,
     head_line: &mut Vec<u8>,
-) -> Result<(Role, Gateway), ServeFault>
+) -> Result<S, ServeFault>
     requires { failures_of reader.old < 2 ^ 64 - 1 }
-    ensures started { IfOk result (λ r. Known (λ octets left. IsStarted octets left r.0 r.1)
+    ensures started { IfOk result (λ server. Known (λ octets left. IsStarted S.Starts octets left server)
         (R.remaining (inner_of reader.old)) (R.remaining (inner_of reader.new))) }
-    ensures role { IfOk result (λ r. r.0 ≡ r.1.role) }
     ensures bad { result ≡ Err ServeFault.BadHead →
-        IfSome (R.remaining (inner_of reader.old)) HasNoHead }
+        IfSome (R.remaining (inner_of reader.old)) (HasNoHead S.SaysNone) }
     ensures held { result ≡ Err ServeFault.BadHead →
         IfSome (R.remaining (inner_of reader.old)) (λ octets.
         head_line.new.items ≡ take 1048577 (take_through 10 octets)) }
@@ -192,32 +198,27 @@ fn start<R: BufRead>(
     if head_line.len() > MOST_OCTETS {
         return Err(ServeFault::BadHead);
     }
-    let head = match head_in(alloc, head_line) {
-        Ok(head) => head,
-        Err(Fault::Wrong) => return Err(ServeFault::BadHead),
-        Err(Fault::Memory) => return Err(ServeFault::Memory),
-    };
-    match Gateway::start(alloc, head.role, &head.config, head.counter) {
-        Ok(gateway) => Ok((head.role, gateway)),
-        Err(_) => Err(ServeFault::Memory),
+    match S::start(alloc, head_line) {
+        Ok(server) => Ok(server),
+        Err(Fault::Wrong) => Err(ServeFault::BadHead),
+        Err(Fault::Memory) => Err(ServeFault::Memory),
     }
 }
 
-/// A gateway behind lines: starts the one that the first line says (`head_in`), and answers each other line (`request_in`) with
+/// Something behind lines: starts what the first line says, and answers each other line with
 /// one line of JSON, which is handed on at once. The first line is answered with `{"outcome":"started"}`. A line ends with a line
 /// feed, or with the text, and has at most 1,048,576 octets with that; no more than one octet more is held of one.
 ///
 /// An answer is an object. Of a line that asks nothing it has the `outcome` `bad line` or `too long`, and where an allocation was
 /// refused `no memory`; nothing has changed then. `contexts` is answered with `sessions` and `bearers`, and all else with the
-/// outcome of the gateway, with what is `sent`, the packet that was `accepted`, the sequence numbers of the requests that it
+/// outcome of a gateway, with what is `sent`, the packet that was `accepted`, the sequence numbers of the requests that it
 /// `gave_up`, and the octets of those of which it `forgot` the answers.
 ///
-/// `BadHead` if the first line says no gateway: nothing was written, and `head_line` is that line, or its first 1,048,577 octets, of
-/// which `head_reason` says what is wrong. `Read` if a read failed, `Write` if a write did, `Closed` if
+/// `BadHead` if the first line starts nothing: nothing was written, and `head_line` is that line, or its first 1,048,577 octets. `Read` if a read failed, `Write` if a write did, `Closed` if
 /// the reader of the output closed it, `Memory` if an allocation was refused for the first line, for holding a line or for an
 /// answer, `TooLong` if there are 2^64 - 1 octets or more. What was written is the answers to the first lines, after `Write` and
 /// `Closed` a beginning of them.
-pub fn serve<R: BufRead, W: Write>(
+pub fn serve<S: Server + Drop, R: BufRead, W: Write>(
     alloc: Global,
     reader: &mut Counted<R>,
     writer: &mut Counted<W>,
@@ -226,31 +227,31 @@ pub fn serve<R: BufRead, W: Write>(
     requires reads { failures_of reader.old < 2 ^ 64 - 1 }
     requires writes { failures_of writer.old < 2 ^ 64 - 1 }
     ensures served { OnOk result (IfSome (R.remaining (inner_of reader.old)) (λ octets.
-        IsServed octets (W.contents (inner_of writer.old)) (W.contents (inner_of writer.new)))) }
+        IsServed S.Starts S.Does octets (W.contents (inner_of writer.old)) (W.contents (inner_of writer.new)))) }
     ensures bad { result ≡ Err ServeFault.BadHead → (writer.new ≡ writer.old)
-        × IfSome (R.remaining (inner_of reader.old)) HasNoHead }
+        × IfSome (R.remaining (inner_of reader.old)) (HasNoHead S.SaysNone) }
     ensures held { result ≡ Err ServeFault.BadHead →
         IfSome (R.remaining (inner_of reader.old)) (λ octets.
         head_line.new.items ≡ take 1048577 (take_through 10 octets)) }
     ensures first { IfErr result (λ fault. fault ≢ ServeFault.Write → fault ≢ ServeFault.Closed →
-        IfSome (R.remaining (inner_of reader.old)) (λ octets. IsFirstServed octets
+        IfSome (R.remaining (inner_of reader.old)) (λ octets. IsFirstServed S.Starts S.Does octets
         (W.contents (inner_of writer.old)) (W.contents (inner_of writer.new)))) }
     ensures front { OnErr result (IfSome (R.remaining (inner_of reader.old)) (λ octets.
-        IsServedInPart octets (W.contents (inner_of writer.old)) (W.contents (inner_of writer.new)))) }
+        IsServedInPart S.Starts S.Does octets (W.contents (inner_of writer.old)) (W.contents (inner_of writer.new)))) }
     ensures long { result ≡ Err ServeFault.TooLong →
         IfSome (R.remaining (inner_of reader.old)) (λ octets. 2 ^ 64 - 1 ≤ length octets) }
     ensures reads { TellsReads result reader.old reader.new }
     ensures writes { TellsWrites result writer.old writer.new }
 {
-    let (role, mut gateway) = match start(alloc, reader, head_line) {
+    let mut server: S = match start(alloc, reader, head_line) {
         Ok(started) => started,
         Err(fault) => return Err(fault),
     };
-    let Ok(started) = word_line(alloc, "started") else {
+    let Ok(started) = word_line(alloc, None, "started") else {
         return Err(ServeFault::Memory);
     };
     if let Err(fault) = write_line(writer, &started) {
         return Err(fault);
     }
-    answer_lines(alloc, role, &mut gateway, reader, writer)
+    answer_lines(alloc, &mut server, reader, writer)
 }

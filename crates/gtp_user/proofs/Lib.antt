@@ -11,3 +11,4 @@ pub mod Prefixes
 pub mod Same
 pub mod Packets
 pub mod Viewed
+pub mod Judged

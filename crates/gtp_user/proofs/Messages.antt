@@ -1,5 +1,5 @@
 -- Reading a datagram decides which message it spells.
-use Rattle.std.proofs.Common.{◌≡◌, ◌≢◌, ℕ, Bool, true, false, cond, List, length, Option, Some, None, Result, Ok, Err, ◌⊎◌, inl, inr, refl, sym, ap, subst, ◌∙◌, arith}
+use Rattle.std.proofs.Common.{◌≡◌, ◌≢◌, ℕ, Bool, true, false, cond, List, [], length, Option, Some, None, Result, Ok, Err, ◌⊎◌, inl, inr, refl, sym, ap, subst, ◌∙◌, arith}
 use Rattle.std.specs.Prelude.{◌==◌}
 use Rattle.std.proofs.lemmas.Bool.Decides.{nat_tests}
 use Rattle.std.proofs.lemmas.Option.{same_Some}
@@ -8,8 +8,8 @@ use Rattle.gtp_user.specs.declared.fault.UserFault.{UserFault}
 use Rattle.gtp_user.specs.declared.fault.UserFault.TheVariants as faults
 use Rattle.gtp_values.specs.Steps.{◌>>=◌}
 use Rattle.gtp_values.specs.Decides.{Decides, First_or_later}
-use Rattle.gtp_user.specs.Chain.{Extension, IsChain, ChainFails}
-use Rattle.gtp_user.specs.reading.Walk.{Chained, chain_at}
+use Rattle.gtp_user.specs.Chain.{Extension, IsChainBy, ChainFailsBy}
+use Rattle.gtp_user.specs.reading.Walk.{Chained, chain_by}
 use Rattle.gtp_user.specs.Headed.{Headed}
 use Rattle.gtp_user.specs.reading.Headed.{header_at}
 use Rattle.gtp_user.specs.Header.{IsHeaded, HeaderFails}
@@ -17,11 +17,11 @@ use Rattle.gtp_user.specs.Element.{Element, AreElements, IsCut, has_recovery, fi
 use Rattle.gtp_user.specs.reading.Elements.{Found, found_in, elements_at}
 use Rattle.gtp_user.specs.reading.Gathered.{found_at}
 use Rattle.gtp_user.specs.Message.{Content, EchoRequest, EchoResponse, ErrorIndication, Notification, EndMarker, Packet, Other, MessageValue, numbered}
-use Rattle.gtp_user.specs.reading.Message.{needed, echo_response, error_indication, notification, body_at, message_of, message_at}
-use Rattle.gtp_user.specs.Datagram.{Carries, Lacks, CarriesNone, IsUserMessage, FailsAfterHeader, IsUserFault}
+use Rattle.gtp_user.specs.reading.Message.{needed, echo_response, error_indication, notification, body_at, message_of, message_at, message_with}
+use Rattle.gtp_user.specs.Datagram.{Carries, Lacks, CarriesNone, IsUserMessageBy, FailsAfterHeaderBy, IsUserFaultBy, IsUserMessage, IsUserFault}
 use Rattle.gtp_values.proofs.Decided.{decide_bind, decide_map, decide_ok, decide_as, known_ok, known_err}
 use Rattle.gtp_user.proofs.Headers.{header_decided}
-use Rattle.gtp_user.proofs.Chains.{IsChained, chained, chain_decided}
+use Rattle.gtp_user.proofs.Chains.{IsChainedBy, chained, chain_by_decided}
 use Rattle.gtp_user.proofs.Spanned.{elements_decided}
 use Rattle.gtp_values.proofs.Outcomes.{none_some}
 
@@ -286,49 +286,61 @@ abbrev pub message_by : Option ℕ → Option ℕ → List Extension → Content
 message_by seq npdu ext content = record { seq = seq; npdu = npdu; ext = ext; content = content }
 
 -- what is read after a header
-abbrev IsAfterHeader : Headed → MessageValue → Type 0
-IsAfterHeader h m = (c : Chained) × IsChained h.first h.rest c × ((content : Content) × Carries h.kind h.teid c.rest content × (m ≡ message_of h c content))
+abbrev IsAfterHeader : List ℕ → Headed → MessageValue → Type 0
+IsAfterHeader understood h m =
+    (c : Chained) × IsChainedBy understood h.first h.rest c × ((content : Content) × Carries h.kind h.teid c.rest content × (m ≡ message_of h c content))
 
-abbrev FailsByReading : ℕ → Headed → UserFault → Type 0
-FailsByReading end h = First_or_later (IsChained h.first h.rest) (ChainFails end h.first h.rest) (λ c. CarriesNone end h.kind c.rest)
+abbrev FailsByReading : List ℕ → ℕ → Headed → UserFault → Type 0
+FailsByReading understood end h = First_or_later (IsChainedBy understood h.first h.rest) (ChainFailsBy understood end h.first h.rest) (λ c. CarriesNone end h.kind c.rest)
 
-rest_decided : (end : ℕ) (h : Headed)
-    → Decides (chain_at end h.first h.rest >>= λ c. body_at end h.kind h.teid c.rest >>= λ content. Ok (message_of h c content)) (IsAfterHeader h)
-    (FailsByReading end h)
-rest_decided end h =
-    decide_bind (chain_at end h.first h.rest) (λ c. body_at end h.kind h.teid c.rest >>= λ content. Ok (message_of h c content)) (IsChained h.first h.rest) (ChainFails end h.first h.rest)
+rest_decided : (understood : List ℕ) (end : ℕ) (h : Headed)
+    → Decides (chain_by understood end h.first h.rest >>= λ c. body_at end h.kind h.teid c.rest >>= λ content. Ok (message_of h c content)) (IsAfterHeader understood h)
+    (FailsByReading understood end h)
+rest_decided understood end h =
+    decide_bind (chain_by understood end h.first h.rest) (λ c. body_at end h.kind h.teid c.rest >>= λ content. Ok (message_of h c content))
+    (IsChainedBy understood h.first h.rest) (ChainFailsBy understood end h.first h.rest)
     (λ c m. (content : Content) × Carries h.kind h.teid c.rest content × (m ≡ message_of h c content)) (λ c. CarriesNone end h.kind c.rest)
-    (chain_decided end h.first h.rest)
+    (chain_by_decided understood end h.first h.rest)
     (λ c. decide_map (body_at end h.kind h.teid c.rest) (message_of h c) (Carries h.kind h.teid c.rest) (CarriesNone end h.kind c.rest)
     (body_decided end h.kind h.teid c.rest))
 
 -- the same in the words of the grammar
-abbrev AfterHeader : Headed → MessageValue → Type 0
-AfterHeader h m = (tail : List ℕ) × IsChain h.first h.rest m.ext tail × Carries h.kind h.teid tail m.content × (m.seq ≡ numbered m.content h.seq) × (m.npdu ≡ h.npdu)
+abbrev AfterHeader : List ℕ → Headed → MessageValue → Type 0
+AfterHeader understood h m =
+    (tail : List ℕ) × IsChainBy understood h.first h.rest m.ext tail × Carries h.kind h.teid tail m.content × (m.seq ≡ numbered m.content h.seq) × (m.npdu ≡ h.npdu)
 
-to_after_header : (h : Headed) (m : MessageValue) → IsAfterHeader h m → AfterHeader h m
-to_after_header h m (c, chain, (content, carries, e)) = subst (AfterHeader h) (sym e) (c.rest, chain, carries, refl, refl)
+to_after_header : (understood : List ℕ) (h : Headed) (m : MessageValue) → IsAfterHeader understood h m → AfterHeader understood h m
+to_after_header understood h m (c, chain, (content, carries, e)) = subst (AfterHeader understood h) (sym e) (c.rest, chain, carries, refl, refl)
 
-from_after_header : (h : Headed) (m : MessageValue) → AfterHeader h m → IsAfterHeader h m
-from_after_header h m (tail, chain, carries, seq, npdu) =
+from_after_header : (understood : List ℕ) (h : Headed) (m : MessageValue) → AfterHeader understood h m → IsAfterHeader understood h m
+from_after_header understood h m (tail, chain, carries, seq, npdu) =
     (chained m.ext tail, chain, (m.content, carries, ap (λ n. message_by n m.npdu m.ext m.content) seq ∙ ap (λ n. message_by (numbered m.content h.seq) n m.ext m.content) npdu))
 
-to_fails : (end : ℕ) (h : Headed) (f : UserFault) → FailsByReading end h f → FailsAfterHeader end h f
-to_fails end h f (inl p) = inl p
-to_fails end h f (inr (c, chain, p)) = inr (c.headers, c.rest, chain, p)
+to_fails : (understood : List ℕ) (end : ℕ) (h : Headed) (f : UserFault) → FailsByReading understood end h f → FailsAfterHeaderBy understood end h f
+to_fails understood end h f (inl p) = inl p
+to_fails understood end h f (inr (c, chain, p)) = inr (c.headers, c.rest, chain, p)
 
-from_fails : (end : ℕ) (h : Headed) (f : UserFault) → FailsAfterHeader end h f → FailsByReading end h f
-from_fails end h f (inl p) = inl p
-from_fails end h f (inr (es, tail, chain, p)) = inr (chained es tail, chain, p)
+from_fails : (understood : List ℕ) (end : ℕ) (h : Headed) (f : UserFault) → FailsAfterHeaderBy understood end h f → FailsByReading understood end h f
+from_fails understood end h f (inl p) = inl p
+from_fails understood end h f (inr (es, tail, chain, p)) = inr (chained es tail, chain, p)
 
 -- reading a datagram decides which message it spells
-pub message_decided : (octets : List ℕ) → Decides (message_at octets) (IsUserMessage octets) (IsUserFault octets)
-unfolding message_at
-message_decided octets =
+pub message_with_decided : (understood octets : List ℕ) → Decides (message_with understood octets) (IsUserMessageBy understood octets) (IsUserFaultBy understood octets)
+unfolding message_with
+message_with_decided understood octets =
     decide_bind (header_at octets)
-    (λ h. chain_at (length octets) h.first h.rest >>= λ c. body_at (length octets) h.kind h.teid c.rest >>= λ content. Ok (message_of h c content))
+    (λ h. chain_by understood (length octets) h.first h.rest >>= λ c. body_at (length octets) h.kind h.teid c.rest >>= λ content. Ok (message_of h c content))
     (IsHeaded octets) (HeaderFails octets)
-    AfterHeader (FailsAfterHeader (length octets)) (header_decided octets)
-    (λ h. decide_as (chain_at (length octets) h.first h.rest >>= λ c. body_at (length octets) h.kind h.teid c.rest >>= λ content. Ok
-    (message_of h c content)) (IsAfterHeader h) (AfterHeader h) (FailsByReading (length octets) h) (FailsAfterHeader (length octets) h)
-    (to_after_header h) (from_after_header h) (to_fails (length octets) h) (from_fails (length octets) h) (rest_decided (length octets) h))
+    (AfterHeader understood) (FailsAfterHeaderBy understood (length octets)) (header_decided octets)
+    (λ h. decide_as (chain_by understood (length octets) h.first h.rest >>= λ c. body_at (length octets) h.kind h.teid c.rest >>= λ content. Ok
+    (message_of h c content)) (IsAfterHeader understood h) (AfterHeader understood h) (FailsByReading understood (length octets) h)
+    (FailsAfterHeaderBy understood (length octets) h) (to_after_header understood h) (from_after_header understood h) (to_fails understood (length octets) h)
+    (from_fails understood (length octets) h) (rest_decided understood (length octets) h))
+
+-- where no type from 128 on is understood
+message_same : (octets : List ℕ) → message_at octets ≡ message_with [] octets
+unfolding message_at message_with
+message_same octets = refl
+
+pub message_decided : (octets : List ℕ) → Decides (message_at octets) (IsUserMessage octets) (IsUserFault octets)
+message_decided octets = subst (λ (r : Result MessageValue UserFault). Decides r (IsUserMessage octets) (IsUserFault octets)) (sym (message_same octets)) (message_with_decided [] octets)

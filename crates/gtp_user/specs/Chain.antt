@@ -1,5 +1,5 @@
 -- Extension headers (TS 29.281 5.2.1), and the chain that they form after a header.
-use Rattle.std.specs.Prelude.{◌≡◌, ℕ, ◌+◌, ◌-◌, ◌*◌, ◌/◌, ◌<◌, ◌≤◌, Bool, ◌==◌, List, [], ◌∷◌, ◌++◌, length, ◌⊎◌}
+use Rattle.std.specs.Prelude.{◌≡◌, ◌≢◌, ℕ, ◌+◌, ◌-◌, ◌*◌, ◌/◌, ◌<◌, ◌≤◌, Bool, ◌==◌, List, [], ◌∷◌, ◌++◌, length, ◌⊎◌}
 use Rattle.std.specs.Ordering.{on, eq_of_both}
 use Rattle.std.specs.Cmp.Lexicographic.{pointwise}
 use Rattle.gtp_user.specs.declared.fault.UserFault.{UserFault}
@@ -19,31 +19,67 @@ header_eq = eq_of_both (on (λ e. e.kind) ◌==◌) (on (λ e. e.content) (point
 abbrev pub extension_of : ExtensionHeader → Extension
 extension_of h = record { kind = h.kind; content = h.content.now }
 
+-- a type that is taken by who understands these: any below 128, and from 128 on (the highest bit is set) one that is understood (figure 5.2.1-2)
+abbrev pub IsTaken : List ℕ → ℕ → Type 0
+IsTaken [] kind = kind < 128
+IsTaken (known ∷ understood) kind = (kind ≡ known) ⊎ IsTaken understood kind
+
+-- a type that has to be understood, and is none of these
+abbrev pub IsNeeded : List ℕ → ℕ → Type 0
+IsNeeded [] kind = 128 ≤ kind
+IsNeeded (known ∷ understood) kind = (kind ≢ known) × IsNeeded understood kind
+
 -- the octets are a header, the type of the next one, and then the rest (5.2.1): a length in units of four octets, which counts itself and the
--- type of the next header, and so is at least 1. A type with the highest bit set is for who understands it (figure 5.2.1-2), and none is understood here
-abbrev pub BeginsExtension : List ℕ → Extension → ℕ → List ℕ → Type 0
-BeginsExtension octets e next rest = (units : ℕ) × (octets ≡ units ∷ (e.content ++ next ∷ rest)) × (2 + length e.content ≡ 4 * units) × (0 < e.kind) × (e.kind < 128)
+-- type of the next header, and so is at least 1. The type is taken by who understands these
+abbrev pub BeginsExtensionBy : List ℕ → List ℕ → Extension → ℕ → List ℕ → Type 0
+BeginsExtensionBy understood octets e next rest =
+    (units : ℕ) × (octets ≡ units ∷ (e.content ++ next ∷ rest)) × (2 + length e.content ≡ 4 * units) × (0 < e.kind) × IsTaken understood e.kind
 
 -- the octets are whole headers in order, the first one of this type, and then there follow a next type and the rest
-abbrev pub Leads : ℕ → List ℕ → List Extension → ℕ → List ℕ → Type 0
-Leads kind octets [] next rest = (kind ≡ next) × (octets ≡ rest)
-Leads kind octets (e ∷ es) next rest = (follows : ℕ) × (after : List ℕ) × (e.kind ≡ kind) × BeginsExtension octets e follows after × Leads follows after es next rest
+abbrev pub LeadsBy : List ℕ → ℕ → List ℕ → List Extension → ℕ → List ℕ → Type 0
+LeadsBy understood kind octets [] next rest = (kind ≡ next) × (octets ≡ rest)
+LeadsBy understood kind octets (e ∷ es) next rest =
+    (follows : ℕ) × (after : List ℕ) × (e.kind ≡ kind) × BeginsExtensionBy understood octets e follows after × LeadsBy understood follows after es next rest
 
 -- the octets are a whole chain, and then the rest: type 0 ends it
-abbrev pub IsChain : ℕ → List ℕ → List Extension → List ℕ → Type 0
-IsChain kind octets es rest = Leads kind octets es 0 rest
+abbrev pub IsChainBy : List ℕ → ℕ → List ℕ → List Extension → List ℕ → Type 0
+IsChainBy understood kind octets es rest = LeadsBy understood kind octets es 0 rest
 
 -- why no header of this type begins the octets, which are the last ones of `end` octets: it is missing, of length 0, past the end, or not understood
-abbrev pub ExtensionFails : ℕ → ℕ → List ℕ → UserFault → Type 0
-ExtensionFails end kind octets f =
+abbrev pub ExtensionFailsBy : List ℕ → ℕ → ℕ → List ℕ → UserFault → Type 0
+ExtensionFailsBy understood end kind octets f =
     ((octets ≡ []) × (f ≡ faults.ExtensionPast end))
     ⊎ (((rest : List ℕ) × (octets ≡ 0 ∷ rest) × (f ≡ faults.ExtensionZero (end - length octets)))
     ⊎ (((units : ℕ) × (rest : List ℕ) × (octets ≡ units ∷ rest) × (0 < units) × (length octets < 4 * units) × (f ≡ faults.ExtensionPast (end - length octets)))
-    ⊎ ((units : ℕ) × (rest : List ℕ) × (octets ≡ units ∷ rest) × (0 < units) × (4 * units ≤ length octets) × (128 ≤ kind) × (f ≡ faults.ExtensionNeeded kind (end - length octets)))))
+    ⊎ ((units : ℕ) × (rest : List ℕ) × (octets ≡ units ∷ rest) × (0 < units) × (4 * units ≤ length octets) × IsNeeded understood kind
+    × (f ≡ faults.ExtensionNeeded kind (end - length octets)))))
+
+-- after whole headers a header is at fault
+abbrev pub ChainFailsBy : List ℕ → ℕ → ℕ → List ℕ → UserFault → Type 0
+ChainFailsBy understood end kind octets f =
+    (es : List Extension) × (next : ℕ) × (rest : List ℕ) × LeadsBy understood kind octets es next rest × (0 < next) × ExtensionFailsBy understood end next rest f
+
+-- ---- where no type from 128 on is understood
+
+-- a header, the type of the next one, and then the rest
+abbrev pub BeginsExtension : List ℕ → Extension → ℕ → List ℕ → Type 0
+BeginsExtension = BeginsExtensionBy []
+
+-- whole headers in order, and then a next type and the rest
+abbrev pub Leads : ℕ → List ℕ → List Extension → ℕ → List ℕ → Type 0
+Leads = LeadsBy []
+
+-- a whole chain, and then the rest
+abbrev pub IsChain : ℕ → List ℕ → List Extension → List ℕ → Type 0
+IsChain = IsChainBy []
+
+-- why no header of this type begins the octets
+abbrev pub ExtensionFails : ℕ → ℕ → List ℕ → UserFault → Type 0
+ExtensionFails = ExtensionFailsBy []
 
 -- after whole headers a header is at fault
 abbrev pub ChainFails : ℕ → ℕ → List ℕ → UserFault → Type 0
-ChainFails end kind octets f = (es : List Extension) × (next : ℕ) × (rest : List ℕ) × Leads kind octets es next rest × (0 < next) × ExtensionFails end next rest f
+ChainFails = ChainFailsBy []
 
 -- a chain and nothing else is at fault: a header is, or octets are left
 abbrev pub WholeChainFails : ℕ → List ℕ → UserFault → Type 0

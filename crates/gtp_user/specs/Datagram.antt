@@ -1,9 +1,9 @@
 -- The grammar of datagrams of the user plane (TS 29.281 5, 7 and 8): which message one spells, and which fault is its first.
-use Rattle.std.specs.Prelude.{◌≡◌, ◌≢◌, ℕ, true, false, List, length, Some, None, ◌⊎◌}
+use Rattle.std.specs.Prelude.{◌≡◌, ◌≢◌, ℕ, true, false, List, [], length, Some, None, ◌⊎◌}
 use Rattle.gtp_user.specs.declared.fault.UserFault.{UserFault}
 use Rattle.gtp_user.specs.declared.fault.UserFault.TheVariants as faults
 use Rattle.gtp_values.specs.Decides.{First_or_later}
-use Rattle.gtp_user.specs.Chain.{Extension, IsChain, ChainFails}
+use Rattle.gtp_user.specs.Chain.{Extension, IsChainBy, ChainFailsBy}
 use Rattle.gtp_user.specs.Headed.{Headed}
 use Rattle.gtp_user.specs.Header.{IsHeaded, HeaderFails}
 use Rattle.gtp_user.specs.Element.{Element, AreElements, IsCut, has_recovery, first_teid, first_peer, first_types}
@@ -40,16 +40,31 @@ HasElements kind = (kind ≡ 2) ⊎ ((kind ≡ 26) ⊎ (kind ≡ 31))
 abbrev pub CarriesNone : ℕ → ℕ → List ℕ → UserFault → Type 0
 CarriesNone end kind octets f = HasElements kind × First_or_later (AreElements octets) (IsCut end octets) (λ es. Lacks kind es) f
 
--- the octets spell the message: a header, a chain of extension headers, and what is carried after it
-abbrev pub IsUserMessage : List ℕ → MessageValue → Type 0
-IsUserMessage octets m =
-    (h : Headed) × IsHeaded octets h × ((tail : List ℕ) × IsChain h.first h.rest m.ext tail × Carries h.kind h.teid tail m.content
+-- the octets spell the message, where these types of extension headers are understood: a header, a chain of extension headers, and what is carried after it
+abbrev pub IsUserMessageBy : List ℕ → List ℕ → MessageValue → Type 0
+IsUserMessageBy understood octets m =
+    (h : Headed) × IsHeaded octets h × ((tail : List ℕ) × IsChainBy understood h.first h.rest m.ext tail × Carries h.kind h.teid tail m.content
     × (m.seq ≡ numbered m.content h.seq) × (m.npdu ≡ h.npdu))
 
 -- what a fault after the header is: of the chain, or after a whole chain of what is carried
-abbrev pub FailsAfterHeader : ℕ → Headed → UserFault → Type 0
-FailsAfterHeader end h f = ChainFails end h.first h.rest f ⊎ ((es : List Extension) × (tail : List ℕ) × IsChain h.first h.rest es tail × CarriesNone end h.kind tail f)
+abbrev pub FailsAfterHeaderBy : List ℕ → ℕ → Headed → UserFault → Type 0
+FailsAfterHeaderBy understood end h f =
+    ChainFailsBy understood end h.first h.rest f ⊎ ((es : List Extension) × (tail : List ℕ) × IsChainBy understood h.first h.rest es tail × CarriesNone end h.kind tail f)
 
 -- the first fault of the octets: of the header, or after it
+abbrev pub IsUserFaultBy : List ℕ → List ℕ → UserFault → Type 0
+IsUserFaultBy understood octets = First_or_later (IsHeaded octets) (HeaderFails octets) (λ h. FailsAfterHeaderBy understood (length octets) h)
+
+-- ---- where no type from 128 on is understood
+
+-- the octets spell the message
+abbrev pub IsUserMessage : List ℕ → MessageValue → Type 0
+IsUserMessage = IsUserMessageBy []
+
+-- what a fault after the header is
+abbrev pub FailsAfterHeader : ℕ → Headed → UserFault → Type 0
+FailsAfterHeader = FailsAfterHeaderBy []
+
+-- the first fault of the octets
 abbrev pub IsUserFault : List ℕ → UserFault → Type 0
-IsUserFault octets = First_or_later (IsHeaded octets) (HeaderFails octets) (λ h. FailsAfterHeader (length octets) h)
+IsUserFault = IsUserFaultBy []

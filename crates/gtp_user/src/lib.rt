@@ -11,6 +11,7 @@ mod fault;
 pub mod flags;
 mod front;
 mod header;
+mod judging;
 pub mod kinds;
 pub mod laws;
 mod message;
@@ -21,6 +22,7 @@ pub use decoding::decode;
 pub use encoding::encode;
 pub use extension::{ExtensionHeader, ExtensionHeaders, Extensions};
 pub use fault::UserFault;
+pub use judging::judge;
 pub use message::{UserBody, UserMessage};
 pub use viewing::{UserView, view};
 

@@ -27,8 +27,9 @@ use Rattle.gtp_v2.specs.reading.Lines.{line_of, is_unchecked, checked_rows, has_
 use Rattle.gtp_v2.specs.Tables.{table_of}
 use Rattle.gtp_v2.specs.Headed.{Headed}
 use Rattle.gtp_v2.specs.Message.{Fields, head_of, with_head}
-use Rattle.gtp_v2.specs.reading.Message.{sender_of, told, list_at, fields_at, typed_at, by_table, content_at}
+use Rattle.gtp_v2.specs.reading.Message.{sender_of, told, fields_at, typed_at, list_by, typed_by, by_table, content_at}
 use Rattle.gtp_v2.proofs.Checks.{forgotten_as, forget_map, rows_forget, lines_forget}
+use Rattle.gtp_v2.proofs.Told.{typed_same}
 
 -- ---- what is no cause accepts
 
@@ -214,9 +215,9 @@ told_checked head (Ok x) (Err g) h = absurd cc
 told_checked head (Err f) (Ok y) h = absurd cc
 told_checked head (Err f) (Err g) h = ap (λ (c : RowFault). Err (with_head head c)) (err_same (Unit {0}) f g h)
 
-typed_checked : (has_teid : Bool) (lines : List Line) (h : Headed) → forgotten (typed_at has_teid (checked_lines lines) h) ≡ forgotten (typed_at has_teid lines h)
-unfolding typed_at
-typed_checked has_teid lines h = by_list (list_at has_teid h) where
+pub typed_checked : (form : Option Bool) (lines : List Line) (h : Headed) → forgotten (typed_by form (checked_lines lines) h) ≡ forgotten (typed_by form lines h)
+unfolding typed_by
+typed_checked form lines h = by_list (list_by form h) where
   by_list : (r : Result (List Element) V2Fault) → forgotten (r >>= λ es. fields_at (checked_lines lines) h es) ≡ forgotten (r >>= λ es. fields_at lines h es)
   by_list (Ok es) =
       told_checked (head_of h (sender_of h.kind es)) (lines_at start (checked_lines lines) es) (lines_at start lines es)
@@ -225,11 +226,12 @@ typed_checked has_teid lines h = by_list (list_at has_teid h) where
 
 -- what a message carries reads where what the program checks of it does
 pub content_checked : (h : Headed) (asked : Shape) → Some (shape_of asked) ≡ option_map shape_in (table_of h.kind)
-    → forgotten (typed_at asked.has_teid (map line_of asked.lines.now) h) ≡ forgotten (content_at h)
+    → forgotten (typed_by (Some asked.has_teid) (map line_of asked.lines.now) h) ≡ forgotten (content_at h)
 unfolding content_at
 content_checked h asked is = by_table_of (table_of h.kind) is where
-  by_table_of : (o : Option Table) → Some (shape_of asked) ≡ option_map shape_in o → forgotten (typed_at asked.has_teid (map line_of asked.lines.now) h) ≡ forgotten (by_table o h)
+  by_table_of : (o : Option Table) → Some (shape_of asked) ≡ option_map shape_in o
+      → forgotten (typed_by (Some asked.has_teid) (map line_of asked.lines.now) h) ≡ forgotten (by_table o h)
   by_table_of None is = absurd cc
   by_table_of (Some t) is =
-      ap (λ (p : Bool × List Line). forgotten (typed_at p.0 p.1 h)) (same_Some (shape_of asked) (shape_in t) is) ∙ typed_checked t.has_teid t.lines h
-      ∙ sym (forget_map (typed_at t.has_teid t.lines h) (λ fields. Fields fields))
+      ap (λ (p : Bool × List Line). forgotten (typed_by (Some p.0) p.1 h)) (same_Some (shape_of asked) (shape_in t) is) ∙ typed_checked (Some t.has_teid) t.lines h
+      ∙ ap forgotten (sym (typed_same t.has_teid t.lines h)) ∙ sym (forget_map (typed_at t.has_teid t.lines h) (λ fields. Fields fields))

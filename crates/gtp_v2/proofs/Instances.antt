@@ -122,6 +122,10 @@ header_small octets f (inr (first, kind, high, low, following, text, inr (inr (i
 header_small octets f (inr (first, kind, high, low, following, text, inr (inr (inr (inl (flags, lt, eq, long, few, is)))))) = subst IsSmall (sym is) (tt, tt)
 header_small octets f (inr (first, kind, high, low, following, text, inr (inr (inr (inr (flags, lt, eq, long, few, is)))))) = subst IsSmall (sym is) (tt, tt)
 
+-- the fault of a header is none of memory
+pub header_of_octets : (octets : List ℕ) (f : V2Fault) → HeaderFails octets f → IsOfOctets f
+header_of_octets octets f fails = (header_small octets f fails).1
+
 small_fault : (octets : List ℕ) (f : V2Fault) → IsFault octets f → IsSmall f
 small_fault octets f is = elim is [
   | inl header ↦ header_small octets f header

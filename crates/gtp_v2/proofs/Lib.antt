@@ -30,6 +30,8 @@ pub mod Carried
 pub mod Pairs
 pub mod Places
 pub mod Answered
+pub mod Judged
+pub mod Alike
 pub mod Lies
 pub mod Joined
 pub mod Passing

@@ -12,13 +12,13 @@ use Rattle.gtp_v2.specs.declared.fault.Need.{Need}
 use Rattle.gtp_v2.specs.declared.fault.Need.TheVariants as needs
 use Rattle.gtp_v2.specs.declared.fault.V2Fault.{V2Fault}
 use Rattle.gtp_v2.specs.declared.fault.Head.{Head}
-use Rattle.gtp_v2.specs.Table.{Row, Mandatory, Conditional, Accepted, Optional, Line, Single, Grouped, Several, State, start, Table, accepts, after, need_of, kind_of, instance_of}
+use Rattle.gtp_v2.specs.Table.{Row, Mandatory, Conditional, Accepted, Optional, Line, Single, Grouped, Several, State, start, accepts, after, need_of, kind_of, instance_of}
 use Rattle.gtp_v2.specs.Grammar.{NeededFails, absent, short, bad, RowFails, RowsFail, in_group, InnerFails, GroupFails, SomeFails, OneFails, short_one, bad_one, NoGroup, LineFails, LinesFail}
 use Rattle.gtp_v2.specs.Headed.{Headed}
 use Rattle.gtp_v2.specs.Header.{HeaderFails}
 use Rattle.gtp_v2.specs.Message.{with_head, MessageValue}
-use Rattle.gtp_v2.specs.Tables.{table_of}
-use Rattle.gtp_v2.specs.Datagram.{FailsBy, IsFault}
+use Rattle.gtp_v2.specs.Asks.{Asks, asks_of}
+use Rattle.gtp_v2.specs.Datagram.{FailsAsked, IsFaultBy, IsFault}
 use Rattle.gtp_v2.specs.reading.Places.{place_of_element, place_of_fault}
 use Rattle.gtp_values.specs.Steps.{Gives}
 use Rattle.gtp_v2.specs.reading.Message.{message_at}
@@ -146,15 +146,15 @@ headed_up_to head limit (row_faults.Missing kind instance conditional None) with
 headed_up_to head limit (row_faults.Missing kind instance conditional (Some at)) within = within
 headed_up_to head limit (row_faults.Element fault) within = within
 
-body_up_to : (table : Option Table) (h : Headed) (limit : ℕ) (f : V2Fault) → h.at + length h.rest ≤ limit → FailsBy table h f → IsUpTo limit f
+body_up_to : (asks : Option Asks) (h : Headed) (limit : ℕ) (f : V2Fault) → h.at + length h.rest ≤ limit → FailsAsked asks h f → IsUpTo limit f
 body_up_to None h limit f le fails = absurd fails
-body_up_to (Some table) h limit f le fails = elim fails [
+body_up_to (Some asks) h limit f le fails = elim fails [
   | inl form ↦ subst (IsUpTo limit) (sym form.1) (omega arith)
   | inr list ↦ elim list.1 [
     | inl cut ↦ subst (IsUpTo limit) (sym cut.2) (cut_end h.at h.rest cut.0 limit le cut.1)
     | inr later ↦
         let row = later.2 in
-        subst (IsUpTo limit) (sym row.2.2) (headed_up_to _ limit row.0 (lines_within start table.lines limit later.0 row.0 (elements_end h.at h.rest later.0 limit le later.1) row.1))
+        subst (IsUpTo limit) (sym row.2.2) (headed_up_to _ limit row.0 (lines_within start asks.lines limit later.0 row.0 (elements_end h.at h.rest later.0 limit le later.1) row.1))
   ]
 ]
 
@@ -167,13 +167,16 @@ header_up_to octets limit f (inr (first, kind, high, low, following, text, inr (
 header_up_to octets limit f (inr (first, kind, high, low, following, text, inr (inr (inr (inr (flags, lt, eq, long, few, is)))))) = subst (IsUpTo limit) (sym is) (omega arith)
 
 -- the first fault of a message tells a place in its octets, or at their end
-pub fault_up_to : (octets : List ℕ) (f : V2Fault) → IsFault octets f → place_of_fault f ≤ length octets
-fault_up_to octets f is = elim is [
+pub fault_by_up_to : (asked : ℕ → Option Asks) (octets : List ℕ) (f : V2Fault) → IsFaultBy asked octets f → place_of_fault f ≤ length octets
+fault_by_up_to asked octets f is = elim is [
   | inl header ↦ header_up_to octets (length octets) f header
   | inr body ↦
       let a = after_header octets body.0 body.1 in
-      body_up_to (table_of body.0.kind) body.0 (length octets) f (omega (arith, a.long)) body.2
+      body_up_to (asked body.0.kind) body.0 (length octets) f (omega (arith, a.long)) body.2
 ]
+
+pub fault_up_to : (octets : List ℕ) (f : V2Fault) → IsFault octets f → place_of_fault f ≤ length octets
+fault_up_to = fault_by_up_to asks_of
 
 -- what is answered by reading tells a place in the octets, or at their end
 pub place_up_to : {X : Type 0} (view : X → MessageValue) (r : Result X V2Fault) (octets : List ℕ) → Gives view r (message_at octets) → IfErr r (λ f. place_of_fault f ≤ length octets)

@@ -25,12 +25,13 @@ use Rattle.gtp_v2.specs.declared.message.Datagram.{Datagram}
 use Rattle.gtp_v2.specs.Body.{content_of, kind_of, message_value}
 use Rattle.gtp_v2.specs.Header.{IsHeaded, HeaderFails}
 use Rattle.gtp_v2.proofs.Headers.{header_decided}
-use Rattle.gtp_v2.specs.Message.{head_of, with_head, Content, Fields, Raw, with_content, MessageGives, ContentAllocates}
-use Rattle.gtp_v2.specs.reading.Message.{sender_of, told, list_at, fields_at, typed_at, by_table, content_at, message_at}
+use Rattle.gtp_v2.specs.Message.{head_of, with_head, Content, Fields, Raw, with_content, MessageValue, MessageGives, ContentAllocates}
+use Rattle.gtp_v2.specs.reading.Message.{sender_of, told, list_at, fields_at, typed_at, by_table, content_at, message_at, has_form, list_by, typed_by, content_by, message_by}
 use Rattle.gtp_v2.specs.Tables.{table_of}
 use Rattle.gtp_v2.specs.Marks.{ContentMarked, MeetsMarks}
 use Rattle.gtp_v2.proofs.MarksOf.{content_marked}
-use Rattle.gtp_v2.specs.Datagram.{FieldsAre, ListFails, FieldsFail, CarriesBy, FailsBy, IsMessage, IsFault}
+use Rattle.gtp_v2.specs.Asks.{Asks, asks_in, asks_of}
+use Rattle.gtp_v2.specs.Datagram.{FieldsAre, ListFails, FieldsFail, HasForm, LacksForm, CarriesAsked, FailsAsked, IsMessageBy, IsFaultBy, CarriesBy, FailsBy, IsMessage, IsFault}
 use Rattle.gtp_v2.proofs.Decided.{whole_decided, lines_decided}
 use Rattle.gtp_v2.proofs.Senders.{sender_is, sender_only}
 
@@ -74,36 +75,75 @@ other true false h is = cc
 other false true h is = cc
 other false false h is = absurd cc
 
-content_decided : (table : Option Table) (h : Headed) → Decides (by_table table h) (CarriesBy table h) (FailsBy table h)
-unfolding typed_at list_at
-content_decided None h = known_ok (Raw h.rest) (CarriesBy None h) (FailsBy None h) refl (λ c p. p) (λ f q. q)
-content_decided (Some table) h = by_flag (beq (is_some h.teid) table.has_teid) refl where
-  by_flag : (b : Bool) → beq (is_some h.teid) table.has_teid ≡ b
+form_is : (form : Option Bool) (h : Headed) → has_form form h ≡ true → HasForm form h
+form_is None h is = tt
+form_is (Some has_teid) h is = same (is_some h.teid) has_teid is
+
+form_lacks : (form : Option Bool) (h : Headed) → has_form form h ≡ false → LacksForm form h
+form_lacks None h is = absurd cc
+form_lacks (Some has_teid) h is = other (is_some h.teid) has_teid is
+
+not_both : (form : Option Bool) (h : Headed) → HasForm form h → LacksForm form h → ⊥
+not_both None h has lacks = lacks
+not_both (Some has_teid) h has lacks = lacks has
+
+asked_decided : (asks : Option Asks) (h : Headed) → Decides (content_by asks h) (CarriesAsked asks h) (FailsAsked asks h)
+unfolding typed_by list_by
+asked_decided None h = known_ok (Raw h.rest) (CarriesAsked None h) (FailsAsked None h) refl (λ c p. p) (λ f q. q)
+asked_decided (Some asks) h = by_form (has_form asks.has_teid h) refl where
+  by_form : (b : Bool) → has_form asks.has_teid h ≡ b
       → Decides
-      ((cond b (told (head_of h None) (whole (elements_of h.at h.rest))) (Err (faults.FlagT h.kind)) >>= λ es. fields_at table.lines h es) >>=
-      λ fields. Ok (Fields fields)) (CarriesBy (Some table) h) (FailsBy (Some table) h)
-  by_flag true s =
+      ((cond b (told (head_of h None) (whole (elements_of h.at h.rest))) (Err (faults.FlagT h.kind)) >>= λ es. fields_at asks.lines h es) >>=
+      λ fields. Ok (Fields fields)) (CarriesAsked (Some asks) h) (FailsAsked (Some asks) h)
+  by_form true s =
+      let form = form_is asks.has_teid h s in
       decide_as
-      (told (head_of h None) (whole (elements_of h.at h.rest)) >>= (λ es. told (head_of h (sender_of h.kind es)) (lines_at start table.lines es)) >>=
-      λ fields. Ok (Fields fields)) (λ c. (fields : List Field) × FieldsAre table.lines h fields × (c ≡ Fields fields)) (CarriesBy (Some table) h)
-      (First_or_later (AreElements h.at h.rest) (ListFails h) (FieldsFail table.lines h)) (FailsBy (Some table) h)
-      (λ c p. (same _ _ s, p.0, p.1, p.2)) (λ c p. (p.1, p.2, p.3)) (λ f p. inr (same _ _ s, p)) (λ f q. elim q [ inl p ↦ absurd (p.0 (same _ _ s)) | inr p ↦ p.1 ])
+      (told (head_of h None) (whole (elements_of h.at h.rest)) >>= (λ es. told (head_of h (sender_of h.kind es)) (lines_at start asks.lines es)) >>=
+      λ fields. Ok (Fields fields)) (λ c. (fields : List Field) × FieldsAre asks.lines h fields × (c ≡ Fields fields)) (CarriesAsked (Some asks) h)
+      (First_or_later (AreElements h.at h.rest) (ListFails h) (FieldsFail asks.lines h)) (FailsAsked (Some asks) h)
+      (λ c p. (form, p.0, p.1, p.2)) (λ c p. (p.1, p.2, p.3)) (λ f p. inr (form, p)) (λ f q. elim q [ inl p ↦ absurd (not_both asks.has_teid h form p.0) | inr p ↦ p.1 ])
       (decide_map (told (head_of h None) (whole (elements_of h.at h.rest)) >>= λ es. told (head_of h (sender_of h.kind es))
-      (lines_at start table.lines es)) (λ fields. Fields fields) (FieldsAre table.lines h)
-      (First_or_later (AreElements h.at h.rest) (ListFails h) (FieldsFail table.lines h))
+      (lines_at start asks.lines es)) (λ fields. Fields fields) (FieldsAre asks.lines h)
+      (First_or_later (AreElements h.at h.rest) (ListFails h) (FieldsFail asks.lines h))
       (decide_bind (told (head_of h None) (whole (elements_of h.at h.rest)))
-      (λ es. told (head_of h (sender_of h.kind es)) (lines_at start table.lines es)) (AreElements h.at h.rest) (ListFails h)
-      (λ es. LinesAre start table.lines es) (λ es. FieldsFail table.lines h es) (list_decided h) (λ es. fields_decided table.lines h es)))
-  by_flag false s =
-      known_err (faults.FlagT h.kind) (CarriesBy (Some table) h) (FailsBy (Some table) h) (inl (other _ _ s, refl)) (λ c p. absurd (other _ _ s p.0))
-      (λ f q. elim q [ inl p ↦ p.1 | inr p ↦ absurd (other _ _ s p.0) ])
+      (λ es. told (head_of h (sender_of h.kind es)) (lines_at start asks.lines es)) (AreElements h.at h.rest) (ListFails h)
+      (λ es. LinesAre start asks.lines es) (λ es. FieldsFail asks.lines h es) (list_decided h) (λ es. fields_decided asks.lines h es)))
+  by_form false s =
+      let lacks = form_lacks asks.has_teid h s in
+      known_err (faults.FlagT h.kind) (CarriesAsked (Some asks) h) (FailsAsked (Some asks) h) (inl (lacks, refl)) (λ c p. absurd (not_both asks.has_teid h p.0 lacks))
+      (λ f q. elim q [ inl p ↦ p.1 | inr p ↦ absurd (not_both asks.has_teid h p.0 lacks) ])
+
+pub message_by_decided : (asked : ℕ → Option Asks) (octets : List ℕ) → Decides (message_by asked octets) (IsMessageBy asked octets) (IsFaultBy asked octets)
+unfolding message_by
+message_by_decided asked octets =
+    decide_bind (header_at octets) (λ h. content_by (asked h.kind) h >>= λ content. Ok (with_content h content)) (IsHeaded octets) (HeaderFails octets)
+    (λ h m. (content : Content) × CarriesAsked (asked h.kind) h content × (m ≡ with_content h content)) (λ h. FailsAsked (asked h.kind) h)
+    (header_decided octets) (λ h. decide_map (content_by (asked h.kind) h) (with_content h) (CarriesAsked (asked h.kind) h) (FailsAsked (asked h.kind) h) (asked_decided (asked h.kind) h))
+
+-- ---- by the tables here
+
+-- with a form that is asked for
+pub typed_same : (has_teid : Bool) (lines : List Line) (h : Headed) → typed_at has_teid lines h ≡ typed_by (Some has_teid) lines h
+unfolding typed_at list_at typed_by list_by
+typed_same has_teid lines h = refl
+
+table_same : (table : Option Table) (h : Headed) → by_table table h ≡ content_by (asks_in table) h
+table_same None h = refl
+table_same (Some table) h = ap (λ (r : Result (List Field) V2Fault). r >>= λ fields. Ok (Fields fields)) (typed_same table.has_teid table.lines h)
+
+pub content_same : (h : Headed) → content_at h ≡ content_by (asks_of h.kind) h
+unfolding content_at
+content_same h = table_same (table_of h.kind) h
+
+pub message_same : (octets : List ℕ) → message_at octets ≡ message_by asks_of octets
+unfolding message_at message_by
+message_same octets = λ i. header_at octets >>= λ h. content_same h i >>= λ content. Ok (with_content h content)
+
+content_decided : (table : Option Table) (h : Headed) → Decides (by_table table h) (CarriesBy table h) (FailsBy table h)
+content_decided table h = subst (λ (r : Result Content V2Fault). Decides r (CarriesBy table h) (FailsBy table h)) (sym (table_same table h)) (asked_decided (asks_in table) h)
 
 pub message_decided : (octets : List ℕ) → Decides (message_at octets) (IsMessage octets) (IsFault octets)
-unfolding message_at content_at
-message_decided octets =
-    decide_bind (header_at octets) (λ h. content_at h >>= λ content. Ok (with_content h content)) (IsHeaded octets) (HeaderFails octets)
-    (λ h m. (content : Content) × CarriesBy (table_of h.kind) h content × (m ≡ with_content h content)) (λ h. FailsBy (table_of h.kind) h)
-    (header_decided octets) (λ h. decide_map (content_at h) (with_content h) (CarriesBy (table_of h.kind) h) (FailsBy (table_of h.kind) h) (content_decided (table_of h.kind) h))
+message_decided octets = subst (λ (r : Result MessageValue V2Fault). Decides r (IsMessage octets) (IsFault octets)) (sym (message_same octets)) (message_by_decided asks_of octets)
 
 -- a message that was built of what carries its header and content meets the marks of its table
 pub built_marked : (h : Header) (r : Result Datagram V2Fault)

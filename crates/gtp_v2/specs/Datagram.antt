@@ -1,5 +1,5 @@
 -- The grammar of one message: which one octets spell, and which fault is their first.
-use Rattle.std.specs.Prelude.{◌≡◌, ◌≢◌, ◌==◌, cond, ℕ, List, Option, Some, None, is_some, ◌⊎◌}
+use Rattle.std.specs.Prelude.{◌≡◌, ◌≢◌, ◌==◌, cond, ℕ, Bool, List, Option, Some, None, is_some, ◌⊎◌}
 use Rattle.gtp_values.specs.Decides.{First_or_later}
 use Rattle.gtp_ie.specs.Element.{Element}
 use Rattle.gtp_ie.specs.Octets.{AreElements, IsCut}
@@ -17,7 +17,7 @@ use Rattle.gtp_v2.specs.Headed.{Headed}
 use Rattle.gtp_v2.specs.Header.{IsHeaded, HeaderFails}
 use Rattle.gtp_v2.specs.Message.{head_of, with_head, Content, Fields, Raw, MessageValue, with_content}
 use Rattle.gtp_v2.specs.CreateSessionRequest.{create_session_request}
-use Rattle.gtp_v2.specs.Tables.{table_of}
+use Rattle.gtp_v2.specs.Asks.{Asks, asks_in, asks_of}
 
 -- the octets after the header are elements that give the lines these fields
 abbrev pub FieldsAre : List Line → Headed → List Field → Type 0
@@ -40,22 +40,50 @@ ListFails h f = (place : ℕ) × IsCut h.at h.rest place × (f ≡ faults.Elemen
 abbrev pub FieldsFail : List Line → Headed → List Element → V2Fault → Type 0
 FieldsFail lines h es f = (g : RowFault) × LinesFail start lines es g × ((sender : Option TunnelEnd) × SenderIs h.kind es sender × (f ≡ with_head (head_of h sender) g))
 
--- what a message carries
-abbrev pub CarriesBy : Option Table → Headed → Content → Type 0
-CarriesBy None h content = content ≡ Raw h.rest
-CarriesBy (Some table) h content = (is_some h.teid ≡ table.has_teid) × (fields : List Field) × FieldsAre table.lines h fields × (content ≡ Fields fields)
+-- a header has a TEID exactly where one is asked for
+abbrev pub HasForm : Option Bool → Headed → Type 0
+HasForm None h = Unit {0}
+HasForm (Some has_teid) h = is_some h.teid ≡ has_teid
+
+-- it has one where none is asked for, or none where one is
+abbrev pub LacksForm : Option Bool → Headed → Type 0
+LacksForm None h = ⊥
+LacksForm (Some has_teid) h = is_some h.teid ≢ has_teid
+
+-- what a message carries, by what is asked of its type
+abbrev pub CarriesAsked : Option Asks → Headed → Content → Type 0
+CarriesAsked None h content = content ≡ Raw h.rest
+CarriesAsked (Some asks) h content = HasForm asks.has_teid h × (fields : List Field) × FieldsAre asks.lines h fields × (content ≡ Fields fields)
 
 -- why it carries nothing: the wrong form of header, then its list of elements, and then its lines
+abbrev pub FailsAsked : Option Asks → Headed → V2Fault → Type 0
+FailsAsked None h f = ⊥
+FailsAsked (Some asks) h f =
+    (LacksForm asks.has_teid h × (f ≡ faults.FlagT h.kind))
+    ⊎ (HasForm asks.has_teid h × First_or_later (AreElements h.at h.rest) (ListFails h) (FieldsFail asks.lines h) f)
+
+-- the octets spell the message, by what is asked of each type
+abbrev pub IsMessageBy : (ℕ → Option Asks) → List ℕ → MessageValue → Type 0
+IsMessageBy asked octets m = (h : Headed) × IsHeaded octets h × ((content : Content) × CarriesAsked (asked h.kind) h content × (m ≡ with_content h content))
+
+-- the first fault of the octets, by what is asked of each type
+abbrev pub IsFaultBy : (ℕ → Option Asks) → List ℕ → V2Fault → Type 0
+IsFaultBy asked octets = First_or_later (IsHeaded octets) (HeaderFails octets) (λ h. FailsAsked (asked h.kind) h)
+
+-- ---- by the tables here
+
+-- what a message carries
+abbrev pub CarriesBy : Option Table → Headed → Content → Type 0
+CarriesBy table = CarriesAsked (asks_in table)
+
+-- why it carries nothing
 abbrev pub FailsBy : Option Table → Headed → V2Fault → Type 0
-FailsBy None h f = ⊥
-FailsBy (Some table) h f =
-    ((is_some h.teid ≢ table.has_teid) × (f ≡ faults.FlagT h.kind))
-    ⊎ ((is_some h.teid ≡ table.has_teid) × First_or_later (AreElements h.at h.rest) (ListFails h) (FieldsFail table.lines h) f)
+FailsBy table = FailsAsked (asks_in table)
 
 -- the octets spell the message
 abbrev pub IsMessage : List ℕ → MessageValue → Type 0
-IsMessage octets m = (h : Headed) × IsHeaded octets h × ((content : Content) × CarriesBy (table_of h.kind) h content × (m ≡ with_content h content))
+IsMessage = IsMessageBy asks_of
 
 -- the first fault of the octets
 abbrev pub IsFault : List ℕ → V2Fault → Type 0
-IsFault octets = First_or_later (IsHeaded octets) (HeaderFails octets) (λ h. FailsBy (table_of h.kind) h)
+IsFault = IsFaultBy asks_of

@@ -2,6 +2,8 @@
 pub mod Table
 pub mod Needs
 pub mod Tables
+pub mod Asks
+pub mod Asked
 pub mod Priority
 pub mod Headed
 pub mod Flags

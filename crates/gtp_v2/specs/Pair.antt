@@ -9,7 +9,8 @@ use Rattle.gtp_v2.specs.declared.message.Datagram.{Datagram}
 use Rattle.std.specs.Global.{Box}
 use Rattle.gtp_v2.specs.declared.message.Message.{Message}
 use Rattle.gtp_v2.specs.Body.{message_value}
-use Rattle.gtp_v2.specs.Datagram.{IsMessage, IsFault}
+use Rattle.gtp_v2.specs.Asks.{Asks, asks_of}
+use Rattle.gtp_v2.specs.Datagram.{IsMessage, IsMessageBy, IsFaultBy}
 use Rattle.gtp_v2.specs.Flags.{version_2, piggybacking}
 use Rattle.gtp_v2.specs.Message.{MessageValue, MessageAllocates}
 use Rattle.gtp_v2.specs.Viewed.{Viewed, ViewedDatagram, Follows, Carries}
@@ -56,12 +57,12 @@ AnnouncesMore octets f =
     × (length held < 256 * high + low)
     × (f ≡ faults.Length (256 * high + low) (length held))
 
--- the octets spell these messages: one, or two, of which the first announces the second
-abbrev pub IsDatagram : List ℕ → DatagramValue → Type 0
-IsDatagram octets d =
-    ((m : MessageValue) × IsMessage octets m × (d ≡ alone m))
+-- the octets spell these messages, by what is asked of each type: one, or two, of which the first announces the second
+abbrev pub IsDatagramBy : (ℕ → Option Asks) → List ℕ → DatagramValue → Type 0
+IsDatagramBy asked octets d =
+    ((m : MessageValue) × IsMessageBy asked octets m × (d ≡ alone m))
     ⊎ ((front : List ℕ) × (back : List ℕ) × Announces octets front back
-    × ((a : MessageValue) × IsMessage front a × ((b : MessageValue) × IsMessage back b × (d ≡ both a b))))
+    × ((a : MessageValue) × IsMessageBy asked front a × ((b : MessageValue) × IsMessageBy asked back b × (d ≡ both a b))))
 
 -- a fault of an element, its place counted from so many octets earlier
 abbrev pub element_moved : ℕ → IeFault → IeFault
@@ -78,18 +79,33 @@ moved place (faults.Element fault head) = faults.Element (element_moved place fa
 moved place fault = fault
 
 -- why there is no second message at a place: there are no octets, or it is at fault, its places counted from the start of the datagram
-abbrev pub SecondFails : ℕ → List ℕ → V2Fault → Type 0
-SecondFails place back f =
+abbrev pub SecondFailsBy : (ℕ → Option Asks) → ℕ → List ℕ → V2Fault → Type 0
+SecondFailsBy asked place back f =
     ((back ≡ []) × (f ≡ faults.BadPiggyback place))
-    ⊎ ((0 < length back) × ((g : V2Fault) × IsFault back g × (f ≡ moved place g)))
+    ⊎ ((0 < length back) × ((g : V2Fault) × IsFaultBy asked back g × (f ≡ moved place g)))
 
--- The first fault of a datagram: of the message, where it announces no other; else its stated length, then all checks of the first message, and then those of the
--- second.
-abbrev pub IsDatagramFault : List ℕ → V2Fault → Type 0
-IsDatagramFault octets f =
-    (IsUnannounced octets × IsFault octets f)
+-- The first fault of a datagram, by what is asked of each type: of the message, where it announces no other; else its stated length, then all checks of the first
+-- message, and then those of the second.
+abbrev pub IsDatagramFaultBy : (ℕ → Option Asks) → List ℕ → V2Fault → Type 0
+IsDatagramFaultBy asked octets f =
+    (IsUnannounced octets × IsFaultBy asked octets f)
     ⊎ (AnnouncesMore octets f
-    ⊎ ((front : List ℕ) × (back : List ℕ) × Announces octets front back × First_or_later (IsMessage front) (IsFault front) (λ a. SecondFails (length front) back) f))
+    ⊎ ((front : List ℕ) × (back : List ℕ) × Announces octets front back
+    × First_or_later (IsMessageBy asked front) (IsFaultBy asked front) (λ a. SecondFailsBy asked (length front) back) f))
+
+-- ---- by the tables here
+
+-- the octets spell these messages
+abbrev pub IsDatagram : List ℕ → DatagramValue → Type 0
+IsDatagram = IsDatagramBy asks_of
+
+-- why there is no second message at a place
+abbrev pub SecondFails : ℕ → List ℕ → V2Fault → Type 0
+SecondFails = SecondFailsBy asks_of
+
+-- the first fault of a datagram
+abbrev pub IsDatagramFault : List ℕ → V2Fault → Type 0
+IsDatagramFault = IsDatagramFaultBy asks_of
 
 -- ---- what the program's datagrams say
 

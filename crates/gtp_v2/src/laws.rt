@@ -1,6 +1,7 @@
-//! Laws of the grammar and of `==`, each the contract of a function that does nothing or only compares.
+//! Laws of the grammar, of `==` and of `judge`, each the contract of a function that does nothing, or only
+//! compares or judges.
 
-ghost use Rattle.std.specs.Prelude.{◌≡◌, ◌↔◌, ◌<◌, ℕ, IsTrue, List, length, take};
+ghost use Rattle.std.specs.Prelude.{◌≡◌, ◌↔◌, ◌<◌, ℕ, IsTrue, IfOk, IfErr, Ok, Err, List, length, map, take};
 ghost use Rattle.gtp_v2.specs.Table.{Line, Field, start};
 ghost use Rattle.gtp_ie.specs.Element.{Element};
 ghost use Rattle.gtp_ie.specs.Octets.{AreElements};
@@ -9,11 +10,18 @@ ghost use Rattle.gtp_v2.specs.Message.{MessageValue};
 ghost use Rattle.gtp_v2.specs.Body.{message_value};
 ghost use Rattle.gtp_v2.specs.Datagram.{IsMessage, IsFault};
 ghost use Rattle.gtp_v2.specs.Encoding.{FieldsMeet, Meets, canonical_encoding};
-ghost use Rattle.gtp_v2.specs.Pair.{Announces, IsDatagram, IsDatagramFault, both, paired};
+ghost use Rattle.gtp_v2.specs.Pair.{Announces, DatagramValue, IsDatagram, IsDatagramFault, both, paired};
+ghost use Rattle.gtp_v2.specs.Tables.{tables};
+ghost use Rattle.gtp_v2.specs.reading.Lines.{asked_in, asked_kept};
 ghost use Rattle.gtp_v2.specs.Prefixes.{prefix_fault, pair_prefix_fault};
 ghost use Rattle.gtp_v2.specs.Text.{lines_encoding};
+ghost use Rattle.gtp_v2.specs.declared.fault.V2Fault.{V2Fault as AnyFault};
 
+use crate::asked::{Others, Tables};
+use crate::fault::V2Fault;
+use crate::judging::judge;
 use crate::message::Message;
+use crate::required_rows::S5S8;
 
 /// What was written by any table is read by it: fields whose values are of the rows' types, that have
 /// what the marks ask, and whose encoding is not too long.
@@ -61,4 +69,22 @@ pub fn equal_messages_are_the_same(a: &Message, b: &Message) -> bool
     ensures { IsTrue result ↔ (message_value a.now ≡ message_value b.now) }
 {
     a == b
+}
+
+/// The tables of S5/S8: each is what is checked of the table of its type.
+fn tables_of_s5s8() -> Tables
+    ensures tables { map asked_kept result.tables.now ≡ map asked_in tables }
+    ensures others { result.others ≡ Others.Octets }
+{
+    S5S8
+}
+
+/// The tables of S5/S8 judge a datagram as `view` reads it.
+pub fn s5s8_is_judged_as_viewed(octets: &[u8]) -> Result<(), V2Fault>
+    ensures found { IfOk result (λ _. (d : DatagramValue) × IsDatagram octets.now d) }
+    ensures only { (d : DatagramValue) → IsDatagram octets.now d → result ≡ Ok tt }
+    ensures first { (f : AnyFault) → IsDatagramFault octets.now f → result ≡ Err f }
+    ensures fault { IfErr result (λ f. IsDatagramFault octets.now f) }
+{
+    judge(&tables_of_s5s8(), octets)
 }

@@ -1,6 +1,7 @@
 //! GTPv2-C messages (TS 29.274 clauses 5 to 8).
 #![tactic(auto)]
 
+mod asked;
 mod body;
 mod boxed;
 mod check;
@@ -12,6 +13,7 @@ mod fault;
 pub mod flags;
 mod grouped_rows;
 mod header;
+mod judging;
 pub mod kinds;
 pub mod laws;
 mod list;
@@ -26,6 +28,7 @@ mod values;
 mod viewing;
 mod writing;
 
+pub use asked::{Asked, Others, Tables};
 pub use body::{
     BearerRequestContext, BearerResponseContext, Body, CreateBearerRequest, CreateBearerResponse,
     CreateSessionRequest, CreateSessionResponse, DeleteBearerRequest, DeleteBearerResponse,
@@ -38,8 +41,11 @@ pub use decoding::decode;
 pub use encoding::{encode, encode_pair, pair};
 pub use fault::{BAD_ELEMENT, Head, MISSING_ELEMENT, V2Fault};
 pub use gtp_ie::kinds::BEARER_CONTEXT;
+pub use judging::judge;
 pub use list::Listed;
 pub use message::{Datagram, Message};
+pub use required_rows::S5S8;
+pub use table::{Line, Row};
 pub use values::Values;
 pub use viewing::{DatagramView, MessageView, view};
 

@@ -6,6 +6,7 @@ ghost use Rattle.std.specs.Prelude.{◌≡◌, option_map};
 ghost use Rattle.gtp_v2.specs.reading.Lines.{shape_of, shape_in};
 ghost use Rattle.gtp_v2.specs.Tables.{table_of};
 
+use crate::asked::{Asked, Others, Tables};
 use crate::kinds::{
     CREATE_BEARER_REQUEST, CREATE_BEARER_RESPONSE, CREATE_SESSION_REQUEST, CREATE_SESSION_RESPONSE,
     DELETE_BEARER_REQUEST, DELETE_BEARER_RESPONSE, DELETE_SESSION_REQUEST, DELETE_SESSION_RESPONSE,
@@ -113,6 +114,71 @@ const DELETE_BEARER_RESPONSE_LINES: &[Line] = &[
         REMOVAL_RESPONSE_CONTEXT_ROWS,
     ), // Bearer Context
 ];
+
+/// What each type of message asks that has a table here.
+const TABLES: &[Asked] = &[
+    Asked {
+        kind: ECHO_REQUEST,
+        has_teid: Some(false),
+        lines: ECHO_REQUEST_LINES,
+    },
+    Asked {
+        kind: ECHO_RESPONSE,
+        has_teid: Some(false),
+        lines: ECHO_RESPONSE_LINES,
+    },
+    Asked {
+        kind: VERSION_NOT_SUPPORTED,
+        has_teid: Some(false),
+        lines: VERSION_NOT_SUPPORTED_LINES,
+    },
+    Asked {
+        kind: CREATE_SESSION_REQUEST,
+        has_teid: Some(true),
+        lines: CREATE_SESSION_REQUEST_LINES,
+    },
+    Asked {
+        kind: CREATE_SESSION_RESPONSE,
+        has_teid: Some(true),
+        lines: CREATE_SESSION_RESPONSE_LINES,
+    },
+    Asked {
+        kind: DELETE_SESSION_REQUEST,
+        has_teid: Some(true),
+        lines: DELETE_SESSION_REQUEST_LINES,
+    },
+    Asked {
+        kind: DELETE_SESSION_RESPONSE,
+        has_teid: Some(true),
+        lines: DELETE_SESSION_RESPONSE_LINES,
+    },
+    Asked {
+        kind: CREATE_BEARER_REQUEST,
+        has_teid: Some(true),
+        lines: CREATE_BEARER_REQUEST_LINES,
+    },
+    Asked {
+        kind: CREATE_BEARER_RESPONSE,
+        has_teid: Some(true),
+        lines: CREATE_BEARER_RESPONSE_LINES,
+    },
+    Asked {
+        kind: DELETE_BEARER_REQUEST,
+        has_teid: Some(true),
+        lines: DELETE_BEARER_REQUEST_LINES,
+    },
+    Asked {
+        kind: DELETE_BEARER_RESPONSE,
+        has_teid: Some(true),
+        lines: DELETE_BEARER_RESPONSE_LINES,
+    },
+];
+
+/// What S5/S8 asks: the tables here; of a message of another type nothing, and it is octets.
+pub const S5S8: Tables = Tables {
+    tables: TABLES,
+    others: Others::Octets,
+};
 
 /// What a type of message asks, where it has a table.
 pub fn asked_of(kind: u8) -> Option<Shape>

@@ -46,7 +46,7 @@ pub struct Shape {
 
 impl Row {
     /// Who needs it.
-    pub fn need(&self, accepting: bool) -> Need
+    pub(crate) fn need(&self, accepting: bool) -> Need
         ensures { result ≡ need_of accepting self.now }
     {
         match self {
@@ -58,7 +58,7 @@ impl Row {
     }
 
     /// The type of its element.
-    pub fn kind(&self) -> u8
+    pub(crate) fn kind(&self) -> u8
         ensures { result ≡ kind_of self.now }
     {
         match self {
@@ -70,7 +70,7 @@ impl Row {
     }
 
     /// The instance of its element.
-    pub fn instance(&self) -> u8
+    pub(crate) fn instance(&self) -> u8
         ensures { result ≡ instance_of self.now }
     {
         match self {

@@ -12,7 +12,7 @@ ghost use Rattle.gtp_v2.specs.reading.Checked.{forgotten};
 ghost use Rattle.gtp_v2.specs.Viewed.{optional_at, Viewed, in_row, has_row, row_of, always_has, front_value, in_groups, inner_of, values_in, in_list, has_several, several_of, values_of};
 ghost use Rattle.gtp_v2.specs.Viewed.{has_contexts, context_rows, contexts_of, always_has_context, context_always_has};
 ghost use Rattle.gtp_v2.specs.Message.{raw_of, MessageGives, MessageAllocates, ContentAllocates};
-ghost use Rattle.gtp_v2.specs.reading.Message.{typed_at, content_at, message_at};
+ghost use Rattle.gtp_v2.specs.reading.Message.{has_form, typed_by, content_at, message_at};
 ghost use Rattle.gtp_v2.specs.Body.{content_of, kind_of, message_value, OctetsOnlyWithoutTable};
 ghost use Rattle.gtp_v2.specs.Pair.{DatagramValue, IsDatagram, IsDatagramFault, LiesIn, LieIn, OfEach, DatagramAllocates, both, datagram_seen, datagram_value, second_of};
 ghost use Rattle.gtp_v2.specs.reading.Pair.{second_at, announced_at, datagram_at};
@@ -88,20 +88,30 @@ impl<'a> Model for DatagramView<'a> {
     ghost invariant = { λ a. IsBack a.back.now };
 }
 
-/// The elements after a header, which has a TEID exactly where that is asked; they have what these lines
-/// ask.
-#[tactic(auto, unfolding(crate::specs::reading::Message::typed_at, crate::specs::reading::Message::list_at))]
-fn view_typed<'a>(
-    has_teid: bool,
+/// Whether a header has a TEID exactly where one is asked for.
+fn has_form(has_teid: Option<bool>, header: &Header) -> bool
+    ensures { result ≡ has_form has_teid (headed_of header.now) }
+{
+    match has_teid {
+        Some(asked) => header.teid.is_some() == asked,
+        None => true,
+    }
+}
+
+/// The elements after a header, which has a TEID exactly where one is asked for; they have what these
+/// lines ask.
+#[tactic(auto, unfolding(crate::specs::reading::Message::typed_by, crate::specs::reading::Message::list_by))]
+pub fn view_typed<'a>(
+    has_teid: Option<bool>,
     lines: &[Line],
     header: &Header<'a>,
 ) -> Result<Indexed<'a>, V2Fault>
-    ensures reads { Gives (λ _. tt) result (forgotten (typed_at has_teid (map line_of lines.now)
+    ensures reads { Gives (λ _. tt) result (forgotten (typed_by has_teid (map line_of lines.now)
         (headed_of header.now))) }
     ensures elements { IfOk result (λ es. es
         ≡ list_of (elements_of header.now.at header.now.rest.now)) }
 {
-    if header.teid.is_some() != has_teid {
+    if !has_form(has_teid, header) {
         return Err(V2Fault::FlagT { kind: header.kind });
     }
     let elements = match indexed_at(header.rest, header.at) {
@@ -123,7 +133,7 @@ fn view_content<'a>(header: &Header<'a>) -> Result<Option<Indexed<'a>>, V2Fault>
 {
     match asked_of(header.kind) {
         Some(asked) => {
-            let elements = view_typed(asked.has_teid, asked.lines, header)?;
+            let elements = view_typed(Some(asked.has_teid), asked.lines, header)?;
             Ok(Some(elements))
         }
         None => Ok(None),

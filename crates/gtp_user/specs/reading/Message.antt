@@ -4,7 +4,7 @@ use Rattle.std.specs.Prelude.{ℕ, List, length, Option, Some, None, Result, Ok,
 use Rattle.gtp_user.specs.declared.fault.UserFault.{UserFault}
 use Rattle.gtp_user.specs.declared.fault.UserFault.TheVariants as faults
 use Rattle.gtp_values.specs.Steps.{◌>>=◌}
-use Rattle.gtp_user.specs.reading.Walk.{Chained, chain_at}
+use Rattle.gtp_user.specs.reading.Walk.{Chained, chain_at, chain_by, tail_by}
 use Rattle.gtp_user.specs.Headed.{Headed}
 use Rattle.gtp_user.specs.reading.Headed.{header_at}
 use Rattle.gtp_user.specs.reading.Elements.{Found}
@@ -46,3 +46,21 @@ message_at octets = do
   c ← chain_at (length octets) h.first h.rest
   content ← body_at (length octets) h.kind h.teid c.rest
   Ok (message_of h c content)
+
+-- ---- where further types of extension headers are understood
+
+-- the message that a datagram spells
+unfoldable pub message_with : List ℕ → List ℕ → Result MessageValue UserFault
+message_with understood octets = do
+  h ← header_at octets
+  c ← chain_by understood (length octets) h.first h.rest
+  content ← body_at (length octets) h.kind h.teid c.rest
+  Ok (message_of h c content)
+
+-- that it spells one
+unfoldable pub judged : List ℕ → List ℕ → Result (Unit {0}) UserFault
+judged understood octets = do
+  h ← header_at octets
+  tail ← tail_by understood (length octets) h.first h.rest
+  content ← body_at (length octets) h.kind h.teid tail
+  Ok tt

@@ -1,5 +1,5 @@
 -- Reading functions, for private contracts, models of private fields and proofs: a chain of extension headers, one after the other.
-use Rattle.std.specs.Prelude.{◌≡◌, ℕ, zero, suc, ◌+◌, ◌-◌, ◌*◌, List, [], ◌∷◌, length, take, drop, slice_index, Option, Some, None, Result, Ok, Err, nat_lt, nat_le, ◌==◌, if◌then◌else◌}
+use Rattle.std.specs.Prelude.{◌≡◌, ℕ, zero, suc, ◌+◌, ◌-◌, ◌*◌, List, [], ◌∷◌, length, take, drop, slice_index, Bool, false, ◌||◌, Option, Some, None, Result, Ok, Err, nat_lt, nat_le, ◌==◌, if◌then◌else◌}
 use Rattle.gtp_user.specs.declared.fault.UserFault.{UserFault}
 use Rattle.gtp_user.specs.declared.fault.UserFault.TheVariants as faults
 use Rattle.gtp_values.specs.Steps.{◌>>=◌}
@@ -28,16 +28,37 @@ pub record Chained : Type 0 where
 abbrev pub with_front : ℕ → Front → Chained → Chained
 with_front kind front c = record { headers = record { kind = kind; content = front.content } ∷ c.headers; rest = c.rest }
 
+-- whether a type is one of these
+abbrev pub is_understood : List ℕ → ℕ → Bool
+is_understood [] kind = false
+is_understood (known ∷ understood) kind = (kind == known) || is_understood understood kind
+
+-- the type as which a header is read: one that is understood as the first one, which need not be understood
+abbrev pub read_as : List ℕ → ℕ → ℕ
+read_as understood kind = if is_understood understood kind then 1 else kind
+
+-- the header at the start, where these types are understood
+abbrev pub front_by : List ℕ → ℕ → ℕ → List ℕ → Result Front UserFault
+front_by understood end kind octets = front_at end (read_as understood kind) octets
+
 -- the chain from this type on, in at most so many steps
-unfoldable pub walk : ℕ → ℕ → ℕ → List ℕ → Result Chained UserFault
-walk zero end kind octets = if kind == 0 then Ok (record { headers = []; rest = octets }) else Err (faults.ExtensionPast end)
-walk (suc steps) end kind octets =
+unfoldable pub walk : List ℕ → ℕ → ℕ → ℕ → List ℕ → Result Chained UserFault
+walk understood zero end kind octets = if kind == 0 then Ok (record { headers = []; rest = octets }) else Err (faults.ExtensionPast end)
+walk understood (suc steps) end kind octets =
     if kind == 0 then Ok (record { headers = []; rest = octets })
-    else (front_at end kind octets >>= λ front. walk steps end front.next front.rest >>= λ c. Ok (with_front kind front c))
+    else (front_by understood end kind octets >>= λ front. walk understood steps end front.next front.rest >>= λ c. Ok (with_front kind front c))
 
 -- the chain that begins the octets
-unfoldable pub chain_at : ℕ → ℕ → List ℕ → Result Chained UserFault
-chain_at end kind octets = walk (length octets) end kind octets
+unfoldable pub chain_by : List ℕ → ℕ → ℕ → List ℕ → Result Chained UserFault
+chain_by understood end kind octets = walk understood (length octets) end kind octets
+
+-- the octets after it
+unfoldable pub tail_by : List ℕ → ℕ → ℕ → List ℕ → Result (List ℕ) UserFault
+tail_by understood end kind octets = chain_by understood end kind octets >>= λ c. Ok c.rest
+
+-- where no type from 128 on is understood
+abbrev pub chain_at : ℕ → ℕ → List ℕ → Result Chained UserFault
+chain_at = chain_by []
 
 -- the headers, or none
 abbrev pub headers_of : Result Chained UserFault → List Extension

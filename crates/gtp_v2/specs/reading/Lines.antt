@@ -1,17 +1,13 @@
 -- Reading, for private contracts and proofs: the lines of a table as the program has them, for checking.
-use Rattle.std.specs.Prelude.{Bool, true, false, ◌==◌, ◌&&◌, not, List, [], ◌∷◌, map, if◌then◌else◌}
+use Rattle.std.specs.Prelude.{ℕ, Bool, true, false, ◌==◌, ◌&&◌, not, List, [], ◌∷◌, map, if◌then◌else◌}
 use Rattle.gtp_ie.specs.Form.{number_of}
 use Rattle.gtp_ie.specs.declared.form.Form.TheVariants.{Cause}
-use Rattle.gtp_v2.specs.declared.table.Line.{Line as Kept}
-use Rattle.gtp_v2.specs.declared.table.Line.TheVariants as kept
 use Rattle.gtp_v2.specs.declared.table.Shape.{Shape}
+use Rattle.gtp_v2.specs.declared.asked.Asked.{Asked}
+use Rattle.gtp_v2.specs.Asks.{Asks, asks_by}
+use Rattle.gtp_v2.specs.Asked.{asks_kept}
+pub use Rattle.gtp_v2.specs.Asked.{line_of}
 use Rattle.gtp_v2.specs.Table.{Row, Optional, Table, Line, Single, Grouped, Several}
-
--- a line, without where its rows lie
-abbrev pub line_of : Kept → Line
-line_of (kept.Single row) = Single row
-line_of (kept.Grouped row rows) = Grouped row rows.now
-line_of (kept.Several kind instance missed) = Several kind instance missed
 
 -- an optional row is never at fault; unless it is a cause, no other row depends on its value
 abbrev pub is_unchecked : Row → Bool
@@ -43,3 +39,14 @@ shape_in table = (table.has_teid, checked_lines table.lines)
 
 abbrev pub shape_of : Shape → Bool × List Line
 shape_of shape = (shape.has_teid, map line_of shape.lines.now)
+
+-- what is checked of what is asked
+abbrev pub checked : Asks → Asks
+checked asks = record { has_teid = asks.has_teid; lines = checked_lines asks.lines }
+
+-- a type and what of its table is checked, and the same of the program's
+abbrev pub asked_in : Table → ℕ × Asks
+asked_in table = (table.kind, checked (asks_by table))
+
+abbrev pub asked_kept : Asked → ℕ × Asks
+asked_kept asked = (asked.kind, asks_kept asked)

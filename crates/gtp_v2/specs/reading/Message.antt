@@ -1,6 +1,6 @@
 -- Reading functions, for private contracts and proofs: what a message says, or its first fault. `gtp_machine` cites
 -- `message_at` in its `control_reading`, and has a law that this is the grammar's answer (`ControlByGrammar`).
-use Rattle.std.specs.Prelude.{ℕ, Bool, List, Option, Some, None, is_some, Result, Ok, Err, ◌==◌, if◌then◌else◌}
+use Rattle.std.specs.Prelude.{ℕ, Bool, true, List, Option, Some, None, is_some, Result, Ok, Err, ◌==◌, if◌then◌else◌}
 use Rattle.std.specs.Bool.{beq}
 use Rattle.gtp_values.specs.Steps.{◌>>=◌}
 use Rattle.gtp_ie.specs.Element.{Element, elements_of}
@@ -19,6 +19,7 @@ use Rattle.gtp_v2.specs.Headed.{Headed}
 use Rattle.gtp_v2.specs.reading.Headed.{header_at}
 use Rattle.gtp_v2.specs.CreateSessionRequest.{create_session_request}
 use Rattle.gtp_v2.specs.Tables.{table_of}
+use Rattle.gtp_v2.specs.Asks.{Asks}
 use Rattle.gtp_v2.specs.Message.{head_of, with_head, Content, Fields, Raw, MessageValue, with_content}
 
 -- a reading of elements or rows, its fault told with the head
@@ -74,4 +75,31 @@ unfoldable pub message_at : List ℕ → Result MessageValue V2Fault
 message_at octets = do
   h ← header_at octets
   content ← content_at h
+  Ok (with_content h content)
+
+-- ---- by what is asked of each type
+
+-- a header has the form that is asked for
+abbrev pub has_form : Option Bool → Headed → Bool
+has_form None h = true
+has_form (Some has_teid) h = beq (is_some h.teid) has_teid
+
+-- the elements after a header
+unfoldable pub list_by : Option Bool → Headed → Result (List Element) V2Fault
+list_by form h = if has_form form h then told (head_of h None) (whole (elements_of h.at h.rest)) else Err (faults.FlagT h.kind)
+
+-- the fields of a message of which lines are asked
+unfoldable pub typed_by : Option Bool → List Line → Headed → Result (List Field) V2Fault
+typed_by form lines h = list_by form h >>= λ es. fields_at lines h es
+
+-- what a message carries
+abbrev pub content_by : Option Asks → Headed → Result Content V2Fault
+content_by None h = Ok (Raw h.rest)
+content_by (Some asks) h = as_fields (typed_by asks.has_teid asks.lines h)
+
+-- the message that octets spell
+unfoldable pub message_by : (ℕ → Option Asks) → List ℕ → Result MessageValue V2Fault
+message_by asked octets = do
+  h ← header_at octets
+  content ← content_by (asked h.kind) h
   Ok (with_content h content)

@@ -2,7 +2,7 @@ use Rattle.std.proofs.Common.{true, ap, ap₂, codes, [], ◌≡◌, ◌∙◌}
 use Rattle.std.proofs.lemmas.Result.{IfOk-weaker}
 use Rattle.clap.specs.Simple.{app_of_fields}
 use Rattle.clap.specs.Words.{App, app_of, new_app, with_subcommand}
-use Rattle.gtp_commands.specs.Words.{decode_words, capture_words, replay_words, gateway_words, gtpshow_word}
+use Rattle.gtp_commands.specs.Words.{decode_words, capture_words, replay_words, gateway_words, node_words, gtpshow_word}
 use Rattle.gtp_commands.proofs.command.command.Goals as goal
 
 abbrev requiring : App → App
@@ -30,6 +30,10 @@ returns c =
     (with_subcommand (with_subcommand (with_subcommand (record { top = gtpshow_word; subs = [] }) decode_words.top) capture_words.top)
     replay_words.top) gateway_words.top = c.in_ok-subcommand-4.ensures.shape c.gateway_command.ensures.own ∙ ap₂ with_subcommand third
     (ap (λ (a : App). a.top) c.gateway_command.ensures.words) in
-    IfOk-weaker c.subcommand-5.result _ _
-    (λ r h. h.shape c.in_ok-explain_command.ensures.own ∙ ap₂ with_subcommand fourth (ap (λ (a : App). a.top) c.in_ok-explain_command.ensures.words))
-    c.subcommand-5.ensures
+    let fifth : app_of c.in_ok-subcommand-5.field-0 ≡ with_subcommand (with_subcommand
+    (with_subcommand (with_subcommand (with_subcommand (record { top = gtpshow_word; subs = [] }) decode_words.top) capture_words.top)
+    replay_words.top) gateway_words.top) node_words.top = c.in_ok-subcommand-5.ensures.shape c.node_command.ensures.own ∙ ap₂ with_subcommand fourth
+    (ap (λ (a : App). a.top) c.node_command.ensures.words) in
+    IfOk-weaker c.subcommand-6.result _ _
+    (λ r h. h.shape c.in_ok-explain_command.ensures.own ∙ ap₂ with_subcommand fifth (ap (λ (a : App). a.top) c.in_ok-explain_command.ensures.words))
+    c.subcommand-6.ensures

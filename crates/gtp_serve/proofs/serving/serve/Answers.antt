@@ -11,17 +11,17 @@ returns-clause-served g c =
     let write = g.W.Write.contents in
     let begins = subst (Appends (write c.args.writer.now.inner) (write c.write_line.new.writer.inner)) (c.deref.ensures.value ∙ c.in-Ok-word_line.ensures) c.in_default-write_line.ensures.written in
     on_ok_weaker c.answer_lines.result
-    (all_served (g.R.Read.remaining c.args.reader.now.inner) (g.R.Read.remaining c.start.new.reader.inner) (g.R.Read.remaining c.answer_lines.new.reader.inner)
-    (write c.args.writer.now.inner) (write c.write_line.new.writer.inner) (write c.answer_lines.new.writer.inner) c.in-Ok.started.0 c.in-Ok.started.1
-    c.answer_lines.new.gateway c.in-Ok.ensures.started begins) c.answer_lines.ensures.all
+    (all_served g.S.Server.Starts g.S.Server.Does (g.R.Read.remaining c.args.reader.now.inner) (g.R.Read.remaining c.start.new.reader.inner) (g.R.Read.remaining c.answer_lines.new.reader.inner)
+    (write c.args.writer.now.inner) (write c.write_line.new.writer.inner) (write c.answer_lines.new.writer.inner) c.in-Ok.started
+    c.answer_lines.new.server c.in-Ok.ensures.started begins) c.answer_lines.ensures.all
 
 pub returns-clause-first : goal.returns-clause-first
 returns-clause-first g c =
     let write = g.W.Write.contents in
     let begins = subst (Appends (write c.args.writer.now.inner) (write c.write_line.new.writer.inner)) (c.deref.ensures.value ∙ c.in-Ok-word_line.ensures) c.in_default-write_line.ensures.written in
     IfErr-weaker c.answer_lines.result _ _
-    (λ fault first other unclosed. first_served (g.R.Read.remaining c.args.reader.now.inner) (g.R.Read.remaining c.start.new.reader.inner)
-    (write c.args.writer.now.inner) (write c.write_line.new.writer.inner) (write c.answer_lines.new.writer.inner) c.in-Ok.started.0 c.in-Ok.started.1
+    (λ fault first other unclosed. first_served g.S.Server.Starts g.S.Server.Does (g.R.Read.remaining c.args.reader.now.inner) (g.R.Read.remaining c.start.new.reader.inner)
+    (write c.args.writer.now.inner) (write c.write_line.new.writer.inner) (write c.answer_lines.new.writer.inner) c.in-Ok.started
     c.in-Ok.ensures.started begins (first other unclosed)) c.answer_lines.ensures.first
 
 pub returns-clause-front : goal.returns-clause-front
@@ -29,13 +29,13 @@ returns-clause-front g c =
     let write = g.W.Write.contents in
     let begins = subst (Appends (write c.args.writer.now.inner) (write c.write_line.new.writer.inner)) (c.deref.ensures.value ∙ c.in-Ok-word_line.ensures) c.in_default-write_line.ensures.written in
     on_err_weaker c.answer_lines.result
-    (served_in_part (g.R.Read.remaining c.args.reader.now.inner) (g.R.Read.remaining c.start.new.reader.inner)
-    (write c.args.writer.now.inner) (write c.write_line.new.writer.inner) (write c.answer_lines.new.writer.inner) c.in-Ok.started.0 c.in-Ok.started.1
+    (served_in_part g.S.Server.Starts g.S.Server.Does (g.R.Read.remaining c.args.reader.now.inner) (g.R.Read.remaining c.start.new.reader.inner)
+    (write c.args.writer.now.inner) (write c.write_line.new.writer.inner) (write c.answer_lines.new.writer.inner) c.in-Ok.started
     c.in-Ok.ensures.started begins) c.answer_lines.ensures.front
 
 pub returns-clause-long : goal.returns-clause-long
 returns-clause-long g c e =
-    long_whole (g.R.Read.remaining c.args.reader.now.inner) (g.R.Read.remaining c.start.new.reader.inner) c.in-Ok.started.0 c.in-Ok.started.1
+    long_whole g.S.Server.Starts g.S.Server.Does (g.R.Read.remaining c.args.reader.now.inner) (g.R.Read.remaining c.start.new.reader.inner) c.in-Ok.started
     c.in-Ok.ensures.started (c.answer_lines.ensures.long e)
 
 pub returns-clause-reads : goal.returns-clause-reads
@@ -60,6 +60,6 @@ returns-clause-writes g c =
 pub returns-in-Err-write_line-clause-front : goal.returns-in-Err-write_line-clause-front
 returns-in-Err-write_line-clause-front g c =
     let write = g.W.Write.contents in
-    start_in_part (g.R.Read.remaining c.args.reader.now.inner) (g.R.Read.remaining c.start.new.reader.inner)
-    (write c.args.writer.now.inner) (write c.write_line.new.writer.inner) c.in-Ok.started.0 c.in-Ok.started.1 c.in-Ok.ensures.started
+    start_in_part g.S.Server.Starts g.S.Server.Does (g.R.Read.remaining c.args.reader.now.inner) (g.R.Read.remaining c.start.new.reader.inner)
+    (write c.args.writer.now.inner) (write c.write_line.new.writer.inner) c.in-Ok.started c.in-Ok.ensures.started
     (subst (WritesFront (write c.args.writer.now.inner) (write c.write_line.new.writer.inner)) (c.deref.ensures.value ∙ c.in-Ok-word_line.ensures) c.in-Err-write_line.ensures.front)

@@ -1,0 +1,4 @@
+pub mod First
+pub mod Exact
+pub mod Routing
+pub mod Pairs

@@ -1,0 +1,4 @@
+-- what clauses of public functions speak of
+pub mod Places
+pub mod Routing
+pub mod Network
