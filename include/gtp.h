@@ -1,11 +1,11 @@
 /* libgtp_c: GTPv2-C (TS 29.274) and GTP-U (TS 29.281) of the S5/S8 interface, proved: datagrams read in place, written to a
- * buffer, and a serving or packet gateway. docs/C.md says what is proved.
+ * buffer, a serving or packet gateway, and the places of many peers. docs/C.md says what is proved.
  *
  * What a caller keeps (nothing checks it):
- *  1. A gtp_gateway is zeroed, or as the last call left it. It is not changed, and not used beside a copy of itself; a copy that
- *     takes its place, as by a move, is fine. A gateway that was opened is freed, or its memory is lost.
- *  2. One call at a time for a gateway. Calls from several threads are ordered, by a lock, by the start or join of a thread, or
- *     by an atomic with sequential consistency. A gateway may go to another thread; there is no global state.
+ *  1. A gtp_gateway or gtp_places is zeroed, or as the last call left it. It is not changed, and not used beside a copy of itself;
+ *     a copy that takes its place, as by a move, is fine. One that was opened is freed, or its memory is lost.
+ *  2. One call at a time for a gateway, and for a gtp_places. Calls from several threads are ordered, by a lock, by the start or
+ *     join of a thread, or by an atomic with sequential consistency. Either may go to another thread; there is no global state.
  *  3. Pointers are not NULL, not even with a length of 0; each is to as much memory as its length says, aligned for its type, and
  *     initialised (zeroes do), also a struct or buffer that a call only writes. What a call writes overlaps nothing else that the
  *     same call is handed. A bool is 0 or 1.
@@ -14,7 +14,8 @@
  * No call keeps a pointer, reads past a length, writes past one, or waits. Every call ends. Nothing here needs a clock or a
  * socket: the caller hands in what came, sends what is taken, and calls gtp_gateway_tick at even intervals.
  *
- * Every call answers an enum gtp_status. Any status but GTP_DONE leaves the gateway as it was, with all that waits to be sent.
+ * Every call answers an enum gtp_status. Any status but GTP_DONE leaves the gateway as it was, with all that waits to be sent, and
+ * the gtp_places.
  * Only GTP_DONE fills what a call writes, with these exceptions: GTP_REFUSED fills `told`, GTP_TOO_SMALL fills `datagram` or
  * `size`, GTP_FAULTY fills `fault`. Places and lengths count octets. An identifier (TEID) is a number in the machine's order. */
 #ifndef GTP_H
@@ -33,11 +34,11 @@ enum gtp_status {
     GTP_BAD_VALUE = 1,      /* a value is out of its range */
     GTP_NO_MEMORY = 2,      /* an allocation was refused; the same call may be made again */
     GTP_FULL = 3,           /* more than 4,096 datagrams wait to be taken */
-    GTP_NONE = 4,           /* there is none: no datagram waits, no element, session or bearer is there */
+    GTP_NONE = 4,           /* there is none: no datagram waits, no element, session, bearer or address is there */
     GTP_TOO_SMALL = 5,      /* the buffer has too little room */
     GTP_REFUSED = 6,        /* the gateway refuses the command: told->outcome.cause says by which rule */
-    GTP_EMPTY = 7,          /* no gateway is open here */
-    GTP_NOT_EMPTY = 8,      /* gtp_gateway_new: a gateway is open here */
+    GTP_EMPTY = 7,          /* no gateway is open here, or no gtp_places */
+    GTP_NOT_EMPTY = 8,      /* gtp_gateway_new, gtp_places_new: one is open here */
     GTP_FAULTY = 9,         /* the octets are no message, or no whole element */
     GTP_SHORT_VALUE = 10,   /* the body is below the least length of its form */
     GTP_NO_VALUE = 11       /* the body is long enough, and says nothing */
@@ -217,6 +218,14 @@ struct gtp_template {                   /* the dedicated bearer that a packet ga
     uint8_t access_point;               /* its place among the names, from 0 */
     uint8_t tft_len, tft[255];          /* its traffic flow template: how many octets, and they */
 };
+/* Optional behaviour, by default off. */
+enum gtp_switch {
+    GTP_SWITCH_NETWORK_IDENTIFIERS = 1, /* a packet gateway compares the names of access points by their network identifiers (TS 23.003
+                                           9.1): without an operator identifier at the end of either name, upper and lower case
+                                           alike. One that is written as it is asked for comes first */
+    GTP_SWITCH_VERSION_NOT_SUPPORTED = 2 /* a datagram of the control plane of another version than 2 is answered with a Version Not
+                                           Supported Indication (TS 29.274 7.7.2), unless its type, the second octet, is 3 */
+};
 struct gtp_setup {
     struct gtp_address own_control, own_user, peer_control, peer_user;
     uint8_t pool6[16];                  /* the first IPv6 address for sessions: each has a prefix of 64 bits of its own */
@@ -228,6 +237,7 @@ struct gtp_setup {
                                            good: no pool goes past the last address, each template is of an access point */
     uint8_t counter;                    /* the restart counter, one more at each start (TS 23.007 18) */
     uint8_t template_count;             /* at most 16; 0: none */
+    uint8_t switches;                   /* of enum gtp_switch, joined by |; 0: none */
     struct gtp_template templates[16];  /* so many of them count: of several for one access point the last. With each session of an
                                            access point that has one the packet gateway asks for such a bearer, in a second message of
                                            the datagram that answers for the session (TS 29.274 5.5.1) */
@@ -236,7 +246,7 @@ enum gtp_setup_value {
     GTP_SETUP_GOOD,             /* none */
     GTP_SETUP_ROLE, GTP_SETUP_OWN_CONTROL, GTP_SETUP_OWN_USER, GTP_SETUP_PEER_CONTROL, GTP_SETUP_PEER_USER,
     GTP_SETUP_ACCESS_POINTS, GTP_SETUP_T3, GTP_SETUP_N3, GTP_SETUP_HOLD, GTP_SETUP_POOL, GTP_SETUP_POOL6,
-    GTP_SETUP_TEMPLATE_COUNT, GTP_SETUP_TEMPLATES
+    GTP_SETUP_TEMPLATE_COUNT, GTP_SETUP_TEMPLATES, GTP_SETUP_SWITCHES
 };
 /* A value for which gtp_gateway_new answers GTP_BAD_VALUE, of several one of them. No memory is taken. */
 uint8_t gtp_setup_bad_value(const struct gtp_setup *setup, const uint8_t *access_points, size_t len);
@@ -262,7 +272,8 @@ enum gtp_outcome_kind {
     GTP_ACCEPTED,           /* a packet came on the bearer told->teid */
     GTP_ENDED,              /* an End Marker came */
     GTP_BROKEN,             /* an Error Indication came, and its session or bearer is gone */
-    GTP_DROPPED,            /* a datagram was dropped; cause: X1 to X11 (docs/PROTOCOL.md); of X1, fault is its number after H or U */
+    GTP_DROPPED,            /* a datagram was dropped; cause: X1 to X12 (docs/PROTOCOL.md); of X1, fault is its number after H or U;
+                               of X6, X10 and X12 a datagram may wait for its sender */
     GTP_TICKED              /* a tick passed */
 };
 struct gtp_outcome { uint8_t kind, cause, fault; };
@@ -346,6 +357,29 @@ uint8_t gtp_gateway_bearer(gtp_gateway *gateway, uint32_t teid, struct gtp_beare
 /* By place, from 0, in the order of the gateway's own TEIDs. Each place takes the same time. GTP_NONE: behind the last. */
 uint8_t gtp_gateway_session_at(gtp_gateway *gateway, uint64_t place, struct gtp_session_row *row);
 uint8_t gtp_gateway_bearer_at(gtp_gateway *gateway, uint64_t place, struct gtp_bearer_row *row);
+
+/* ---- Many peers: a gateway for each, in an array of the caller's. A gtp_places has the addresses of the peers on one plane, in the
+ * order of the array, and says to which of them a datagram goes:
+ *
+ *     uint64_t peer = 0;
+ *     if (gtp_places_find(&places[plane], &source.address, &peer) == GTP_DONE)
+ *         gtp_gateway_receive(&gateways[peer], &source, plane, octets, len, &told);
+ * ---- */
+
+/* Opaque. Begin with all zeroes: gtp_places places = {0}; */
+typedef struct gtp_places { void *hidden; uint64_t count; } gtp_places;
+/* Opens it without addresses; it is empty before. */
+uint8_t gtp_places_new(gtp_places *places);
+/* Lets the addresses go. It is empty then, and may be opened again. */
+uint8_t gtp_places_free(gtp_places *places);
+/* Adds an address behind all others, also one that is there. GTP_BAD_VALUE: the version is neither 4 nor 6. */
+uint8_t gtp_places_add(gtp_places *places, const struct gtp_address *address);
+/* Takes the last address away, as where the gateway of its peer could not be opened. GTP_NONE: there is none. */
+uint8_t gtp_places_pop(gtp_places *places);
+/* The first place of an address, from 0, in the order in which they were added, in time that grows with the logarithm of their number.
+ * No memory is taken. An IPv6 address that maps an IPv4 address is another one. GTP_NONE: the address is not there, so a datagram from
+ * it is of no peer. GTP_BAD_VALUE: as above. */
+uint8_t gtp_places_find(gtp_places *places, const struct gtp_address *address, uint64_t *place);
 
 #ifdef __cplusplus
 }

@@ -109,9 +109,10 @@ static void step(struct talk *t) {
     answered(t, call, status, &told);
 }
 
-static void converse(uint8_t role, const uint8_t *octets, size_t len) {
+static void converse(uint8_t role, uint8_t switches, const uint8_t *octets, size_t len) {
     struct talk t = { .role = role, .at = octets, .end = octets + len };
     struct gtp_setup s = setup_of(role, false);
+    s.switches = switches;
     CHECK(gtp_gateway_new(&t.gateway, &s, text("internet"), 8) == GTP_DONE);
     while (t.at < t.end) step(&t);
     CHECK(gtp_gateway_free(&t.gateway) == GTP_DONE);
@@ -122,7 +123,8 @@ int LLVMFuzzerTestOneInput(const uint8_t *data, size_t size) {
     if (!size) return 0;
     uint8_t *octets = block(data + 1, size - 1);
     if (data[0] < 2) read_datagram(data[0], octets, size - 1);
-    else if (data[0] < 4) converse(data[0] - 2, octets, size - 1);
+    else if (data[0] < 4) converse(data[0] - 2, 0, octets, size - 1);
+    else if (data[0] < 6) converse(data[0] - 4, GTP_SWITCH_NETWORK_IDENTIFIERS | GTP_SWITCH_VERSION_NOT_SUPPORTED, octets, size - 1);
     free(octets);
     return 0;
 }

@@ -166,6 +166,50 @@ static void templates(void) {
     CHECK(gtp_gateway_free(&serving) == GTP_DONE && gtp_gateway_free(&packet) == GTP_DONE);
 }
 
+/* A session is asked for by a name in capitals and with an operator identifier, and is made only where the packet gateway compares
+ * network identifiers. */
+static void network_identifiers(void) {
+    const char name[] = "INTERNET.mnc901.mcc070.gprs";
+    for (uint8_t switches = 0; switches <= GTP_SWITCH_NETWORK_IDENTIFIERS; switches++) {
+        gtp_gateway serving = {0}, packet = {0};
+        struct gtp_setup s = setup_of(GTP_SERVING, false), p = setup_of(GTP_PACKET, false);
+        struct gtp_session wanted = wish(1);
+        struct gtp_imsi subscriber = gtp_imsi_of("001010123456789");
+        struct gtp_told told;
+        memset(&told, 0, sizeof told);
+        p.switches = switches;
+        CHECK(gtp_gateway_new(&serving, &s, text(""), 0) == GTP_DONE && gtp_gateway_new(&packet, &p, text("ims,internet"), 12) == GTP_DONE);
+        CHECK(gtp_gateway_create_session(&serving, &wanted, &subscriber, text(name), sizeof name - 1, &told) == GTP_DONE);
+        CHECK(carry(&serving, &packet, &told) == 1 && told.outcome.kind == GTP_ANSWERED && told.outcome.cause == (switches ? 16 : 78));
+        CHECK(gtp_gateway_free(&serving) == GTP_DONE && gtp_gateway_free(&packet) == GTP_DONE);
+    }
+}
+
+/* A datagram of GTPv1 is answered with the version that is supported only where the gateway does so. */
+static void versions(void) {
+    const uint8_t echo[] = { 0x32, 1, 0, 4, 0, 0, 0, 0, 0, 1, 0, 0 }, version[] = { 0x40, 3, 0, 4, 0, 0, 0, 0 };
+    for (uint8_t switches = 0; switches <= GTP_SWITCH_VERSION_NOT_SUPPORTED; switches += GTP_SWITCH_VERSION_NOT_SUPPORTED) {
+        gtp_gateway packet = {0};
+        struct gtp_setup p = setup_of(GTP_PACKET, false);
+        struct gtp_end source = { p.peer_control, 40000 };
+        struct gtp_datagram d = {0};
+        struct gtp_told told;
+        uint8_t room[8] = {0};
+        memset(&told, 0, sizeof told);
+        p.switches = switches;
+        CHECK(gtp_gateway_new(&packet, &p, text("internet"), 8) == GTP_DONE);
+        CHECK(gtp_gateway_receive(&packet, &source, GTP_CONTROL, echo, sizeof echo, &told) == GTP_DONE && told.outcome.kind == GTP_DROPPED);
+        CHECK(told.outcome.cause == (switches ? 12 : 1) && told.outcome.fault == (switches ? 0 : 2));
+        CHECK(told.waiting == (switches ? 1 : 0));
+        if (switches) {
+            CHECK(gtp_gateway_take(&packet, room, sizeof room, &d) == GTP_DONE && d.len == sizeof version);
+            CHECK(!memcmp(room, version, sizeof version) && !memcmp(&d.to, &source, sizeof source));
+        }
+        CHECK(gtp_gateway_take(&packet, room, sizeof room, &d) == GTP_NONE);
+        CHECK(gtp_gateway_free(&packet) == GTP_DONE);
+    }
+}
+
 /* Every call on a handle that is empty says so and changes nothing. */
 static void empty(gtp_gateway *g) {
     struct gtp_told told; struct gtp_datagram d; struct gtp_session_row sr; struct gtp_bearer_row br;
@@ -207,6 +251,9 @@ static void bad_setups(const struct gtp_setup *s) {
     NAMES(GTP_SETUP_TEMPLATE_COUNT, bad.template_count = 17);
     NAMES(GTP_SETUP_TEMPLATES, bad.template_count = 1; bad.templates[0].access_point = 1);
     NAMES(GTP_SETUP_TEMPLATES, bad.template_count = 1; bad.templates[0].access_point = 0; bad.templates[0].quality.pl = 16);
+    NAMES(GTP_SETUP_GOOD, bad.switches = GTP_SWITCH_NETWORK_IDENTIFIERS);
+    NAMES(GTP_SETUP_GOOD, bad.switches = GTP_SWITCH_NETWORK_IDENTIFIERS + GTP_SWITCH_VERSION_NOT_SUPPORTED);
+    NAMES(GTP_SETUP_SWITCHES, bad.switches = 4);
 #undef NAMES
     CHECK(gtp_setup_bad_value(s, text("inter..net"), 10) == GTP_SETUP_ACCESS_POINTS);
     CHECK(gtp_setup_bad_value(s, text(many), 31) == GTP_SETUP_GOOD && gtp_setup_bad_value(s, text(many), 33) == GTP_SETUP_ACCESS_POINTS);
@@ -398,6 +445,8 @@ int main(void) {
     exchange(false);
     exchange(true);
     templates();
+    network_identifiers();
+    versions();
     bodies();
     handles();
     refusals();

@@ -32,6 +32,27 @@ static void pass(gtp_gateway *from, gtp_gateway *to) {
     }
 }
 
+/* Addresses of peers, of which every fourth is there already: a look-up and what takes one away ask for no memory. */
+static void places(void) {
+    gtp_places p = {0};
+    TWICE(gtp_places_new(&p));
+    for (uint8_t k = 0; k < 40; k++) {
+        struct gtp_address last = v4(k % 4 ? k : 0);
+        TWICE(gtp_places_add(&p, &last));
+        long before = asked;
+        for (uint8_t i = 0; i <= k + 1; i++) {
+            struct gtp_address address = v4(i);
+            uint64_t place = 99;
+            uint8_t status = gtp_places_find(&p, &address, &place);
+            CHECK(i <= k && (i % 4 || !i) ? status == GTP_DONE && place == i : status == GTP_NONE && place == 99);
+        }
+        CHECK(asked == before);
+    }
+    long before = asked;
+    for (int left = 40; left > 0; left--) CHECK(gtp_places_pop(&p) == GTP_DONE);
+    CHECK(gtp_places_pop(&p) == GTP_NONE && gtp_places_free(&p) == GTP_DONE && asked == before);
+}
+
 static void run(void) {
     gtp_gateway serving = {0}, packet = {0};
     struct gtp_setup s = setup_of(GTP_SERVING, false), p = setup_of(GTP_PACKET, false);
@@ -41,6 +62,7 @@ static void run(void) {
     p.templates[0].quality = q; p.templates[0].access_point = 1; p.templates[0].tft_len = 3;
     memcpy(p.templates[0].tft, "\x21\x10\x00", 3);
     this_len = 0;
+    places();
     TWICE(gtp_gateway_new(&serving, &s, text(""), 0));
     TWICE(gtp_gateway_new(&packet, &p, text("internet,ims"), 12));
     for (int k = 0; k < 2; k++) {

@@ -17,8 +17,10 @@ TOP = Path(__file__).resolve().parents[2]
 NAMES = dict(address="Address", end="End", fault="Fault", head="Head", element="Element", user_head="UserHead", imsi="Identity",
              cause="CauseSaid", apn="Name", ambr="TotalRates", paa="Allocation", quality="Quality", network="NetworkCodes",
              fteid="Tunnel", template="Template", setup="Setup", outcome="ToldOutcome", told="Told", datagram="Datagram",
-             session="Session", session_row="SessionRow", bearer_row="BearerRow", gateway="Handle")
-TYPES = {"uint8_t": "u8", "uint16_t": "u16", "uint32_t": "u32", "uint64_t": "u64", "bool": "bool", "void *": "OwnedPointer"}
+             session="Session", session_row="SessionRow", bearer_row="BearerRow", gateway="Handle", places="PlacesHandle")
+TYPES = {"uint8_t": "u8", "uint16_t": "u16", "uint32_t": "u32", "uint64_t": "u64", "bool": "bool", "void *": "*mut u8"}
+# Structs of one pointer, which are a pointer in the header.
+POINTERS = ["OwnedPointer", "PlacesPointer"]
 Fields = list[tuple[str, str]]
 
 
@@ -42,6 +44,7 @@ def of_library() -> Iterator[tuple[str, Fields]]:
         numbers = dict(re.findall(r"^const (\w+): usize = (\d+);", text, re.M))
         for name, body in re.findall(r"#\[repr\(C\)\]\s(?:#\[[^\n]*\s)*pub struct (\w+) \{(.*?)\n\}", text, re.S):
             fields = re.findall(r"^    pub(?:\(crate\))? (\w+): ([^,\n]+),", body, re.M)
+            fields = [(field, "*mut u8" if kind in POINTERS else kind) for field, kind in fields]
             yield name, [(field, re.sub(r"; (\w+)\]", lambda m: f"; {numbers.get(m[1], m[1])}]", kind)) for field, kind in fields]
 
 
@@ -60,7 +63,7 @@ def main() -> int:
         sys.stdout.write(layout())
         return 0
     library, header = dict(of_library()), {NAMES[name]: fields for name, fields in of_header()}
-    assert library.pop("OwnedPointer") == [("at", "*mut u8")]
+    assert all(library.pop(name) == [("at", "*mut u8")] for name in POINTERS)
     others = [name for name in sorted(library.keys() | header.keys()) if library.get(name) != header.get(name)]
     for name in others:
         print(name, header.get(name), library.get(name))

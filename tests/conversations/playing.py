@@ -18,7 +18,7 @@ from served import answer, line_of, station
 ROLES = ("serving", "packet")
 PORT = 40000
 # Keys of an entry that no gateway reads.
-OF_ENTRIES = ("says", "at", "expect", "times", "datagram")
+OF_ENTRIES = ("says", "wanted", "at", "expect", "times", "datagram")
 # A longer answer, and an entry that comes more often, are stored as digests.
 MOST_OCTETS, MOST_TIMES = 4000, 3
 BEGINNING = 200

@@ -10,8 +10,9 @@ from gateways import (APN, BOTH, CAUSE, CHARGING_ID, CONTEXT, CREATE_BEARER, CRE
                       IMSI, IPV4, IPV6, PACKET, PDN_TYPE, QUALITY, RAT, RATES, RECOVERY, REQUESTS, S5S8_PGW_GTP_C, S5S8_PGW_GTP_U,
                       S5S8_SGW_GTP_C, S5S8_SGW_GTP_U, SELECTION, SERVING, SERVING_NETWORK, TFT, Address, Json, allocation, announced,
                       cause_of, control, element, end_of, error_indication, name_of, number_of, packed, user)
+from scenarios import written
 from served import answer, station
-from setups import octets_of, other
+from setups import SWITCHES, octets_of, other
 
 V4, V6 = {SERVING: "10.0.0.1", PACKET: "10.0.0.2"}, {SERVING: "20010db8" + 22 * "0" + "01", PACKET: "20010db8" + 22 * "0" + "02"}
 NAMES = ["internet", "ims", "a.b"]
@@ -30,6 +31,8 @@ def head(rng: Random) -> Json:
             said |= {"pool6": "20010db8" + 22 * "0" + "10", "count6": rng.choice([0, 1, 3])}
         if rng.random() < 0.5:
             said["templates"] = [{"apn": said["apns"][0], "tft": "2110"}]
+    if rng.random() < 0.5:
+        said["switches"] = rng.sample(SWITCHES, rng.randint(0, 2))
     return said
 
 
@@ -51,7 +54,7 @@ class Conversation:
 
     def any_line(self) -> Json:
         kinds = [self.command] * 4 + [self.friendly] * 8 + [self.response] * 5 + [self.mutated] * 5 + [self.repeated] * 2
-        kinds += [self.user_datagram] * 4 + [self.noise, self.pair, self.quiet, self.quiet]
+        kinds += [self.user_datagram] * 4 + [self.noise, self.other_version, self.pair, self.quiet, self.quiet]
         return self.rng.choice(kinds)()
 
     def run(self, length: int) -> tuple[Json, list[Json], list[Json]]:
@@ -121,7 +124,7 @@ class Conversation:
         context = element(CONTEXT, 0, self.shuffled(number_of(EBI, identity), QUALITY, self.peer_end(2, S5S8_SGW_GTP_U)))
         contexts = context * (2 if self.rng.random() < 0.05 else 1)
         imsi = "".join(self.rng.choice("0123456789") for _ in range(self.rng.choice([6, 14, 15, 15])))
-        name = self.rng.choice(NAMES + ["other"])
+        name = written(self.rng, self.rng.choice(NAMES + ["other"]))
         return control(CREATE_SESSION, self.rng.choice([0, 0, 7]), self.next_number(), self.shuffled(
             element(IMSI, 0, packed(imsi)), number_of(RAT, 6), element(SERVING_NETWORK, 0, bytes.fromhex("00f110")),
             self.peer_end(0, S5S8_SGW_GTP_C), element(APN, 0, name_of(name)), number_of(SELECTION, 0), number_of(PDN_TYPE, pdn),
@@ -263,6 +266,13 @@ class Conversation:
         body = rng.randbytes(rng.randint(0, 12)) if rng.random() < 0.5 else self.recovery()
         octets = control(kind, rng.choice([None, 0, self.session()]), rng.randrange(1 << 24), body)
         return self.received("control", rng.choice([octets, rng.randbytes(rng.randint(0, 20))]))
+
+    def other_version(self) -> Json:
+        """A message of another version, and of few octets, or none."""
+        rng = self.rng
+        octets = control(rng.choice([1, 2, 3, 3, 16, rng.randrange(256)]), None, rng.randrange(1 << 24), self.recovery())
+        octets = bytes([rng.choice([0, 0x30, 0x32, 0x60, 0xE0]) | octets[0] & 15]) + octets[1:]
+        return self.received("control", octets[: rng.choice([len(octets), len(octets), rng.randrange(9)])])
 
     def user_datagram(self) -> Json:
         rng, teid = self.rng, self.bearer()

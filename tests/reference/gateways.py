@@ -7,6 +7,7 @@ The clauses named are those of TS 29.274 and, of the user plane, TS 29.281."""
 
 from __future__ import annotations
 
+import re
 from collections.abc import Iterable, Iterator
 from dataclasses import dataclass, field, replace
 from typing import Optional, Union
@@ -118,6 +119,11 @@ def teid_in(body: bytes) -> int:
 
 def name_of(apn: str) -> bytes:
     return b"".join(bytes([len(label)]) + label for label in apn.encode().split(b"."))
+
+
+def network_identifier(apn: str) -> str:
+    """A name without an operator identifier, in lower case (TS 23.003 9.1)."""
+    return re.sub(r"(?<=.)\.mnc[0-9]{3}\.mcc[0-9]{3}\.gprs$", "", apn.lower())
 
 
 def text_of(name: bytes) -> str:
@@ -325,7 +331,8 @@ class Held:
 @dataclass
 class Setup:
     """What a gateway is set up with. Access points, templates and addresses are the packet gateway's; the template of
-    an access point is the TFT of the bearer that each of its sessions gets at once."""
+    an access point is the TFT of the bearer that each of its sessions gets at once. Access points are meant by their names
+    as they are written, or by their network identifiers. What is of another version is answered, or not."""
 
     role: str
     control: bytes
@@ -333,6 +340,8 @@ class Setup:
     counter: int
     access_points: list[str] = field(default_factory=list)
     templates: dict[str, bytes] = field(default_factory=dict)
+    network_identifiers: bool = False
+    version_not_supported: bool = False
     pool: int = 0
     count: int = 0
     pool6: bytes = bytes(16)
@@ -340,6 +349,13 @@ class Setup:
     t3: int = 3
     n3: int = 3
     hold: int = 60
+
+    def access_point_for(self, apn: str) -> str | None:
+        """The access point that is written so, else, by the switch, the first with the same network identifier."""
+        if apn in self.access_points:
+            return apn
+        meant = (own for own in self.access_points if network_identifier(own) == network_identifier(apn))
+        return next(meant, None) if self.network_identifiers else None
 
     def addresses(self) -> Iterator[bytes]:
         """The pool of version 4."""
@@ -615,7 +631,8 @@ class Gateway:
         identity = first(context, EBI, 0)[0] & 15
         if identity < 5:
             return header, MANDATORY_IE_INCORRECT, b""
-        if apn not in self.setup.access_points:
+        own = self.setup.access_point_for(apn)
+        if own is None:
             return header, MISSING_OR_UNKNOWN_APN, b""
         if not self.setup.serves(pdn):
             return header, PREFERRED_PDN_TYPE_NOT_SUPPORTED, b""
@@ -634,12 +651,12 @@ class Gateway:
         rates = first(found, AMBR, 0)
         rows += (b"" if rates is None else element(AMBR, 0, rates[:8])) + element(CONTEXT, 0, made)
         cause = REQUEST_ACCEPTED if address.kind == pdn else NEW_PDN_TYPE_DUE_TO_NETWORK_PREFERENCE
-        return header, cause, rows, *self.request_of_template(session)
+        return header, cause, rows, *self.request_of_template(session, own)
 
-    def request_of_template(self, session: int) -> list[bytes]:
+    def request_of_template(self, session: int, access_point: str) -> list[bytes]:
         """The Create Bearer Request that goes along with the answer about a new session, if there is a template and
         room. Sent again it is alone, like every request."""
-        tft = self.setup.templates.get(self.sessions[session].apn)
+        tft = self.setup.templates.get(access_point)
         if tft is None or not self.has_draws(1) or len(self.pending) >= MOST_PENDING:
             return []
         return [octets for _, octets in self.begin_bearer(session, tft).sent]

@@ -7,6 +7,7 @@ from collections.abc import Callable, Iterator, Mapping
 from random import Random
 
 from gateways import ACTIVE, PACKET, SERVING, Bearer, Json, Session, has_two, last_message
+from setups import SWITCHES
 from world import World
 
 
@@ -29,6 +30,8 @@ def head(rng: Random) -> Json:
     packet |= {"apns": ["internet", "ims.example"], "pool": "10.1.0.254", "count": rng.choice([0, 1, 2, 3, 5])}
     packet |= networks(rng) if rng.random() < 0.5 else {}
     packet |= templates(rng) if rng.random() < 0.6 else {}
+    for gateway in serving, packet:
+        gateway |= {"switches": rng.sample(SWITCHES, rng.randint(0, 2))} if rng.random() < 0.5 else {}
     timers = {"t3": rng.randint(1, 4), "n3": rng.randint(0, 3), "hold": rng.randint(1, 20)}
     return {"serving": serving, "packet": packet, "events": []} | (timers if rng.random() < 0.8 else {})
 
@@ -42,9 +45,17 @@ def teid(rng: Random, contexts: Mapping[int, Session | Bearer]) -> str:
     return f"{rng.randint(0, 3) << 24 | rng.randint(0, 6):08x}"
 
 
+def written(rng: Random, apn: str) -> str:
+    """Mostly as it is, else in capitals or with an operator identifier behind it, or what is nearly one."""
+    if rng.random() < 0.8:
+        return apn
+    behind = rng.choice(["", ".mnc001.mcc001.gprs", ".mnc901.mcc70.gprs", ".mnc26.mcc262.gprs"])
+    return rng.choice([str.upper, str.title, str])(apn + behind)
+
+
 def create_session(rng: Random, world: World) -> Json:
     event = {"imsi": rng.choice(["001010123456789", "262019876543", "123456"])}
-    event |= {"apn": rng.choice(["internet"] * 6 + ["ims.example"] * 2 + ["other"]), "ebi": rng.randint(5, 15)}
+    event |= {"apn": written(rng, rng.choice(["internet"] * 6 + ["ims.example"] * 2 + ["other"])), "ebi": rng.randint(5, 15)}
     return event | ({"pdn": rng.choice([1, 2, 2, 3, 3, 3, rng.randint(0, 7)])} if rng.random() < 0.5 else {})
 
 

@@ -16,6 +16,7 @@ PORTS = {"control": 2123, "user": 2152}
 TAKEN = {SERVING: (ECHO_REQUEST, ECHO_RESPONSE, CREATE_SESSION + 1, DELETE_SESSION + 1, CREATE_BEARER, DELETE_BEARER),
          PACKET: (ECHO_REQUEST, ECHO_RESPONSE, CREATE_SESSION, DELETE_SESSION, CREATE_BEARER + 1, DELETE_BEARER + 1)}
 NOTIFICATION = bytes.fromhex("321f000700000000000000008d0140")
+VERSION_NOT_SUPPORTED = bytes.fromhex("4003000400000000")
 
 
 class Station(Gateway):
@@ -56,7 +57,7 @@ class Station(Gateway):
             self.hear(message, told)
             self.take(message, request, told)
         except Fault as fault:
-            return self.at_fault(fault)
+            return self.version_told(request[1]) if fault.code == "H2" else self.at_fault(fault)
         except Refused as dropped:
             told.outcome = str(dropped)
         return told
@@ -65,6 +66,12 @@ class Station(Gateway):
         """A restart counter counts only where the message has one."""
         if any(row[:2] == (RECOVERY, 0) for row in ROWS[message.kind]):
             super().hear(message, told)
+
+    def version_told(self, octets: bytes) -> Told:
+        """What is of another version is answered by the own one (clause 7.7.2), and never such an answer."""
+        if self.setup.version_not_supported and octets[1] != VERSION_NOT_SUPPORTED[1]:
+            return Told("X12", sent=[("control", VERSION_NOT_SUPPORTED)])
+        return Told("X1 H2")
 
     def at_fault(self, fault: Fault) -> Told:
         """A request with an element at fault is refused (clause 7.7); every other fault is dropped."""
@@ -138,7 +145,7 @@ class Station(Gateway):
         except Refused as refused:
             told = Told(str(refused))
         last = told.second or told.outcome
-        answers = source is not None and last.split()[0] in ("answered", "repeated", "echoed")
+        answers = source is not None and last.split()[0] in ("answered", "repeated", "echoed", "X12")
         sent = []
         for plane, octets in told.sent:
             to = source if answers else (self.peer[plane], PORTS[plane])

@@ -9,6 +9,8 @@ from gateways import PACKET, SERVING, Json, Setup
 # The commands that one gateway alone takes.
 COMMANDS = {SERVING: ("create_session", "delete_session"),
             PACKET: ("create_bearer", "delete_bearer", "release_session", "end_marker")}
+# What a gateway does only where its head says so.
+SWITCHES = ("network_identifiers", "version_not_supported")
 
 
 def other(role: str) -> str:
@@ -34,6 +36,8 @@ def setup_of(role: str, head: Json, said: Json) -> Setup:
     """What the head of a gateway sets up, with the times that are said beside it or in it."""
     timers = {key: said[key] for key in ("t3", "n3", "hold") if key in said}
     setup = Setup(role, octets_of(head["control"]), octets_of(head["user"]), head["counter"], **timers)
+    switches = head.get("switches", [])
+    setup.network_identifiers, setup.version_not_supported = (word in switches for word in SWITCHES)
     if role == PACKET:
         setup.access_points, setup.count = head["apns"], head["count"]
         setup.pool = int.from_bytes(octets_of(head["pool"]), "big")

@@ -52,8 +52,8 @@ pub mod gateway {
         Accepted, Addr, Addresses, Ambr, Apn, Bearer, BearerList, Begun, CommandFault, Config,
         Counter, DropReason, Ebi, Endpoint, FaultName, Gateway, Ip, Kind, Memory, Outcome, PdnType,
         Plane, Plmn, Pool, Pools, Prefixes, Qos, Rat, Refusal, Report, Request, Role, Selection,
-        Sent, Seq, Session, SessionList, SessionSpec, State, Step, Subscriber, Teid, Tft, Ticked,
-        Timers, ValueFault,
+        Sent, Seq, Session, SessionList, SessionSpec, State, Step, Subscriber, Switches, Teid, Tft,
+        Ticked, Timers, ValueFault,
     };
 }
 

@@ -1,6 +1,8 @@
 pub mod Accepting
 pub mod Carried
 pub mod Carrying
+pub mod Crossing
+pub mod Finding
 pub mod Listing
 pub mod Naming
 pub mod Points

@@ -1,4 +1,4 @@
--- The machine values of a `DetachedBox`. Assumes `Logic`.
+-- The machine values of a `DetachedBox`, and what a place holds. Assumes `Logic`.
 use Rattle.std.specs.Prelude.{Option, Some, None, IsSome}
 use Rattle.std.proofs.Common.{◌≡◌, ℕ, List, [], ◌∷◌, ◌++◌, refl, sym, subst, true≢false}
 use mathlib.Core.Bool.{Bool, true, false, ◌&&◌}
@@ -9,7 +9,7 @@ use mir.Raw.{raw as bare}
 use mir.Val.{Val, vptr, vstruct, vcons, vnil, of_list, has_ty, WT}
 use base.Logic.{never, fst∗}
 use types.Logic.{Logic, sem}
-use types.Kit.{Item, Goal, Seq, Step, step, ‵, ◌$◌, move, drop, fsplit, fjoin, fpick, fpack, feq_i, feq_l}
+use types.Kit.{Item, Goal, Seq, Step, step, ‵, ◌$◌, move, drop, fsplit, fjoin, fpick, fpack, feq_i, feq_l, rewrite}
 use denote.RattleType.{RattleType, Valss}
 use denote.Builtin.{RawPtr}
 use denote.Memory.{lone}
@@ -24,6 +24,9 @@ use Rattle.std.proofs.alloc.Calls.{Al, handle_tells}
 use Rattle.std.proofs.cell.Inside.{Good}
 use Rattle.std.specs.Box.Ownership.{box_owns}
 use Rattle.std.proofs.ResultValues.{and_tt}
+use Rattle.std.specs.Global.{Global}
+use Rattle.std.specs.contracts.impls.GlobalAllocator.TheImpl.{ghosts}
+use Rattle.gtp_c.specs.Held.{boxed, held}
 use Rattle.gtp_c.specs.contracts.detached_box.DetachedBox as loose
 
 abbrev pub both : Val → Val → Val
@@ -66,3 +69,12 @@ module _ (R Z : RattleType) (L : Laws Z) (g : Ghosts Z.Denot) where
 pub full : (R : RattleType) (v : Option R.Denot) → IsSome v → (x : R.Denot) × (v ≡ Some x)
 full R (Some x) some = (x, refl)
 full R None none = absurd (true≢false (sym none))
+
+module _ (R : RattleType) {M : Type 1} {𝓤 : Ura M} {𝓛 : Logic 𝓤} {K : Type 0} {Γ : List (Item 𝓤)} {G : Goal 𝓤 𝓛.H} where
+  -- it lies in a block
+  pub held_out : K → (p : Ptr) (v : Option R.Denot) (x : R.Denot) → v ≡ Some x
+      → ((g : Global) (b o : ℕ) → p ≡ block_ptr b o → Seq K 𝓛 (‵ (boxed R (block_ptr b o) x g) ∷ Γ) G)
+      → Seq K 𝓛 (‵ (held R p v) ∷ Γ) G
+  held_out t p v x is k =
+      rewrite t 0 (λ (v' : Option R.Denot). ‵ (held R p v')) is refl $
+      fpick t (λ g. in_a_block t p (λ p'. boxed R p' x g) (fst∗ 𝓤 (never 𝓤) (sem 𝓛 (ghosts.dealloc_token g (bare (lone R.mir)) null_ptr))) (λ b o e. k g b o e))

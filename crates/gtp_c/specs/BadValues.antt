@@ -30,6 +30,7 @@ pub data NamesBadSetup (s : Setup) (text : List ℕ) (number : ℕ) : Type 0 whe
   pool6 : number ≡ 11 → (ArePrefixes (pools_at s).v6 → ⊥) → NamesBadSetup s text number
   template_count : number ≡ 12 → (s.template_count ≤ 16 → ⊥) → NamesBadSetup s text number
   templates : number ≡ 13 → (AreGoodTemplates (length (names_in text)) (templates_in s) → ⊥) → NamesBadSetup s text number
+  switches : number ≡ 14 → (s.switches ≤ 3 → ⊥) → NamesBadSetup s text number
 
 -- the same of a session that is asked for
 pub data NamesBadSession (c : Session) (subscriber : Identity) (name : List ℕ) (number : ℕ) : Type 0 where

@@ -3,8 +3,8 @@ use Rattle.std.specs.Prelude.{Option, Some, None}
 use Rattle.gtp_c.specs.Steps.{Keeps}
 use Rattle.gtp_c.specs.declared.gateway_with_queue.GatewayWithQueue.{GatewayWithQueue}
 
--- a gateway stands behind the handle, before and after, and goes on so
-abbrev pub Goes : (GatewayWithQueue → GatewayWithQueue → Type 0) → Option GatewayWithQueue → Option GatewayWithQueue → Type 0
+-- something stands behind the handle, before and after, and goes on so
+abbrev pub Goes : {X : Type 0} → (X → X → Type 0) → Option X → Option X → Type 0
 Goes Is (Some old) (Some new) = Is old new
 Goes Is (Some old) None = ⊥
 Goes Is None new = ⊥

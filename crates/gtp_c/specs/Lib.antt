@@ -10,6 +10,7 @@ pub mod Faults
 pub mod Handles
 pub mod Held
 pub mod Names
+pub mod Places
 pub mod Reading
 pub mod Sessions
 pub mod Setups

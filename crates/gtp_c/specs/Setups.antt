@@ -1,9 +1,10 @@
 -- Which gateway C's setup is.
-use Rattle.std.specs.Prelude.{◌≡◌, ℕ, ◌≤◌, List, [], ◌∷◌, Some, IsSome, length, take}
+use Rattle.std.specs.Prelude.{◌≡◌, ℕ, ◌≤◌, ◌==◌, ◌/◌, ◌%◌, List, [], ◌∷◌, Some, IsSome, length, take}
 use Rattle.std.specs.VecDeque.{deque_capacity}
 use Rattle.gtp_machine.specs.declared.role.Role.{Role}
 use Rattle.gtp_machine.specs.declared.role.Role.TheVariants.{Serving, Packet}
-use Rattle.gtp_gateway.specs.Settings.{Settings, AreSettings, settings_of}
+use Rattle.gtp_machine.specs.declared.switches.Switches.{Switches}
+use Rattle.gtp_gateway.specs.Settings.{Settings, AreSettings, settings_of, switched}
 use Rattle.gtp_gateway.specs.GatewayState.{GatewayState, starting}
 use Rattle.gtp_gateway.specs.declared.config.Addresses.{Addresses}
 use Rattle.gtp_gateway.specs.declared.config.Timers.{Timers}
@@ -34,6 +35,10 @@ timers_at s = record { t3 = s.t3; n3 = s.n3; hold = s.hold }
 abbrev pub pools_at : Setup → Pools
 pools_at s = record { v4 = record { start = s.pool; count = s.pool_count }; v6 = record { start = s.pool6; count = s.pool6_count } }
 
+-- C's switches: 1 and 2, added
+abbrev pub switches_at : Setup → Switches
+switches_at s = record { network_identifiers = s.switches % 2 == 1; version_not_supported = s.switches / 2 % 2 == 1 }
+
 -- C's templates, of which later ones take the place of earlier ones of the same access point
 abbrev pub templates_in : Setup → List Template
 templates_in s = take s.template_count s.templates
@@ -44,7 +49,7 @@ pub record IsConfigured (s : Setup) (names : List (List ℕ)) (settings : Settin
   pub is_own : AreAddresses s.own_control s.own_user own
   pub peer : Addresses
   pub is_peer : AreAddresses s.peer_control s.peer_user peer
-  pub all : settings ≡ settings_of own peer names (pools_at s) (timers_at s)
+  pub all : settings ≡ switched (switches_at s) (settings_of own peer names (pools_at s) (timers_at s))
 
 -- a gateway that has just started, of C's role, settings, templates and restart counter, with the access points of the text
 pub record IsStarted (s : Setup) (text : List ℕ) (g : GatewayState) : Type 0 where
@@ -68,13 +73,14 @@ pub record HasAddresses (control user : Address) : Type 0 where
   pub control_is : IsSome (ip_at control)
   pub user_is : IsSome (ip_at user)
 
--- both ends have addresses, there are at most 16 access points, the timers are in their ranges, and so are the addresses to give
+-- both ends have addresses, there are at most 16 access points, the timers are in their ranges, and so are the addresses to give and the switches
 pub record IsGoodConfig (s : Setup) (names : List (List ℕ)) : Type 0 where
   pub own : HasAddresses s.own_control s.own_user
   pub peer : HasAddresses s.peer_control s.peer_user
   pub settings : AreSettings names (timers_at s)
   pub pool : IsPool (pools_at s).v4
   pub prefixes : ArePrefixes (pools_at s).v6
+  pub switches : s.switches ≤ 3
 
 -- a gateway can be set up so: the role is one, the text has names of access points, each template is of one of them, and the rest is in its range
 pub record IsGoodSetup (s : Setup) (text : List ℕ) : Type 0 where

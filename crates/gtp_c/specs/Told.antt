@@ -4,7 +4,7 @@ use Rattle.gtp_machine.specs.declared.outcome.Refusal.{Refusal}
 use Rattle.gtp_machine.specs.declared.outcome.DropReason.{DropReason}
 use Rattle.gtp_machine.specs.declared.outcome.Outcome.{Outcome}
 use Rattle.gtp_machine.specs.declared.outcome.Refusal.TheVariants.{NoSuchContext, NotActive, WrongRole, SessionsFull, TeidsUsed, PendingFull, BearerEnded, PacketTooLong}
-use Rattle.gtp_machine.specs.declared.outcome.DropReason.TheVariants.{Undecodable, OldCounter, NoPending, Mismatch, ContextNotActive, UnknownContext, AfterEnd, HeldFull, Unexpected, UnknownExtension, NotPeer}
+use Rattle.gtp_machine.specs.declared.outcome.DropReason.TheVariants.{Undecodable, OldCounter, NoPending, Mismatch, ContextNotActive, UnknownContext, AfterEnd, HeldFull, Unexpected, UnknownExtension, NotPeer, OtherVersion}
 use Rattle.gtp_machine.specs.declared.outcome.Outcome.TheVariants.{Begun, GoneOut, Refused, Answered, Echoed, Repeated, Opened, Closed, Clash, Rejected, Alive, Accepted, Ended, Broken, Dropped}
 use Rattle.gtp_values.specs.declared.counter.Counter.{Counter}
 use Rattle.gtp_values.specs.declared.identifiers.Teid.{Teid}
@@ -26,7 +26,7 @@ refusal_number PendingFull = 6
 refusal_number BearerEnded = 7
 refusal_number PacketTooLong = 8
 
--- the number of a reason, as in its code: X1 to X11
+-- the number of a reason, as in its code: X1 to X12
 abbrev pub reason_number : DropReason → ℕ
 reason_number (Undecodable name) = 1
 reason_number OldCounter = 2
@@ -39,6 +39,7 @@ reason_number HeldFull = 8
 reason_number Unexpected = 9
 reason_number UnknownExtension = 10
 reason_number NotPeer = 11
+reason_number OtherVersion = 12
 
 -- the number of an outcome
 abbrev pub outcome_number : Outcome → ℕ

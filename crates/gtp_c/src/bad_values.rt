@@ -53,6 +53,9 @@ pub extern "C" fn gtp_setup_bad_value(setup: &Setup, access_points: &[u8]) -> u8
     if !are_templates(templates, count) {
         return 13;
     }
+    if setup.switches().is_none() {
+        return 14;
+    }
     0
 }
 

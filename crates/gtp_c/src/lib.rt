@@ -2,6 +2,7 @@
 //! it has to keep.
 #![tactic(auto)]
 
+mod address_places;
 mod bad_values;
 mod bodies;
 mod commanding;
@@ -21,6 +22,9 @@ mod handle;
 mod names;
 mod outcome;
 mod owned_pointer;
+mod places;
+mod places_handle;
+mod places_pointer;
 mod pointer_deref;
 mod rows;
 mod session;

@@ -50,6 +50,7 @@ fn number_of_reason(reason: DropReason) -> u8
         DropReason::Unexpected => 9,
         DropReason::UnknownExtension => 10,
         DropReason::NotPeer => 11,
+        DropReason::OtherVersion => 12,
     }
 }
 

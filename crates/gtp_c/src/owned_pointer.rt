@@ -21,7 +21,7 @@ pub struct OwnedPointer {
 }
 
 impl Model for OwnedPointer {
-    ghost also_owns = { λ h. held h.at h.value };
+    ghost also_owns = { λ h. held value_row h.at h.value };
 }
 
 impl OwnedPointer {

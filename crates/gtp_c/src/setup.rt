@@ -2,14 +2,14 @@
 
 ghost use Rattle.std.specs.Prelude.{◌≡◌, ◌↔◌, ◌≤◌, IfOk, IfErr, OnOk, IsErrOf, IfSome, IsSome};
 ghost use Rattle.gtp_c.specs.Setups.{role_at, AreAddresses, IsConfigured, IsStarted, timers_at};
-ghost use Rattle.gtp_c.specs.Setups.{HasAddresses, IsGoodConfig, IsGoodSetup, templates_in, no_gateway};
+ghost use Rattle.gtp_c.specs.Setups.{HasAddresses, IsGoodConfig, IsGoodSetup, switches_at, templates_in, no_gateway};
 ghost use Rattle.gtp_c.specs.Common.{IsOneOf};
 
 use crate::ends::Address;
 use crate::names::{access_points_of, count_of_names};
 use crate::status::{BAD_VALUE, NO_MEMORY};
 use crate::template::{Template, are_templates, with_templates};
-use gtp_gateway::{Addresses, Apn, Config, Counter, Gateway, Pool, Role, Timers};
+use gtp_gateway::{Addresses, Apn, Config, Counter, Gateway, Pool, Role, Switches, Timers};
 use std::alloc::Global;
 
 /// The most templates that a setup has.
@@ -36,6 +36,8 @@ pub struct Setup {
     pub counter: u8,
     /// How many templates there are, at most 16, and these.
     pub template_count: u8,
+    /// Optional behaviour, added: 1 network identifiers, 2 Version Not Supported Indications.
+    pub switches: u8,
     pub templates: [Template; MOST_TEMPLATES],
 }
 
@@ -72,6 +74,20 @@ impl Setup {
         }
     }
 
+    /// The switches that are asked for.
+    pub(crate) fn switches(&self) -> Option<Switches>
+        ensures some { IsSome result ↔ (self.now.switches ≤ 3) }
+        ensures value { IfSome result (λ switches. switches ≡ switches_at self.now) }
+    {
+        if self.switches > 3 {
+            return None;
+        }
+        Some(Switches {
+            network_identifiers: self.switches % 2 == 1,
+            version_not_supported: self.switches / 2 % 2 == 1,
+        })
+    }
+
     /// The templates that are asked for.
     pub(crate) fn templates(&self) -> Option<&[Template]>
         ensures some { IsSome result ↔ (self.now.template_count ≤ 16) }
@@ -97,8 +113,9 @@ impl Setup {
         let Ok(config) = Config::try_new(own, peer, names, pool, self.timers()) else {
             return None;
         };
+        let switches = self.switches()?;
         match config.with_pool6(self.pool6, self.pool6_count) {
-            Ok(config) => Some(config),
+            Ok(config) => Some(config.with_switches(switches)),
             Err(_) => None,
         }
     }

@@ -58,6 +58,7 @@ drops =
     ∷ (codes "X9", ([], codes "a datagram is dropped: its type is not taken, or it concerns nothing here (TS 29.274 7.7.4, 7.7.5)"))
     ∷ (codes "X10", ([], codes "a datagram is dropped: it requires an extension header that is not understood (TS 29.281 5.2.1)"))
     ∷ (codes "X11", ([], codes "a datagram is dropped: its source is not the peer"))
+    ∷ (codes "X12", ([], codes "a datagram is dropped: it is of another version, and the sender is told which one is supported (TS 29.274 7.7.2)"))
     ∷ []
 
 -- events of a scenario that cannot happen

@@ -88,6 +88,7 @@ fn drops() -> &'static [Meaning]
         "X9" "" "a datagram is dropped: its type is not taken, or it concerns nothing here (TS 29.274 7.7.4, 7.7.5)",
         "X10" "" "a datagram is dropped: it requires an extension header that is not understood (TS 29.281 5.2.1)",
         "X11" "" "a datagram is dropped: its source is not the peer",
+        "X12" "" "a datagram is dropped: it is of another version, and the sender is told which one is supported (TS 29.274 7.7.2)",
     ];
     ROWS
 }

@@ -1,3 +1,4 @@
 pub mod FramesShown
+pub mod Choosing
 pub mod Texts
 pub mod Failures

@@ -2,7 +2,7 @@
 use Rattle.std.specs.Prelude.{◌≡◌, ◌≢◌, ◌<◌, ◌⊎◌, ◌&&◌, ◌||◌, not, ℕ, Bool, true, false, List, codes, map, Option, Some, None, IsSomeAnd, bytes_eq}
 use Rattle.gtp_values.specs.Address.{IsIpText}
 use Rattle.gtp_values.specs.Imsi.{IsImsiText, value_of_digit}
-use Rattle.gtp_values.specs.Teid.{WritesTeid}
+use Rattle.gtp_values.specs.Teid.{IsTeidText, WritesTeid}
 use Rattle.std.specs.Str.Parse.{IsNumeral, digits_value, without_leading_plus}
 use Rattle.gtp_values.specs.declared.plane.Plane.{Plane}
 use Rattle.gtp_values.specs.declared.plane.Plane.TheVariants.{Control, User}
@@ -60,7 +60,7 @@ replay_form false false false false = replay.Report
 
 -- a type of this name; none where no type has it
 abbrev pub IsKindOf : (ℕ → Option (List ℕ)) → List ℕ → Option ℕ → Type 0
-IsKindOf name word (Some kind) = name kind ≡ Some word
+IsKindOf name word (Some kind) = (kind < 256) × (name kind ≡ Some word)
 IsKindOf name word None = (kind : ℕ) → kind < 256 → name kind ≢ Some word
 
 -- the word is a number below 256
@@ -76,6 +76,14 @@ abbrev pub AreKinds : Names → List ℕ → Kinds → Type 0
 AreKinds names word kinds =
     (IsKindNumber word × (kinds ≡ numbered (digits_value 10 (without_leading_plus word))))
     ⊎ ((IsKindNumber word → ⊥) × IsKindOf (name_in names) word kinds.control × IsKindOf user_name word kinds.user)
+
+-- of no plane
+abbrev pub no_kinds : Kinds
+no_kinds = record { control = None; user = None }
+
+-- the same, where there is one: what a word chooses
+abbrev pub ChoosesKinds : Names → List ℕ → Kinds → Type 0
+ChoosesKinds names word kinds = AreKinds names word kinds × (kinds ≢ no_kinds)
 
 -- the word for an interface
 abbrev pub interface_word : Interface → List ℕ
@@ -116,10 +124,6 @@ WritesType what word = IsNumeral (type_base what) (without_leading_plus word) ×
 abbrev pub IsTypeWritten : TypeOf → List ℕ → Option ℕ → Type 0
 IsTypeWritten what word (Some kind) = WritesType what word × (kind ≡ digits_value (type_base what) (without_leading_plus word))
 IsTypeWritten what word None = ¬ WritesType what word
-
--- of no plane
-abbrev pub no_kinds : Kinds
-no_kinds = record { control = None; user = None }
 
 -- ---- the words of a command
 
@@ -181,13 +185,17 @@ SaysPort word port = IsPortNumber word × (port ≡ digits_value 10 (without_lea
 abbrev pub SaysImsi : List ℕ → List ℕ → Type 0
 SaysImsi word digits = IsImsiText word × (digits ≡ map value_of_digit word)
 
+-- the TEID that the word writes
+abbrev pub SaysTeid : List ℕ → ℕ → Type 0
+SaysTeid word teid = IsTeidText word × WritesTeid word teid
+
 -- what the words of `capture` ask for
 pub record IsCaptureAsked (names : Names) (values : Values) (asked : CaptureAsked) : Type 0 where
   pub form : IsFormAsked names values asked.frames.form
   pub faults : asked.frames.only_faults ≡ is_set values (codes "faults")
-  pub kinds : IsSaid (AreKinds names) (values (codes "type")) asked.frames.filter.kinds
+  pub kinds : IsSaid (ChoosesKinds names) (values (codes "type")) asked.frames.filter.kinds
   pub imsi : IsSaid SaysImsi (values (codes "imsi")) asked.frames.filter.imsi
-  pub teid : IsSaid WritesTeid (values (codes "teid")) asked.frames.filter.teid
+  pub teid : IsSaid SaysTeid (values (codes "teid")) asked.frames.filter.teid
   pub address : IsSaid IsIpText (values (codes "address")) asked.frames.filter.address
   pub control : IsSaid SaysPort (values (codes "control-port")) asked.ports.control
   pub user : IsSaid SaysPort (values (codes "user-port")) asked.ports.user

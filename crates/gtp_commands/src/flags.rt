@@ -6,9 +6,13 @@ ghost use Rattle.gtp_lines.specs.Named.{name_in as spec_name_in};
 ghost use Rattle.gtp_lines.specs.User.{user_name as spec_user_name};
 ghost use Rattle.gtp_values.specs.Address.{IsIpText, SomeIpText};
 ghost use Rattle.gtp_values.specs.Imsi.{IsImsiText};
-ghost use Rattle.gtp_values.specs.Teid.{IsTeidText, WritesTeid};
-ghost use Rattle.gtp_commands.specs.Flags.{plane_named, plane_of, dump_form, capture_form, replay_form, IsKindOf, IsTypeWord, type_base, IsTypeWritten, AreKinds, no_kinds, IsPortNumber, SaysPort, SaysImsi, is_set, dump_of, SaysInterface, IsJudged, IsDumpAsked, IsFormAsked, replay_form_of, IsCaptureAsked};
+ghost use Rattle.gtp_values.specs.Teid.{IsTeidText};
+ghost use Rattle.gtp_commands.specs.Flags.{plane_named, plane_of, dump_form, capture_form, replay_form, IsKindOf, IsTypeWord, type_base, IsTypeWritten, AreKinds, ChoosesKinds, IsPortNumber, SaysPort, SaysImsi, SaysTeid, is_set, SaysInterface, IsJudged, IsDumpAsked, IsFormAsked, replay_form_of, IsCaptureAsked};
 ghost use Rattle.gtp_interfaces.specs.declared.interface.Interface.{Interface as AnyInterface};
+ghost use Rattle.gtp_dump.specs.declared.decoding.Asked.{Asked as AnyDump};
+ghost use Rattle.gtp_commands.specs.declared.capturing.CaptureForm.{CaptureForm as AnyForm};
+ghost use Rattle.gtp_commands.specs.declared.capturing.CaptureAsked.{CaptureAsked as AnyCapture};
+ghost use Rattle.gtp_lines.specs.declared.filter.Kinds.{Kinds as AnyKinds};
 ghost use Rattle.clap.specs.Words.{first_value, found_of};
 
 use crate::capturing::{CaptureAsked, CaptureForm, FramesAsked};
@@ -139,6 +143,7 @@ fn interface_asked(asked: &ArgMatches, judges: bool) -> Result<Interface, Failur
 pub fn dump_asked(names: Names, asked: &ArgMatches) -> Result<Asked, Failure>
     ensures asked { IfOk result (IsDumpAsked names (first_value (found_of asked.now))) }
     ensures bad { IfErr result (λ failure. failure ≡ Failure.BadInterface) }
+    ensures only { OnErr result ((dump : AnyDump) → IsDumpAsked names (first_value (found_of asked.now)) dump → ⊥) }
 {
     let is_all = is_set(asked, "all");
     let interface = interface_asked(asked, is_all)?;
@@ -159,6 +164,7 @@ pub fn dump_asked(names: Names, asked: &ArgMatches) -> Result<Asked, Failure>
 fn capture_form_asked(names: Names, asked: &ArgMatches) -> Result<CaptureForm, Failure>
     ensures asked { IfOk result (IsFormAsked names (first_value (found_of asked.now))) }
     ensures bad { IfErr result (λ failure. failure ≡ Failure.BadInterface) }
+    ensures only { OnErr result ((form : AnyForm) → IsFormAsked names (first_value (found_of asked.now)) form → ⊥) }
 {
     let is_json = is_set(asked, "json");
     let is_brief = is_set(asked, "brief");
@@ -189,6 +195,7 @@ pub fn replay_form_asked(asked: &ArgMatches) -> gtp_replay::Form
 /// What the arguments of `capture` ask for, by these names and forms: `BadFilter`, `BadPort` and `BadInterface` for words that say nothing of their kind.
 pub fn capture_asked(names: Names, asked: &ArgMatches) -> Result<CaptureAsked, Failure>
     ensures asked { IfOk result (IsCaptureAsked names (first_value (found_of asked.now))) }
+    ensures only { OnErr result ((capture : AnyCapture) → IsCaptureAsked names (first_value (found_of asked.now)) capture → ⊥) }
 {
     let filter = Filter {
         kinds: kinds_of(&names, asked.get_str("type"))?,
@@ -278,9 +285,9 @@ fn kinds_called(names: &Names, word: &str) -> Kinds
 /// The types of messages that a word asks for, where there is one: `BadFilter` where no message is called so.
 pub fn kinds_of(names: &Names, word: Option<&str>) -> Result<Option<Kinds>, Failure>
     ensures none { word.entry ≡ None → result ≡ Ok None }
-    ensures some { IfSome word.entry (λ w. IfOk result (λ kinds. IsSomeAnd kinds (AreKinds names.now w.now))) }
+    ensures some { IfSome word.entry (λ w. IfOk result (λ kinds. IsSomeAnd kinds (ChoosesKinds names.now w.now))) }
     ensures bad { IfErr result (λ failure. failure ≡ Failure.BadFilter) }
-    ensures only { OnErr result (IfSome word.entry (λ w. AreKinds names.now w.now no_kinds)) }
+    ensures only { OnErr result (IfSome word.entry (λ w. (kinds : AnyKinds) → ¬ ChoosesKinds names.now w.now kinds)) }
 {
     let Some(word) = word else {
         return Ok(None);
@@ -313,7 +320,7 @@ pub fn imsi_of(word: Option<&str>) -> Result<Option<Imsi>, Failure>
 /// The TEID of a word, where there is one: `BadFilter` for what is not eight hexadecimal digits.
 pub fn teid_of(word: Option<&str>) -> Result<Option<Teid>, Failure>
     ensures none { word.entry ≡ None → result ≡ Ok None }
-    ensures some { IfSome word.entry (λ w. IfOk result (λ teid. IsSomeAnd teid (WritesTeid w.now))) }
+    ensures some { IfSome word.entry (λ w. IfOk result (λ teid. IsSomeAnd teid (SaysTeid w.now))) }
     ensures bad { IfErr result (λ failure. failure ≡ Failure.BadFilter) }
     ensures only { OnErr result (IfSome word.entry (λ w. ¬ IsTeidText w.now)) }
 {

@@ -12,7 +12,7 @@ use gtp_lines::{Plane, TypeOf, decode_lines, fault_context};
 use gtp_names::all_names;
 use gtp_scenario::{
     Fault, Items, Role, Tree, access_points_at, address_of, as_list, counter_at, has_only, ipv6_of,
-    json_flaw, json_of, pools_at, reason_of, role_of, text_at, timers_at, value_at,
+    json_flaw, json_of, pools_at, reason_of, role_of, switches_at, text_at, timers_at, value_at,
 };
 use gtp_serve::{MOST_OCTETS, head_reason};
 use gtp_v2::view;
@@ -403,6 +403,11 @@ fn flaw_of_node(alloc: Global, value: &Tree<'_, '_>) -> NodeFlaw {
     }
     if timers_at(value).is_none() {
         return NodeFlaw::Says("t3, n3 or hold is out of range");
+    }
+    if switches_at(value).is_none() {
+        return NodeFlaw::Says(
+            "switches: a list of switches is wanted: \"network_identifiers\", \"version_not_supported\"",
+        );
     }
     match role {
         Role::Packet => NodeFlaw::Says(flaw_of_packet(alloc, value)),

@@ -1,5 +1,5 @@
 -- What takes memory on the control plane, rule by rule.
-use Rattle.std.proofs.Common.{◌≡◌, inl, inr, ℕ, Bool, true, [], ◌∷◌, Option, Some, None, option_map, Result, Ok, Err, sym, ◌∙◌, ap, subst}
+use Rattle.std.proofs.Common.{◌≡◌, inl, inr, ℕ, Bool, true, cond, [], ◌∷◌, Option, Some, None, option_map, Result, Ok, Err, sym, ◌∙◌, ap, subst}
 use Rattle.std.specs.Prelude.{OnErr}
 use Rattle.std.specs.FinMap.{get}
 use Rattle.gtp_values.specs.Counter.{age_of}
@@ -10,10 +10,10 @@ use Rattle.gtp_values.specs.declared.counter.Age.TheVariants as ages
 use Rattle.gtp_machine.specs.declared.role.Role.{Role}
 use Rattle.gtp_machine.specs.declared.role.Role.TheVariants.{Serving, Packet}
 use Rattle.gtp_machine.specs.declared.outcome.Outcome.TheVariants.{Opened}
-use Rattle.gtp_machine.specs.Answer.{IsNew, Faulted, TakesReading, answered, echoed}
+use Rattle.gtp_machine.specs.Answer.{IsNew, Faulted, TakesReading, answered, echoed, tells_version, version_told}
 use Rattle.gtp_machine.specs.Choice.{HasHeldRoom, HasSession}
-use Rattle.gtp_machine.specs.Input.{Came_to, Moves_on, Resend, Effect, FaultyRequest, ControlReading, Control_message, Faulty}
-use Rattle.gtp_machine.specs.Message.{Message, CreateSessionResponse, CreateBearerRequest, CreateBearerResponse, Echo, recovery_of}
+use Rattle.gtp_machine.specs.Input.{Came_to, Moves_on, Resend, Effect, FaultyRequest, ControlReading, Control_message, Faulty, Control_fault, dropped, undecodable}
+use Rattle.gtp_machine.specs.Message.{Control, Message, CreateSessionResponse, CreateBearerRequest, CreateBearerResponse, Echo, recovery_of}
 use Rattle.gtp_machine.specs.Node.{Active, Session, Arrival, Held, Node}
 use Rattle.gtp_machine.specs.Packet.{CreateBearerAnswered}
 use Rattle.gtp_machine.specs.Recovery.{Judges, Weighs, Hears}
@@ -134,6 +134,13 @@ message_needs request old m recovery peer takes counter heard is on needs = read
         let known = subst (λ (h : Heard). AlwaysSendsOrOpens (TakesBy old.role request m) (node_heard h old.node)) is needs in
         hears_needs (TakesBy old.role request m) old.node recovery (λ early. on (subst IsEarlier (sym is) early)) known e
         (subst (λ (o : Option ℕ). Hears (TakesBy old.role request m) old.node o e) (sym counter) hears)
+
+-- octets of another version that the gateway answers
+pub version_needs : (request : Arrival) (number : ℕ) (old : GatewayState) → request.source.ip ≡ old.node.config.peer.control
+    → tells_version old.node.config request.octets number ≡ true → StepSendsOrOpens request (Control_fault number) old
+version_needs request number old peer is =
+    read_needs request (Control_fault number) old peer
+    (λ new e reads. sends (λ none. cc) (subst (λ (b : Bool). e ≡ cond b (version_told request old.node) (dropped old.node (undecodable Control number))) is reads))
 
 -- a request at fault that the gateway answers
 pub fault_needs : (request : Arrival) (f : FaultyRequest) (old : GatewayState) → request.source.ip ≡ old.node.config.peer.control

@@ -24,7 +24,7 @@ use Rattle.gtp_gateway.specs.receive.RestartCounter.{node_heard}
 use Rattle.gtp_gateway.proofs.RestartCounters.{counter_stays, drawn_stays}
 use Rattle.gtp_gateway.proofs.Opened.{none_where, kept_insert, session_stood}
 use Rattle.gtp_gateway.proofs.Templates.{same_octets}
-use Rattle.gtp_machine.specs.Config.{Template, template_for}
+use Rattle.gtp_machine.specs.Config.{Template, template_asked}
 use Rattle.gtp_machine.specs.Input.{Effect}
 use Rattle.gtp_machine.specs.Message.{CreateSessionRequest, CreateSessionResponse}
 use Rattle.gtp_machine.specs.Packet.{AnswersWith, session_cause, session_response, made_session, session_made, SessionJudged, CreateSessionAsked}
@@ -44,7 +44,7 @@ session_judged request q old e r =
     follows (sends_answer request old) (λ one.
     follows (sends_answer request old) (λ identity.
     follows (sends_answer request old) (λ configured. follows (sends_answer request old) (λ served. follows (sends_answer request old) (λ few. follows (sends_answer request old) (λ can makes.
-    answered_with (template_for q.access_point old.config.templates) request (session_response old q makes.control makes.user makes.address) (session_cause q.pdn makes.address) makes.control
+    answered_with (template_asked old.config q.access_point) request (session_response old q makes.control makes.user makes.address) (session_cause q.pdn makes.address) makes.control
     (made_session q makes.address) (session_made old q makes.control makes.user makes.address) e makes.gives)))))) r
 
 pub create_session_asked : (request : Arrival) (q : CreateSessionRequest) (old : Node) → HasHeldRoom old → AlwaysSendsOrOpens (CreateSessionAsked request q) old

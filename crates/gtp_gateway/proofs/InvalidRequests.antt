@@ -1,12 +1,12 @@
 -- What either gateway does with a request at fault.
-use Rattle.std.proofs.Common.{◌≡◌, inr, ℕ, Bool, true, false, refl, sym, ◌∙◌, subst}
+use Rattle.std.proofs.Common.{◌≡◌, inr, ℕ, Bool, true, false, cond, refl, sym, ◌∙◌, ap, subst}
 use Rattle.gtp_v2.specs.Pair.{IsDatagramFault}
 use Rattle.gtp_v2.specs.declared.fault.V2Fault.{V2Fault}
 use Rattle.gtp_machine.specs.declared.role.Role.{Role}
 use Rattle.gtp_machine.specs.Message.{Control}
 use Rattle.gtp_machine.specs.MessageType.{answers_type}
 use Rattle.gtp_machine.specs.Node.{Arrival, Node}
-use Rattle.gtp_machine.specs.Answer.{IsNew, faulted, Faulted, fault_number}
+use Rattle.gtp_machine.specs.Answer.{IsNew, faulted, Faulted, fault_number, tells_version, version_told}
 use Rattle.gtp_machine.specs.Input as inputs
 use Rattle.gtp_machine.specs.Input.{Control_came, dropped, undecodable}
 use Rattle.gtp_machine.specs.Reading.{announces, datagram_fault, datagram_reading, taken_as}
@@ -38,10 +38,19 @@ drops_for request reading s number takes = record {
   stays = refl;
 }
 
--- both gateways drop a datagram whose fault is not answered
-pub fault_dropped : (role : Role) (old : Node) (request : Arrival) (number : ℕ) → request.source.ip ≡ old.config.peer.control → IsNew old request
+-- both gateways drop octets that are no message, where no version is told
+pub fault_dropped : (role : Role) (old : Node) (request : Arrival) (number : ℕ) → tells_version old.config request.octets number ≡ false
+    → request.source.ip ≡ old.config.peer.control → IsNew old request
     → MachineStep role old (Control_came request (inputs.Control_fault number)) (dropped old (undecodable Control number))
-fault_dropped role old request number peer new = inr (peer, inr (new, refl))
+fault_dropped role old request number quiet peer new =
+    inr (peer, inr (new, ap (λ (tells : Bool). cond tells (version_told request old) (dropped old (undecodable Control number))) (sym quiet)))
+
+-- and answer them where one is
+pub version_answered : (role : Role) (old : Node) (request : Arrival) (number : ℕ) → tells_version old.config request.octets number ≡ true
+    → request.source.ip ≡ old.config.peer.control → IsNew old request
+    → MachineStep role old (Control_came request (inputs.Control_fault number)) (version_told request old)
+version_answered role old request number tells peer new =
+    inr (peer, inr (new, ap (λ (t : Bool). cond t (version_told request old) (dropped old (undecodable Control number))) (sym tells)))
 
 -- what was done with a datagram at fault is a step on what its octets read as
 pub fault_received : (arrival : Arrival) (old : GatewayState) (f : V2Fault) (reading : inputs.ControlReading) (step : ControlStep)

@@ -6,10 +6,10 @@ use Rattle.gtp_reliable.specs.Pending.{AreDistinct, IsNextFree}
 use Rattle.gtp_reliable.proofs.Requests.{distinct_filter}
 use Rattle.gtp_reliable.specs.Waiting.{Waiting}
 use mathlib.Core.Logic.{∥∥₁_elim}
-use Rattle.std.specs.Prelude.{not, ◌||◌, All}
+use Rattle.std.specs.Prelude.{not, ◌||◌, All, option_and_then}
 use Rattle.gtp_machine.specs.Choice.{IsFree, HasDraws, IsFreeNumber, HasPendingRoom}
 use Rattle.gtp_machine.specs.Config as machine
-use Rattle.gtp_machine.specs.Config.{Config, template_for}
+use Rattle.gtp_machine.specs.Config.{template_for, access_point_for, template_asked}
 use Rattle.gtp_machine.specs.Input.{Effect}
 use Rattle.gtp_machine.specs.Message.{CreateSessionRequest, CreateBearerRequest, Create_bearer_request}
 use Rattle.gtp_machine.specs.Node.{PendingRequest, Arrival, Node}
@@ -70,11 +70,12 @@ module _ (name : List ℕ) (g : SessionGrant) (heard : Heard) (s : GatewayState)
       (session_cause q.pdn g.address) g.drawn.control (made_session q g.address) (made q) e
 
   by_name : (request : Arrival) (q : CreateSessionRequest) (e : Effect) (template : Option machine.Template)
-      → template ≡ template_for name s.node.config.templates → q.access_point ≡ name → Answers request q template e
-      → Answers request q (template_for q.access_point (node_heard heard s.node).config.templates) e
+      → template ≡ template_for name s.node.config.templates → access_point_for s.node.config q.access_point ≡ Some name → Answers request q template e
+      → Answers request q (template_asked (node_heard heard s.node).config q.access_point) e
   by_name request q e template is of answers =
       subst (λ (t : Option machine.Template). Answers request q t e)
-      (is ∙ (λ i. template_for (sym of i) (sym (config_stays heard s.node) i).templates)) answers
+      (is ∙ ap (option_and_then (λ own. template_for own s.node.config.templates)) (sym of)
+      ∙ (λ i. template_asked (sym (config_stays heard s.node) i) q.access_point)) answers
 
   few_left : HasDraws s.node 3 → (q : CreateSessionRequest) → HasDraws (made q) 1
   few_left has q = record { left = let few = has.left in let same = ap length (drawn_stays heard s.node) in omega (arith, few, same) }

@@ -5,7 +5,9 @@ use Rattle.gtp_tables.specs.Pool.{Prefixes}
 use Rattle.gtp_tables.specs.declared.pool.Pools.{Pools}
 use Rattle.gtp_reliable.specs.Pending.{AreLimits}
 use Rattle.gtp_reliable.specs.Held.{IsHold}
+use Rattle.gtp_machine.specs.declared.switches.Switches.{Switches}
 use Rattle.gtp_machine.specs.Config as machine
+use Rattle.gtp_machine.specs.Config.{no_switches}
 use Rattle.gtp_gateway.specs.declared.config.Addresses.{Addresses}
 use Rattle.gtp_gateway.specs.declared.config.access_points.Template.{Template}
 use Rattle.gtp_gateway.specs.declared.config.Timers.{Timers}
@@ -21,9 +23,13 @@ addresses_of a = record { control = a.control; user = a.user }
 abbrev pub settings_of : Addresses → Addresses → List (List ℕ) → Pools → Timers → Settings
 settings_of own peer access_points pools timers =
     record {
-      config = record { own = addresses_of own; peer = addresses_of peer; access_points = access_points; pools = pools; templates = [] };
+      config = record { own = addresses_of own; peer = addresses_of peer; access_points = access_points; switches = no_switches; pools = pools; templates = [] };
       timers = timers;
     }
+
+-- the same settings with these switches
+abbrev pub switched : Switches → Settings → Settings
+switched switches s = record s { config = record s.config { switches = switches } }
 
 -- a template of the access point with this name
 abbrev pub template_of : List ℕ → Template → machine.Template

@@ -6,10 +6,11 @@ ghost use Rattle.std.specs.Prelude.{◌≡◌, ◌↔◌, IsTrue, IsOk, IfOk, If
 ghost use Rattle.gtp_values.specs.FiniteMap.{Among};
 ghost use Rattle.gtp_values.specs.declared.fault.ValueFault.TheVariants.{OutOfRange};
 ghost use Rattle.gtp_tables.specs.Pool.{ArePrefixes, no_prefixes};
-ghost use Rattle.gtp_machine.specs.Config.{template_for};
-ghost use Rattle.gtp_gateway.specs.Settings.{settings_of, with_prefixes, AreSettings, template_by, templates_in, with_template};
+ghost use Rattle.gtp_machine.specs.Config.{template_for, access_point_for};
+ghost use Rattle.gtp_gateway.specs.Settings.{settings_of, switched, with_prefixes, AreSettings, template_by, templates_in, with_template};
 
-use crate::config::access_points::{Template, place_of, template_at};
+use crate::config::access_points::{Template, meant_among, place_of, template_at};
+use gtp_machine::Switches;
 use gtp_tables::{Pool, Pools, Prefixes};
 use gtp_values::{Apn, Ip, Memory, Qos, Tft, ValueFault};
 use std::alloc::Global;
@@ -62,18 +63,19 @@ pub struct Config {
     own: Addresses,
     peer: Addresses,
     access_points: Vec<Apn>,
+    switches: Switches,
     pools: Pools,
     templates: Templates,
     timers: Timers,
 }
 
 impl Model for Config {
-    ghost use Rattle.gtp_gateway.specs.Settings.{Settings, settings_of, templates_in, with_templates, AreSettings};
+    ghost use Rattle.gtp_gateway.specs.Settings.{Settings, settings_of, switched, templates_in, with_templates, AreSettings};
 
     ghost Value = { Settings };
 
     ghost view = { λ c. with_templates (templates_in c.access_points.items c.templates.places)
-        (settings_of c.own c.peer c.access_points.items c.pools c.timers) };
+        (switched c.switches (settings_of c.own c.peer c.access_points.items c.pools c.timers)) };
 
     ghost invariant = { λ c. AreSettings c.access_points.items c.timers };
 }
@@ -105,6 +107,7 @@ impl Config {
             own,
             peer,
             access_points,
+            switches: Switches::default(),
             pools: Pools {
                 v4: pool,
                 v6: Prefixes::none(),
@@ -128,6 +131,14 @@ impl Config {
     {
         self.pools.v6 = Prefixes::try_new(start, count)?;
         Ok(self)
+    }
+
+    /// The same settings with these switches, in place of those before. Allocates nothing.
+    pub fn with_switches(mut self, switches: Switches) -> Config
+        ensures { result ≡ switched switches self }
+    {
+        self.switches = switches;
+        self
     }
 
     /// The same settings, with a template for an access point: besides its default bearer, each of its sessions gets a
@@ -163,6 +174,7 @@ impl Config {
             own: self.own,
             peer: self.peer,
             access_points,
+            switches: self.switches,
             pools: self.pools,
             templates: self.templates,
             timers: self.timers,
@@ -192,11 +204,31 @@ impl Config {
         *address == self.peer.user
     }
 
+    /// Which optional behaviour is on.
+    pub fn switches(&self) -> Switches
+        ensures { result ≡ self.now.config.switches }
+    {
+        self.switches
+    }
+
     /// The access points, in the order in which they were given.
     pub fn access_points(&self) -> &[Apn]
         ensures { result.now ≡ self.now.config.access_points }
     {
         self.access_points.as_slice()
+    }
+
+    /// The access point that is meant by this name: the one that is written so, else, by the switch, the first with its
+    /// network identifier.
+    pub fn access_point_for(&self, name: &Apn) -> Option<Apn>
+        ensures { result ≡ access_point_for self.now.config name.now }
+    {
+        let access_points = self.access_points.as_slice();
+        match meant_among(false, access_points, name) {
+            Some(own) => Some(own),
+            None if self.switches.network_identifiers => meant_among(true, access_points, name),
+            None => None,
+        }
     }
 
     /// The template of the access point with this name, where it has one.

@@ -25,7 +25,7 @@ pub use step::{Accepted, Report, Step};
 pub use tick::Ticked;
 
 /// What the signatures and contracts here name of the crates below.
-pub use gtp_machine::{DropReason, FaultName, Outcome, Plane, Refusal, Role};
+pub use gtp_machine::{DropReason, FaultName, Outcome, Plane, Refusal, Role, Switches};
 pub use gtp_reliable::Request;
 pub use gtp_tables::{
     Bearer, BearerList, Kind, Pool, Pools, Prefixes, Session, SessionList, State, Subscriber,

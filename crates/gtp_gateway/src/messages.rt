@@ -8,3 +8,4 @@ pub mod echo;
 pub mod elements;
 pub mod encode;
 pub mod refusal;
+pub mod version_not_supported;

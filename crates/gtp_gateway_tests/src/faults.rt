@@ -119,6 +119,10 @@ const OF_DATAGRAMS: &[(DropReason, &str)] = &[
         DropReason::NotPeer,
         "X11: the source address is not the peer's",
     ),
+    (
+        DropReason::OtherVersion,
+        "X12: it is of another version, and the sender is told which one is supported",
+    ),
 ];
 
 /// Why a run has no capture.

@@ -9,3 +9,4 @@ pub mod Datagrams
 pub mod Templates
 pub mod Types
 pub mod Finishing
+pub mod Versions

@@ -3,3 +3,4 @@ pub mod Holding
 pub mod ActsOnce
 pub mod Replying
 pub mod Opening
+pub mod Versions

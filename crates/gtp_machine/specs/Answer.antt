@@ -1,20 +1,23 @@
 -- Answers that a gateway gives (TS 29.274, 7.6 and 7.7), and the place where requests come in.
-use Rattle.std.specs.Prelude.{◌≡◌, ◌⊎◌, ℕ, List, [], ◌∷◌, Option, Some, None, Bool, true, false}
+use Rattle.std.specs.Prelude.{◌≡◌, ◌⊎◌, ℕ, ◌/◌, ◌==◌, ◌&&◌, not, List, [], ◌∷◌, slice_get, Option, Some, None, Bool, true, false, if◌then◌else◌}
+use Rattle.std.specs.Option.{option_map_or}
 use Rattle.std.specs.FinMap.{get}
 use Rattle.gtp_values.specs.declared.cause.Cause.{Cause}
 use Rattle.gtp_values.specs.FiniteMap.{Among}
 use Rattle.gtp_v2.specs.Codes.{missing_number, element_number}
+use Rattle.gtp_v2.specs.VersionNotSupported.{version_not_supported}
 use Rattle.gtp_machine.specs.declared.causes.TheConstants.{INVALID_LENGTH, MANDATORY_IE_INCORRECT, MANDATORY_IE_MISSING}
 use Rattle.gtp_machine.specs.declared.causes.TheConstants.{CONDITIONAL_IE_MISSING}
 use Rattle.gtp_machine.specs.declared.message_type.MessageType.TheVariants as types
 use Rattle.gtp_machine.specs.Ordered.{Unless}
+use Rattle.gtp_machine.specs.Config.{Config}
 use Rattle.gtp_machine.specs.Element.{cause_at, teid_in}
 use Rattle.gtp_machine.specs.Message.{Message, Control, Echo, Echo_response, Create_session_response, Delete_session_response}
-use Rattle.gtp_machine.specs.Message.{Create_bearer_response, Delete_bearer_response, recovery_of}
+use Rattle.gtp_machine.specs.Message.{Create_bearer_response, Delete_bearer_response, Other_control, recovery_of}
 use Rattle.gtp_machine.specs.MessageType.{takes_message, answers_type}
 use Rattle.gtp_machine.specs.Node.{Role, Pending, Active, Closing, State, Session, Arrival, Held, Node, holding, written}
 use Rattle.gtp_machine.specs.Input.{Came_to, MessageType, Defect, Mandatory_missing, Conditional_missing, Too_short, Out_of_range}
-use Rattle.gtp_machine.specs.Input.{FaultyRequest, Effect, Answered, Echoed, Repeated, says_all, says, dropped, HeldFull, NotPeer}
+use Rattle.gtp_machine.specs.Input.{FaultyRequest, Effect, Answered, Echoed, Repeated, says_all, says, dropped, Dropped, HeldFull, NotPeer, OtherVersion}
 use Rattle.gtp_machine.specs.Input.{ControlReading, Control_message, Faulty, Control_fault, undecodable, Unexpected}
 use Rattle.gtp_machine.specs.Choice.{HasHeldRoom}
 use Rattle.gtp_machine.specs.Recovery.{Hears}
@@ -127,13 +130,43 @@ abbrev pub Faulted : Bool → Arrival → FaultyRequest → Node → Effect → 
 Faulted true request f old e = e ≡ faulted request f old
 Faulted false request f old e = e ≡ dropped old (undecodable Control (fault_number f.defect))
 
+-- the printed number of the fault of another version than 2: H2
+abbrev pub version_number : ℕ
+version_number = 2
+
+-- the octets state this type, which is the second octet in each version
+abbrev pub states_type : List ℕ → ℕ → Bool
+states_type octets kind = option_map_or (λ k. k == kind) (slice_get octets 1) false
+
+-- octets are of another version than 2, which stands in the first three bits (5.1)
+abbrev pub is_other_version : List ℕ → Bool
+is_other_version octets = option_map_or (λ first. not (first / 32 == 2)) (slice_get octets 0) false
+
+-- octets of another version are answered where the gateway does so, unless they are such an answer themselves (7.7.2)
+abbrev pub tells_version : Config → List ℕ → ℕ → Bool
+tells_version config octets fault =
+    config.switches.version_not_supported
+    && ((fault == version_number) && (is_other_version octets && not (states_type octets version_not_supported.kind)))
+
+-- a Version Not Supported Indication goes to where the octets came from (7.1.3), and nothing changes
+abbrev pub version_told : Arrival → Node → Effect
+version_told request old = record {
+  out = says request.source (Other_control version_not_supported.kind);
+  outcome = Came_to (Dropped OtherVersion);
+  node = old;
+}
+
+-- octets that are no message are dropped, and no other ones are answered
+abbrev pub undecoded : ℕ → Arrival → Node → Effect
+undecoded fault request old = if tells_version old.config request.octets fault then version_told request old else dropped old (undecodable Control fault)
+
 -- What was read, where this gateway does so with the messages that it takes: another one is dropped before its counter is heard.
 abbrev pub TakesReading : Role → (Arrival → Message → Node → Effect → Type 0) → ControlReading → Arrival → Node → Effect → Type 0
 TakesReading role Takes (Control_message message) request old e =
     Unless (takes_message role message ≡ true) (e ≡ dropped old Unexpected) (λ taken.
     Hears (Takes request message) old (recovery_of message) e)
 TakesReading role Takes (Faulty f) request old e = Faulted (answers_type role f.kind) request f old e
-TakesReading role Takes (Control_fault fault) request old e = e ≡ dropped old (undecodable Control fault)
+TakesReading role Takes (Control_fault fault) request old e = e ≡ undecoded fault request old
 
 -- A control plane datagram: first its source address is looked at, then the answers that are held, then what was read.
 abbrev pub ControlStep : (Arrival → Node → Effect → Type 0) → Arrival → Node → Effect → Type 0

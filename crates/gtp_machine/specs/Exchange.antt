@@ -1,9 +1,8 @@
 -- The exchange that makes a session (TS 29.274, 7.2.1 and 7.2.2), on a path that brings each datagram at once.
-use Rattle.std.specs.Prelude.{◌≡◌, ◌⊎◌, ℕ, ◌+◌, ◌≤◌, ◌<◌, ◌^◌, List, All, [], ◌∷◌, ◌++◌, Some, is_some, IsTrue, length}
+use Rattle.std.specs.Prelude.{◌≡◌, ◌⊎◌, ℕ, ◌+◌, ◌≤◌, ◌<◌, ◌^◌, List, All, [], ◌∷◌, ◌++◌, Some, is_some, IsSome, IsTrue, length}
 use Rattle.std.specs.FinMap.{get}
 use Rattle.gtp_values.specs.Address.{IsIp}
 use Rattle.gtp_values.specs.Apn.{IsApn}
-use Rattle.gtp_values.specs.FiniteMap.{Among}
 use Rattle.gtp_values.specs.Imsi.{IsImsi}
 use Rattle.gtp_values.specs.Plmn.{IsNetwork}
 use Rattle.gtp_values.specs.declared.qos.Ambr.{Ambr}
@@ -11,7 +10,7 @@ use Rattle.gtp_values.specs.declared.qos.Qos.{Qos}
 use Rattle.gtp_ie.specs.Value.{AreRates}
 use Rattle.gtp_tables.specs.Pool.{IsPool, ArePrefixes}
 use Rattle.gtp_machine.specs.declared.causes.TheConstants.{REQUEST_ACCEPTED, NEW_PDN_TYPE_DUE_TO_NETWORK_PREFERENCE}
-use Rattle.gtp_machine.specs.Config.{Template, Config}
+use Rattle.gtp_machine.specs.Config.{Template, Config, access_point_for}
 use Rattle.gtp_machine.specs.Element.{PdnAddress}
 use Rattle.gtp_machine.specs.Message.{CreateSessionResponse, Message, Create_session_response, plane_of}
 use Rattle.gtp_machine.specs.Node.{Role, Serving, Packet, Session, Bearer, Default}
@@ -73,7 +72,7 @@ AllRead w = (role : Role) (m : Message) → HasSent w.history role m → ReadsAs
 -- nothing stands in the way of a session for this specification
 pub record CanExchange (w : World) (spec : Specification) : Type 0 where
   pub identity : IsIdentity spec.subscriber.identity
-  pub configured : Among spec.subscriber.access_point w.packet.node.config.access_points
+  pub configured : IsSome (access_point_for w.packet.node.config spec.subscriber.access_point)
   pub serving_room : HasSessionRoom w.serving.node
   pub packet_room : HasSessionRoom w.packet.node
   pub serving_draws : HasDraws w.serving.node 2

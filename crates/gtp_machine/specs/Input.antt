@@ -16,7 +16,7 @@ pub use Rattle.gtp_machine.specs.declared.outcome.FaultName.{FaultName}
 pub use Rattle.gtp_machine.specs.declared.outcome.DropReason.{DropReason}
 pub use Rattle.gtp_machine.specs.declared.outcome.DropReason.TheVariants.{Undecodable, OldCounter, NoPending, Mismatch, ContextNotActive}
 pub use Rattle.gtp_machine.specs.declared.outcome.DropReason.TheVariants.{UnknownContext, AfterEnd, HeldFull, Unexpected, UnknownExtension}
-pub use Rattle.gtp_machine.specs.declared.outcome.DropReason.TheVariants.{NotPeer}
+pub use Rattle.gtp_machine.specs.declared.outcome.DropReason.TheVariants.{NotPeer, OtherVersion}
 pub use Rattle.gtp_machine.specs.declared.outcome.Outcome.{Outcome}
 pub use Rattle.gtp_machine.specs.declared.outcome.Outcome.TheVariants.{Begun, GoneOut, Refused, Answered, Echoed, Repeated, Opened, Closed}
 pub use Rattle.gtp_machine.specs.declared.outcome.Outcome.TheVariants.{Clash, Rejected, Alive, Accepted, Ended, Broken, Dropped}

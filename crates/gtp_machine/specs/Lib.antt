@@ -3,6 +3,7 @@ pub mod Element
 pub mod messages
 pub mod Message
 pub mod MessageType
+pub mod AccessPoints
 pub mod Config
 pub mod Node
 pub mod Input
@@ -30,3 +31,4 @@ pub mod Sound
 pub mod Determined
 pub mod Exchange
 pub mod Numbers
+pub mod Versions

@@ -1,5 +1,5 @@
 -- The control plane of the packet gateway.
-use Rattle.std.specs.Prelude.{◌≡◌, ◌≢◌, ℕ, ◌==◌, ◌&&◌, not, List, [], ◌∷◌, Option, Some, None, is_some, false, if◌then◌else◌}
+use Rattle.std.specs.Prelude.{◌≡◌, ◌≢◌, ℕ, ◌==◌, ◌&&◌, not, List, [], ◌∷◌, Option, Some, None, is_some, IsSome, false, if◌then◌else◌}
 use Rattle.std.specs.FinMap.{insert, remove}
 use Rattle.gtp_values.specs.declared.cause.Cause.{Cause}
 use Rattle.gtp_values.specs.PdnAddress.{allocation}
@@ -11,8 +11,7 @@ use Rattle.gtp_machine.specs.declared.causes.TheConstants.{REQUEST_REJECTED}
 use Rattle.gtp_machine.specs.declared.interface_types.TheConstants.{S5S8_PGW_GTP_U, S5S8_PGW_GTP_C}
 use Rattle.gtp_machine.specs.declared.message_type.MessageType.TheVariants as types
 use Rattle.gtp_machine.specs.Ordered.{Unless}
-use Rattle.gtp_machine.specs.Config.{Template, template_for}
-use Rattle.gtp_values.specs.FiniteMap.{Among}
+use Rattle.gtp_machine.specs.Config.{Template, access_point_for, template_asked}
 use Rattle.gtp_machine.specs.Element.{IsAccepting, PdnAddress, cause_of, cause_at, teid_in, tunnel_end}
 use Rattle.gtp_machine.specs.Message.{CreateSessionRequest, CreateSessionResponse, DeleteSessionRequest, DeleteSessionResponse}
 use Rattle.gtp_machine.specs.Message.{CreateBearerRequest, GivenBearer, CreateBearerResponse, DeleteBearerRequest, DeleteBearerResponse}
@@ -111,7 +110,7 @@ pub record MakesSession (request : Arrival) (old : Node) (q : CreateSessionReque
   pub user_free : IsFree old user
   pub apart : control ≢ user
   pub given : IsGiven old q.pdn address
-  pub gives : AnswersWith (template_for q.access_point old.config.templates)
+  pub gives : AnswersWith (template_asked old.config q.access_point)
       request (session_response old q control user address) (session_cause q.pdn address)
       control (made_session q address) (session_made old q control user address) e
 
@@ -125,7 +124,7 @@ module _ (request : Arrival) (q : CreateSessionRequest) where
   SessionJudged old e =
       Unless (q.further ≡ []) (e ≡ session_refused (cause_of REQUEST_REJECTED) old) (λ one.
       Unless (IsIdentity q.context.identity) (e ≡ session_refused (cause_at MANDATORY_IE_INCORRECT EBI 0) old) (λ identity.
-      Unless (Among q.access_point old.config.access_points) (e ≡ session_refused (cause_of MISSING_OR_UNKNOWN_APN) old) (λ configured.
+      Unless (IsSome (access_point_for old.config q.access_point)) (e ≡ session_refused (cause_of MISSING_OR_UNKNOWN_APN) old) (λ configured.
       Unless (IsServed old.config q.pdn) (e ≡ session_refused (cause_of PREFERRED_PDN_TYPE_NOT_SUPPORTED) old) (λ served.
       Unless (HasSessionRoom old × HasDraws old 2) (e ≡ session_refused (cause_of NO_RESOURCES_AVAILABLE) old) (λ few.
       Unless (CanGive old q.pdn) (e ≡ session_refused (cause_of ALL_DYNAMIC_ADDRESSES_ARE_OCCUPIED) old) (λ can.

@@ -1,5 +1,5 @@
 -- The octets that a gateway sends for a message: the canonical encoding of what it says, field by field (TS 29.274, 5 to 8; TS 29.281, 5, 7 and 8).
-use Rattle.std.specs.Prelude.{◌≡◌, ℕ, ◌<◌, List, [], ◌∷◌, All, Option, Some, None}
+use Rattle.std.specs.Prelude.{◌≡◌, ℕ, ◌<◌, ◌==◌, if◌then◌else◌, List, [], ◌∷◌, All, Option, Some, None}
 use Rattle.gtp_values.specs.declared.address.Endpoint.{Endpoint}
 use Rattle.gtp_v2.specs.EchoRequest.{echo_request}
 use Rattle.gtp_v2.specs.EchoResponse.{echo_response}
@@ -11,7 +11,8 @@ use Rattle.gtp_v2.specs.CreateBearerRequest.{create_bearer_request}
 use Rattle.gtp_v2.specs.CreateBearerResponse.{create_bearer_response}
 use Rattle.gtp_v2.specs.DeleteBearerRequest.{delete_bearer_request}
 use Rattle.gtp_v2.specs.DeleteBearerResponse.{delete_bearer_response}
-use Rattle.gtp_v2.specs.Message.{Raw, MessageValue}
+use Rattle.gtp_v2.specs.VersionNotSupported.{version_not_supported}
+use Rattle.gtp_v2.specs.Message.{Content, Fields, Raw, MessageValue}
 use Rattle.gtp_v2.specs.Encoding.{canonical_encoding, Meets}
 use Rattle.gtp_v2.specs.Pair.{Announces, paired}
 use Rattle.gtp_user.specs.Message as user_messages
@@ -35,6 +36,10 @@ use Rattle.gtp_machine.specs.Config.{Config, own_end}
 use Rattle.gtp_machine.specs.Input.{Control_message, User_message, Sending}
 use Rattle.gtp_machine.specs.Reading.{ControlReads, DatagramReads, Both, UserReads}
 
+-- what a message of another type carries: a Version Not Supported Indication (7.1.3) no elements, and of all else nothing is known
+abbrev pub other_content : ℕ → Content
+other_content kind = if kind == version_not_supported.kind then Fields [] else Raw []
+
 -- What a message of the control plane says, by the fields of its table (7.1, 7.2), which stand in its file in `messages`. Of a message of another
 -- type nothing is known but its type.
 abbrev pub control_value : Message → MessageValue
@@ -48,7 +53,7 @@ control_value (Create_bearer_request r) = typed create_bearer_request.kind (Some
 control_value (Create_bearer_response x) = typed create_bearer_response.kind (Some x.header) x.number (create_bearer_response_fields x)
 control_value (Delete_bearer_request d) = typed delete_bearer_request.kind (Some d.header) d.number (delete_bearer_request_fields d)
 control_value (Delete_bearer_response d) = typed delete_bearer_response.kind (Some d.header) d.number (delete_bearer_response_fields d)
-control_value (Other_control kind) = record { kind = kind; teid = None; seq = 0; priority = None; content = Raw [] }
+control_value (Other_control kind) = record { kind = kind; teid = None; seq = 0; priority = None; content = other_content kind }
 control_value _ = record { kind = 0; teid = None; seq = 0; priority = None; content = Raw [] }
 
 -- a message of the user plane with this sequence number, no N-PDU number and no extension headers
@@ -115,7 +120,7 @@ datagram_of config s = record {
 
 -- a kind that a gateway sends
 abbrev pub IsOfOwnKind : Message → Type 0
-IsOfOwnKind (Other_control kind) = ⊥
+IsOfOwnKind (Other_control kind) = kind ≡ version_not_supported.kind
 IsOfOwnKind (Other_user kind) = ⊥
 IsOfOwnKind m = Unit {0}
 

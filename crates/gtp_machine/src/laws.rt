@@ -41,6 +41,7 @@ ghost use Rattle.gtp_machine.specs.Reading.{
 };
 ghost use Rattle.gtp_machine.specs.Named.{ControlByName};
 ghost use Rattle.gtp_machine.specs.Numbers.{CauseValues, ElementTypes, InterfaceTypes};
+ghost use Rattle.gtp_machine.specs.Versions.{TellingIsNotAnswered, ToldVersionReads, VersionIsTold};
 ghost use Rattle.gtp_machine.specs.Spelling.{PairSpelledReads, SpelledApart, SpelledReads};
 ghost use Rattle.gtp_machine.specs.Determined.{
   OneAnswer,
@@ -227,6 +228,20 @@ pub fn determined()
 
     // A gateway that is reached from a start holds at most one answer for a request, as these ask.
     ensures reached { ReachedHoldsOneAnswer }
+{}
+
+/// What a gateway does with other versions than 2.
+pub fn versions()
+    // Octets of another version are answered by a Version Not Supported Indication, where the switch
+    // is on.
+    ensures told { VersionIsTold }
+
+    // What is sent then reads as such an indication.
+    ensures reads { ToldVersionReads }
+
+    // Nothing is sent for such an indication, of whatever version it is, but an answer that is held
+    // for the same octets. So two gateways do not answer each other for ever.
+    ensures unanswered { TellingIsNotAnswered }
 {}
 
 /// The numbers of the standard that the definitions name by constants.

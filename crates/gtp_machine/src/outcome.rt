@@ -89,6 +89,9 @@ pub enum DropReason {
     /// X11: its source address is not the peer's.
     #[error("X11: the source address is not the peer's")]
     NotPeer,
+    /// X12: it is of another version than 2, and is answered with a Version Not Supported Indication (TS 29.274 7.7.2).
+    #[error("X12: it is of another version, and the sender is told which one is supported")]
+    OtherVersion,
 }
 
 /// The outcome of a step of a gateway. Each command and each datagram has exactly one.

@@ -7,7 +7,7 @@ use Rattle.gtp_machine.specs.declared.outcome.FaultName.{FaultName}
 use Rattle.gtp_machine.specs.declared.outcome.Refusal.{Refusal}
 use Rattle.gtp_machine.specs.declared.outcome.Refusal.TheVariants.{NoSuchContext, NotActive, WrongRole, SessionsFull, TeidsUsed, PendingFull, BearerEnded, PacketTooLong}
 use Rattle.gtp_machine.specs.declared.outcome.DropReason.{DropReason}
-use Rattle.gtp_machine.specs.declared.outcome.DropReason.TheVariants.{Undecodable, OldCounter, NoPending, Mismatch, ContextNotActive, UnknownContext, AfterEnd, HeldFull, Unexpected, UnknownExtension, NotPeer}
+use Rattle.gtp_machine.specs.declared.outcome.DropReason.TheVariants.{Undecodable, OldCounter, NoPending, Mismatch, ContextNotActive, UnknownContext, AfterEnd, HeldFull, Unexpected, UnknownExtension, NotPeer, OtherVersion}
 use Rattle.gtp_machine.specs.declared.outcome.Outcome.{Outcome}
 use Rattle.gtp_machine.specs.declared.outcome.Outcome.TheVariants.{Begun, GoneOut, Refused, Answered, Echoed, Repeated, Opened, Closed, Clash, Rejected, Alive, Accepted, Ended, Broken, Dropped}
 use Rattle.gtp_machine.specs.World.{EventOutcome, Came_to, Ticked, Restarted, No_such_datagram, Restarts_used, Cut_too_long}
@@ -48,6 +48,7 @@ drop_word HeldFull = codes "X8"
 drop_word Unexpected = codes "X9"
 drop_word UnknownExtension = codes "X10"
 drop_word NotPeer = codes "X11"
+drop_word OtherVersion = codes "X12"
 
 abbrev pub plane_word : Plane → List ℕ
 plane_word planes.Control = codes "control"

@@ -53,6 +53,7 @@ pub fn drop_word(reason: DropReason) -> &'static str
         DropReason::Unexpected => "X9",
         DropReason::UnknownExtension => "X10",
         DropReason::NotPeer => "X11",
+        DropReason::OtherVersion => "X12",
     }
 }
 

@@ -12,7 +12,7 @@ use Rattle.gtp_tables.specs.declared.context.Session.{Session}
 use Rattle.gtp_tables.specs.declared.context.Bearer.{Bearer}
 use Rattle.gtp_machine.specs.declared.outcome.DropReason.{DropReason}
 use Rattle.gtp_machine.specs.declared.outcome.DropReason.TheVariants.{Undecodable, OldCounter, NoPending, Mismatch, ContextNotActive, UnknownContext}
-use Rattle.gtp_machine.specs.declared.outcome.DropReason.TheVariants.{AfterEnd, HeldFull, Unexpected, UnknownExtension, NotPeer}
+use Rattle.gtp_machine.specs.declared.outcome.DropReason.TheVariants.{AfterEnd, HeldFull, Unexpected, UnknownExtension, NotPeer, OtherVersion}
 use Rattle.gtp_machine.specs.declared.outcome.Outcome.{Outcome}
 use Rattle.gtp_machine.specs.declared.outcome.Outcome.TheVariants.{Begun, GoneOut, Refused, Answered, Echoed, Repeated, Opened, Closed, Clash, Rejected, Alive, Accepted, Ended, Broken, Dropped}
 use Rattle.gtp_machine.specs.World.{By, Event, EventOutcome, Came_to, Ticked, Restarted, No_such_datagram, Restarts_used, Cut_too_long}
@@ -92,6 +92,7 @@ drop_within n HeldFull = tt
 drop_within n Unexpected = tt
 drop_within n UnknownExtension = tt
 drop_within n NotPeer = tt
+drop_within n OtherVersion = tt
 
 details_within : (n : ℕ) (outcome : Outcome) → Within n (outcome_details outcome)
 details_within n (Begun teid) = where_within n (teid_member (codes "teid")) teid (λ x. teid_within n (codes "teid") x)

@@ -17,7 +17,8 @@ use Rattle.gtp_scenario.specs.Events.{tft_at, qos}
 use Rattle.gtp_scenario.specs.Json.{text_at, whole_number, within, is_among, all_among, has_only, count_of}
 use Rattle.gtp_scenario.specs.Texts.{apn_of, address_of}
 use Rattle.gtp_scenario.specs.Heads.{PacketHead, address_at, addresses_at, counter_at, access_points_in, access_points_at, pool_at, prefixes_at}
-use Rattle.gtp_scenario.specs.Heads.{pools_at, time_at, timers_at, serving_of, packet_of, set_up, template_of, configured, with_this, with_each}
+use Rattle.gtp_machine.specs.declared.switches.Switches.{Switches}
+use Rattle.gtp_scenario.specs.Heads.{switches_of, switches_at, pools_at, time_at, timers_at, serving_of, packet_of, set_up, template_of, configured, with_this, with_each}
 use Rattle.gtp_scenario.specs.Heads.{with_those, with_templates_at, setup_of, events_at}
 use Rattle.gtp_scenario.specs.Keys.{key_text, may_be_absent, is_met, is_met_by, scenario_keys, serving_keys, packet_keys, template_keys}
 use Rattle.gtp_scenario.specs.Reasons.{fits, names_one_of}
@@ -44,12 +45,20 @@ pub counter_met : (d : Data) → is_met d keys.Counter ≡ true → is_some (cou
 unfolding counter_at
 counter_met d met = joined (get (codes "counter") d) whole_number (within 0 255) (needed keys.Counter d (get (codes "counter") d) (λ v. whole_number v >>= within 0 255) refl (λ v. refl) met)
 
+pub switches_met : (d : Data) → is_met d keys.Switches ≡ true → is_some (switches_at d) ≡ true
+unfolding switches_at
+switches_met d met = by (get (codes "switches") d) met
+  where
+    by : (o : Option Data) → is_met_by d keys.Switches o ≡ true → is_some (switches_of o) ≡ true
+    by None h = refl
+    by (Some v) h = h
+
 serving_read : (d : Data) → fits serving_keys d ≡ true → is_some (serving_of d) ≡ true
 unfolding serving_of
 serving_read d h =
     let met = met_in serving_keys d h in
     gated _ _ (parts serving_keys d h).only (chain (addresses_at d) _ (addresses_met d (met 0 keys.Control refl) (met 1 keys.User refl))
-    (λ own. chain (counter_at d) _ (counter_met d (met 2 keys.Counter refl)) (λ counter. refl)))
+    (λ own. chain (counter_at d) _ (counter_met d (met 2 keys.Counter refl)) (λ counter. chain (switches_at d) _ (switches_met d (met 3 keys.Switches refl)) (λ switches. refl))))
 
 -- ---- the packet gateway
 
@@ -65,11 +74,11 @@ pub record IsPacketRead (d : Data) : Type 0 where
   pub read : packet_of d ≡ Some head
   pub names : access_points_at d ≡ Some head.access_points
 
-pub packet_is : (d : Data) (own : Addresses) (counter : ℕ) (names : List (List ℕ)) (v4 : Range) (v6 : Prefixes) → has_only (map key_text packet_keys) d ≡ true
-    → addresses_at d ≡ Some own → counter_at d ≡ Some counter → access_points_at d ≡ Some names → pool_at d ≡ Some v4 → prefixes_at d ≡ Some v6
-    → packet_of d ≡ Some (record { own = own; counter = counter; access_points = names; pools = record { v4 = v4; v6 = v6 } })
+pub packet_is : (d : Data) (own : Addresses) (counter : ℕ) (names : List (List ℕ)) (v4 : Range) (v6 : Prefixes) (switches : Switches) → has_only (map key_text packet_keys) d ≡ true
+    → addresses_at d ≡ Some own → counter_at d ≡ Some counter → access_points_at d ≡ Some names → pool_at d ≡ Some v4 → prefixes_at d ≡ Some v6 → switches_at d ≡ Some switches
+    → packet_of d ≡ Some (record { own = own; counter = counter; access_points = names; pools = record { v4 = v4; v6 = v6 }; switches = switches })
 unfolding packet_of pools_at
-packet_is d own counter names v4 v6 only a b c e f = rw (only, a, b, c, e, f) refl
+packet_is d own counter names v4 v6 switches only a b c e f g = rw (only, a, b, c, e, f, g) refl
 
 packet_read : (d : Data) → IsPacket packet_keys d → IsPacketRead d
 packet_read d is =
@@ -80,9 +89,10 @@ packet_read d is =
     let names = some_of (access_points_at d) (access_points_met d (met 3 keys.Apns refl)) in
     let v4 = some_of (pool_at d) (by_some (pool_at d) is.pool) in
     let v6 = some_of (prefixes_at d) (by_some (prefixes_at d) is.prefixes) in
+    let switches = some_of (switches_at d) (switches_met d (met 9 keys.Switches refl)) in
     record {
-      head = record { own = own.0; counter = counter.0; access_points = names.0; pools = record { v4 = v4.0; v6 = v6.0 } };
-      read = packet_is d own.0 counter.0 names.0 v4.0 v6.0 only own.1 counter.1 names.1 v4.1 v6.1;
+      head = record { own = own.0; counter = counter.0; access_points = names.0; pools = record { v4 = v4.0; v6 = v6.0 }; switches = switches.0 };
+      read = packet_is d own.0 counter.0 names.0 v4.0 v6.0 switches.0 only own.1 counter.1 names.1 v4.1 v6.1 switches.1;
       names = names.1;
     }
 

@@ -23,7 +23,7 @@ use Rattle.gtp_scenario.specs.Events.{tft_at}
 use Rattle.gtp_scenario.specs.Json.{text_at, number_at, whole_number, within, is_among, all_among, has_only, count_of}
 use Rattle.gtp_scenario.specs.Texts.{apn_of, address_of, ipv6_of}
 use Rattle.gtp_scenario.specs.Heads.{PacketHead, address_at, addresses_at, counter_at, access_points_in, access_points_at, pool_at, prefixes_from}
-use Rattle.gtp_scenario.specs.Heads.{prefixes_at, pools_at, time_at, timers_at, serving_of, packet_of, set_up, template_of, configured, with_this}
+use Rattle.gtp_scenario.specs.Heads.{prefixes_at, pools_at, switches_of, switches_at, time_at, timers_at, serving_of, packet_of, set_up, template_of, configured, with_this}
 use Rattle.gtp_scenario.specs.Heads.{with_each, with_those, with_templates_at, setup_of, events_at}
 use Rattle.gtp_scenario.specs.Keys.{key_text, wanted_of, is_good, is_met, is_met_by, scenario_keys, serving_keys, packet_keys, template_keys}
 use Rattle.gtp_scenario.specs.Reasons.{fits, names_one_of, IsTemplateFlaw, IsPacketFlaw, IsHeadFlaw}
@@ -64,6 +64,14 @@ counter_kept : (d : Data) → is_some (counter_at d) ≡ true → is_met d keys.
 unfolding counter_at
 counter_kept d h = kept keys.Counter d (get (codes "counter") d) (λ v. whole_number v >>= within 0 255) (λ v. refl) (apart (get (codes "counter") d) whole_number (within 0 255) h)
 
+switches_kept : (d : Data) → is_some (switches_at d) ≡ true → is_met d keys.Switches ≡ true
+unfolding switches_at
+switches_kept d h = by (get (codes "switches") d) h
+  where
+    by : (o : Option Data) → is_some (switches_of o) ≡ true → is_met_by d keys.Switches o ≡ true
+    by None h = refl
+    by (Some v) h = h
+
 -- the keys of both gateways, and those that come after them
 ends_kept : (d : Data) (known : List Key) → is_some (addresses_at d) ≡ true → is_some (counter_at d) ≡ true → list_all (is_met d) known ≡ true
     → list_all (is_met d) (keys.Control ∷ keys.User ∷ keys.Counter ∷ known) ≡ true
@@ -78,7 +86,8 @@ serving_fits : (d : Data) → is_some (serving_of d) ≡ true → fits serving_k
 unfolding serving_of
 serving_fits d h =
     let own = two (addresses_at d) _ (behind _ _ h) in
-    fit serving_keys d (gate _ _ h) (ends_kept d [] own.0 (had (counter_at d) _ own.1.next) refl)
+    let counter = two (counter_at d) _ own.1.next in
+    fit serving_keys d (gate _ _ h) (ends_kept d (keys.Switches ∷ []) own.0 counter.0 (with_key d keys.Switches [] (switches_kept d (had (switches_at d) _ counter.1.next)) refl))
 
 -- ---- the packet gateway
 
@@ -154,25 +163,28 @@ packet_parts d p read =
     let own = two (addresses_at d) _ (behind _ _ h) in
     let counter = two (counter_at d) _ own.1.next in
     let names = two (access_points_at d) _ counter.1.next in
-    let pools = pools_had d (had (pools_at d) _ names.1.next) in
+    let both = two (pools_at d) _ names.1.next in
+    let switches = two (switches_at d) _ both.1.next in
+    let pools = pools_had d both.0 in
     let v4 = pool_kept d pools.0 in
     let v6 = prefixes_kept d pools.1 in
     let pool = some_of (pool_at d) pools.0 in
     let prefixes = some_of (prefixes_at d) pools.1 in
-    let full = packet_is d own.1.value counter.1.value names.1.value pool.0 prefixes.0 (gate _ _ h) own.1.is counter.1.is names.1.is pool.1 prefixes.1 in
+    let full = packet_is d own.1.value counter.1.value names.1.value pool.0 prefixes.0 switches.1.value (gate _ _ h) own.1.is counter.1.is names.1.is pool.1 prefixes.1 switches.1.is in
     record {
       pool = pools.0;
       prefixes = pools.1;
       names = names.1.is ∙ ap (option_map (λ (head : PacketHead). head.access_points)) (sym full ∙ read);
       fits = λ s list.
           fit packet_keys d (gate _ _ h)
-          (ends_kept d (keys.Apns ∷ keys.Pool ∷ keys.Count ∷ keys.Pool6 ∷ keys.Count6 ∷ keys.Templates ∷ []) own.0 counter.0
-          (with_key d keys.Apns (keys.Pool ∷ keys.Count ∷ keys.Pool6 ∷ keys.Count6 ∷ keys.Templates ∷ []) (apns_kept d names.0)
-          (with_key d keys.Pool (keys.Count ∷ keys.Pool6 ∷ keys.Count6 ∷ keys.Templates ∷ []) v4.0
-          (with_key d keys.Count (keys.Pool6 ∷ keys.Count6 ∷ keys.Templates ∷ []) v4.1
-          (with_key d keys.Pool6 (keys.Count6 ∷ keys.Templates ∷ []) v6.0
-          (with_key d keys.Count6 (keys.Templates ∷ []) v6.1
-          (with_key d keys.Templates [] (list_kept d s list) refl)))))));
+          (ends_kept d (keys.Apns ∷ keys.Pool ∷ keys.Count ∷ keys.Pool6 ∷ keys.Count6 ∷ keys.Templates ∷ keys.Switches ∷ []) own.0 counter.0
+          (with_key d keys.Apns (keys.Pool ∷ keys.Count ∷ keys.Pool6 ∷ keys.Count6 ∷ keys.Templates ∷ keys.Switches ∷ []) (apns_kept d names.0)
+          (with_key d keys.Pool (keys.Count ∷ keys.Pool6 ∷ keys.Count6 ∷ keys.Templates ∷ keys.Switches ∷ []) v4.0
+          (with_key d keys.Count (keys.Pool6 ∷ keys.Count6 ∷ keys.Templates ∷ keys.Switches ∷ []) v4.1
+          (with_key d keys.Pool6 (keys.Count6 ∷ keys.Templates ∷ keys.Switches ∷ []) v6.0
+          (with_key d keys.Count6 (keys.Templates ∷ keys.Switches ∷ []) v6.1
+          (with_key d keys.Templates (keys.Switches ∷ []) (list_kept d s list)
+          (with_key d keys.Switches [] (switches_kept d switches.0) refl))))))));
     }
 
 -- ---- templates

@@ -1,5 +1,5 @@
 -- Which JSON data are which two gateways.
-use Rattle.std.specs.Prelude.{ℕ, ◌+◌, ◌^◌, List, [], ◌∷◌, codes, ◌||◌, nat_le, if◌then◌else◌, Option, Some, None, is_some, option_map}
+use Rattle.std.specs.Prelude.{ℕ, ◌+◌, ◌^◌, List, [], ◌∷◌, codes, ◌||◌, true, nat_le, bytes_eq, if◌then◌else◌, Option, Some, None, is_some, option_map}
 use Rattle.std.specs.Int.{w32, from_be_bytes}
 use Rattle.serde_json.specs.Data.{Data, Items, no_items, item}
 use Rattle.serde_json.specs.Find.{get, as_str, as_array}
@@ -11,8 +11,9 @@ use Rattle.gtp_reliable.specs.Pending.{AreLimits}
 use Rattle.gtp_reliable.specs.Held.{IsHold}
 use Rattle.gtp_gateway.specs.declared.config.Addresses.{Addresses}
 use Rattle.gtp_gateway.specs.declared.config.Timers.{Timers}
-use Rattle.gtp_machine.specs.Config.{Template}
-use Rattle.gtp_gateway.specs.Settings.{Settings, settings_of, with_template}
+use Rattle.gtp_machine.specs.declared.switches.Switches.{Switches}
+use Rattle.gtp_machine.specs.Config.{Template, no_switches}
+use Rattle.gtp_gateway.specs.Settings.{Settings, settings_of, switched, with_template}
 use Rattle.gtp_world.specs.Runs.{Setup}
 use Rattle.gtp_scenario.specs.Steps.{◌>>=◌}
 use Rattle.gtp_scenario.specs.Events.{tft_at, qos}
@@ -102,19 +103,44 @@ timers_at d = do
   hold ← time_at (codes "hold") 60 1 100000 d
   Some (record { t3 = t3; n3 = n3; hold = hold })
 
+-- the switch that this word names, on
+abbrev pub switch_on : List ℕ → Switches → Option Switches
+switch_on word switches =
+    if bytes_eq word (codes "network_identifiers") then Some (record switches { network_identifiers = true })
+    else if bytes_eq word (codes "version_not_supported") then Some (record switches { version_not_supported = true })
+    else None
+
+-- switches, by their words
+abbrev pub switches_in : Items → Switches → Option Switches
+switches_in no_items switches = Some switches
+switches_in (item d items) switches = do
+  word ← as_str d
+  more ← switch_on word switches
+  switches_in items more
+
+-- those of a list, which may be absent
+abbrev pub switches_of : Option Data → Option Switches
+switches_of None = Some no_switches
+switches_of (Some d) = as_array d >>= λ items. switches_in items no_switches
+
+unfoldable pub switches_at : Data → Option Switches
+switches_at d = switches_of (get (codes "switches") d)
+
 -- ---- gateways
 
 pub record ServingHead : Type 0 where
   pub own : Addresses
   pub counter : ℕ
+  pub switches : Switches
 
 unfoldable pub serving_of : Data → Option ServingHead
 serving_of d =
-    if has_only (codes "control" ∷ codes "user" ∷ codes "counter" ∷ []) d
+    if has_only (codes "control" ∷ codes "user" ∷ codes "counter" ∷ codes "switches" ∷ []) d
     then (do
       own ← addresses_at d
       counter ← counter_at d
-      Some (record { own = own; counter = counter }))
+      switches ← switches_at d
+      Some (record { own = own; counter = counter; switches = switches }))
     else None
 
 pub record PacketHead : Type 0 where
@@ -122,11 +148,12 @@ pub record PacketHead : Type 0 where
   pub counter : ℕ
   pub access_points : List (List ℕ)
   pub pools : Pools
+  pub switches : Switches
 
 abbrev pub packet_keys : List (List ℕ)
 packet_keys =
     codes "control" ∷ codes "user" ∷ codes "counter" ∷ codes "apns" ∷
-    codes "pool" ∷ codes "count" ∷ codes "pool6" ∷ codes "count6" ∷ codes "templates" ∷ []
+    codes "pool" ∷ codes "count" ∷ codes "pool6" ∷ codes "count6" ∷ codes "templates" ∷ codes "switches" ∷ []
 
 unfoldable pub packet_of : Data → Option PacketHead
 packet_of d =
@@ -136,7 +163,8 @@ packet_of d =
       counter ← counter_at d
       access_points ← access_points_at d
       pools ← pools_at d
-      Some (record { own = own; counter = counter; access_points = access_points; pools = pools }))
+      switches ← switches_at d
+      Some (record { own = own; counter = counter; access_points = access_points; pools = pools; switches = switches }))
     else None
 
 -- no addresses
@@ -150,8 +178,8 @@ no_pools = record { v4 = no_pool; v6 = no_prefixes }
 abbrev pub set_up : Timers → ServingHead → PacketHead → Setup
 set_up timers serving packet =
     record {
-      serving = settings_of serving.own packet.own [] no_pools timers;
-      packet = settings_of packet.own serving.own packet.access_points packet.pools timers;
+      serving = switched serving.switches (settings_of serving.own packet.own [] no_pools timers);
+      packet = switched packet.switches (settings_of packet.own serving.own packet.access_points packet.pools timers);
       serving_counter = serving.counter;
       packet_counter = packet.counter;
     }

@@ -13,7 +13,8 @@ use Rattle.gtp_scenario.specs.Steps.{◌>>=◌}
 use Rattle.gtp_scenario.specs.Json.{whole_number, within, count_of}
 use Rattle.gtp_scenario.specs.Texts.{imsi_of, apn_of, teid_of, octets_of, address_of, ipv6_of}
 use Rattle.gtp_scenario.specs.Events.{role_of}
-use Rattle.gtp_scenario.specs.Heads.{access_points_in}
+use Rattle.gtp_machine.specs.Config.{no_switches}
+use Rattle.gtp_scenario.specs.Heads.{access_points_in, switches_in}
 use Rattle.gtp_scenario.specs.Names.{session_name_of, bearer_name_of}
 
 -- ---- keys
@@ -34,6 +35,7 @@ key_text keys.Count = codes "count"
 key_text keys.Pool6 = codes "pool6"
 key_text keys.Count6 = codes "count6"
 key_text keys.Templates = codes "templates"
+key_text keys.Switches = codes "switches"
 key_text keys.Apn = codes "apn"
 key_text keys.Tft = codes "tft"
 key_text keys.Do = codes "do"
@@ -60,10 +62,10 @@ abbrev pub scenario_keys : List Key
 scenario_keys = keys.T3Response ∷ keys.N3Requests ∷ keys.Hold ∷ keys.Serving ∷ keys.Packet ∷ keys.Events ∷ []
 
 abbrev pub serving_keys : List Key
-serving_keys = keys.Control ∷ keys.User ∷ keys.Counter ∷ []
+serving_keys = keys.Control ∷ keys.User ∷ keys.Counter ∷ keys.Switches ∷ []
 
 abbrev pub packet_keys : List Key
-packet_keys = keys.Control ∷ keys.User ∷ keys.Counter ∷ keys.Apns ∷ keys.Pool ∷ keys.Count ∷ keys.Pool6 ∷ keys.Count6 ∷ keys.Templates ∷ []
+packet_keys = keys.Control ∷ keys.User ∷ keys.Counter ∷ keys.Apns ∷ keys.Pool ∷ keys.Count ∷ keys.Pool6 ∷ keys.Count6 ∷ keys.Templates ∷ keys.Switches ∷ []
 
 abbrev pub template_keys : List Key
 template_keys = keys.Apn ∷ keys.Tft ∷ []
@@ -71,12 +73,13 @@ template_keys = keys.Apn ∷ keys.Tft ∷ []
 -- the keys of a gateway by itself
 abbrev pub serving_gateway_keys : List Key
 serving_gateway_keys =
-    keys.Role ∷ keys.ControlAddress ∷ keys.UserAddress ∷ keys.Peer ∷ keys.Counter ∷ keys.T3Response ∷ keys.N3Requests ∷ keys.Hold ∷ []
+    keys.Role ∷ keys.ControlAddress ∷ keys.UserAddress ∷ keys.Peer ∷ keys.Counter ∷ keys.T3Response ∷ keys.N3Requests ∷ keys.Hold ∷
+    keys.Switches ∷ []
 
 abbrev pub packet_gateway_keys : List Key
 packet_gateway_keys =
     keys.Role ∷ keys.ControlAddress ∷ keys.UserAddress ∷ keys.Peer ∷ keys.Counter ∷ keys.T3Response ∷ keys.N3Requests ∷ keys.Hold ∷
-    keys.Apns ∷ keys.Pool ∷ keys.Count ∷ keys.Pool6 ∷ keys.Count6 ∷ keys.Templates ∷ []
+    keys.Apns ∷ keys.Pool ∷ keys.Count ∷ keys.Pool6 ∷ keys.Count6 ∷ keys.Templates ∷ keys.Switches ∷ []
 
 abbrev pub peer_keys : List Key
 peer_keys = keys.ControlAddress ∷ keys.UserAddress ∷ []
@@ -169,6 +172,7 @@ wanted_of keys.Count = wanted.Within 0 65536
 wanted_of keys.Pool6 = wanted.Address6
 wanted_of keys.Count6 = wanted.Within 0 65536
 wanted_of keys.Templates = wanted.List
+wanted_of keys.Switches = wanted.Switches
 wanted_of keys.Apn = wanted.AccessPoint
 wanted_of keys.Tft = wanted.Tft
 wanted_of keys.Do = wanted.Text
@@ -215,6 +219,7 @@ is_good wanted.Number d = is_some (whole_number d)
 is_good wanted.NumberOrAll d = is_some (whole_number d) || option_map_or (is_good_text wanted.NumberOrAll) (as_str d) false
 is_good (wanted.Within low high) d = is_some (whole_number d >>= within low high)
 is_good wanted.AccessPoints d = is_some (as_array d >>= λ items. if nat_le (count_of items) 16 then access_points_in items else None)
+is_good wanted.Switches d = is_some (as_array d >>= λ items. switches_in items no_switches)
 is_good wanted.Octets d = is_some (octets_in d)
 is_good wanted.Tft d = is_some (octets_in d >>= λ octets. if nat_le (length octets) 255 then Some octets else None)
 is_good wanted.Session d = is_some (session_name_of d)
@@ -227,6 +232,7 @@ may_be_absent d keys.T3Response = true
 may_be_absent d keys.N3Requests = true
 may_be_absent d keys.Hold = true
 may_be_absent d keys.Templates = true
+may_be_absent d keys.Switches = true
 may_be_absent d keys.Expect = true
 may_be_absent d keys.Times = true
 may_be_absent d keys.Pdn = true

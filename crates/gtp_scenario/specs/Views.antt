@@ -18,10 +18,10 @@ abbrev pub entry : declared.Entry → Entry
 entry e = record { event = event_of e.event; times = e.times; expect = option_map (λ (s : String Global). string_bytes s) e.expect }
 
 abbrev pub serving_head : serving.ServingHead → ServingHead
-serving_head h = record { own = h.own; counter = h.counter.0 }
+serving_head h = record { own = h.own; counter = h.counter.0; switches = h.switches }
 
 abbrev pub packet_head : packet.PacketHead → PacketHead
-packet_head h = record { own = h.own; counter = h.counter.0; access_points = h.access_points.items; pools = h.pools }
+packet_head h = record { own = h.own; counter = h.counter.0; access_points = h.access_points.items; pools = h.pools; switches = h.switches }
 
 abbrev pub past : happened.Past → Past
 past p = record { world = p.world; waiting = p.waiting.items }

@@ -7,6 +7,8 @@ ghost use Rattle.gtp_scenario.specs.Events.{qos as fixed_qos};
 ghost use Rattle.gtp_scenario.specs.Steps.{Gives};
 ghost use Rattle.gtp_scenario.specs.Json.{count_of};
 ghost use Rattle.gtp_scenario.specs.Heads.{AreTimers, address_at, addresses_at, counter_at, access_point_of, access_points_in, access_points_at};
+ghost use Rattle.gtp_machine.specs.Config.{no_switches};
+ghost use Rattle.gtp_scenario.specs.Heads.{switch_on, switches_in, switches_at};
 ghost use Rattle.gtp_scenario.specs.Heads.{pool_from, pool_at, prefixes_from, prefixes_at, pools_at, no_pool, time_at, timers_at};
 ghost use Rattle.gtp_scenario.specs.Heads.{serving_of, packet_of, set_up, configured, with_this, with_each, with_templates_at, setup_of, events_at};
 ghost use Rattle.gtp_scenario.specs.Trees.{view, items_view};
@@ -20,7 +22,7 @@ use crate::members::{
 };
 use crate::text::{address_of, apn_of, ipv6_of};
 use crate::tree::Tree;
-use gtp_gateway::{Addresses, Apn, Config, Counter, Ip, Pool, Pools, Prefixes, Timers};
+use gtp_gateway::{Addresses, Apn, Config, Counter, Ip, Pool, Pools, Prefixes, Switches, Timers};
 use gtp_values::Tft;
 use gtp_world::WorldConfig;
 use std::alloc::Global;
@@ -33,6 +35,7 @@ const MOST_ACCESS_POINTS: usize = 16;
 struct ServingHead {
     own: Addresses,
     counter: Counter,
+    switches: Switches,
 }
 
 /// The packet gateway's part of a head.
@@ -42,6 +45,7 @@ struct PacketHead {
     counter: Counter,
     access_points: Vec<Apn>,
     pools: Pools,
+    switches: Switches,
 }
 
 #[tactic(auto, unfolding(crate::specs::Heads::address_at))]
@@ -177,16 +181,54 @@ pub fn timers_at(value: &Tree<'_, '_>) -> Option<Timers>
     })
 }
 
+/// These switches, and the one that a word names on.
+fn switch_on(switches: Switches, word: &str) -> Option<Switches>
+    ensures { result ≡ switch_on word.now switches }
+{
+    let mut more = switches;
+    if word == "network_identifiers" {
+        more.network_identifiers = true;
+    } else if word == "version_not_supported" {
+        more.version_not_supported = true;
+    } else {
+        return None;
+    }
+    Some(more)
+}
+
+/// Switches, by their words.
+pub(crate) fn switches_in(mut words: Items<'_, '_>) -> Option<Switches>
+    ensures { result ≡ switches_in (items_view words.entry) no_switches }
+{
+    let mut switches = Switches::default();
+    while let Some(word) = words.next() {
+        switches = switch_on(switches, as_text(&word)?)?;
+    }
+    Some(switches)
+}
+
+/// The switches under `switches`, which may be absent.
+#[tactic(auto, unfolding(crate::specs::Heads::switches_at))]
+pub fn switches_at(value: &Tree<'_, '_>) -> Option<Switches>
+    ensures { result ≡ switches_at (view value.now) }
+{
+    match value_at(value, "switches") {
+        None => Some(Switches::default()),
+        Some(words) => switches_in(as_list(&words)?),
+    }
+}
+
 #[tactic(auto, unfolding(crate::specs::Heads::serving_of))]
 fn serving_of(value: &Tree<'_, '_>) -> Option<ServingHead>
     ensures { option_map serving_head result ≡ serving_of (view value.now) }
 {
-    if !has_only(value, &["control", "user", "counter"]) {
+    if !has_only(value, &["control", "user", "counter", "switches"]) {
         return None;
     }
     Some(ServingHead {
         own: addresses_at(value)?,
         counter: counter_at(value)?,
+        switches: switches_at(value)?,
     })
 }
 
@@ -207,6 +249,7 @@ fn packet_of(alloc: Global, value: &Tree<'_, '_>) -> Result<PacketHead, Fault>
             "pool6",
             "count6",
             "templates",
+            "switches",
         ],
     ) {
         return Err(Fault::Wrong);
@@ -215,11 +258,13 @@ fn packet_of(alloc: Global, value: &Tree<'_, '_>) -> Result<PacketHead, Fault>
     let counter = counter_at(value).ok_or(Fault::Wrong)?;
     let access_points = access_points_at(alloc, value)?;
     let pools = pools_at(value).ok_or(Fault::Wrong)?;
+    let switches = switches_at(value).ok_or(Fault::Wrong)?;
     Ok(PacketHead {
         own,
         counter,
         access_points,
         pools,
+        switches,
     })
 }
 
@@ -250,6 +295,7 @@ fn set_up(
         own,
         access_points,
         pools,
+        switches,
         ..
     } = packet;
     let Ok(from_serving) = Config::try_new(serving.own, own, none, no_pool(), timers) else {
@@ -261,7 +307,10 @@ fn set_up(
     let Ok(from_packet) = from_packet.with_pool6(pools.v6.start(), pools.v6.count()) else {
         unreachable!()
     };
-    (from_serving, from_packet)
+    (
+        from_serving.with_switches(serving.switches),
+        from_packet.with_switches(switches),
+    )
 }
 
 /// The settings with a template of an access point, if that is one of theirs.

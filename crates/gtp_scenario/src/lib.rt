@@ -41,7 +41,7 @@ pub use word::{name_of, word_of};
 /// Readers of a scenario's values, for other texts that have them too.
 pub use event::{event_named, payload_at, role_of, teid_at};
 pub use fault::Fault;
-pub use head::{access_points_at, counter_at, pools_at, timers_at, with_templates_at};
+pub use head::{access_points_at, counter_at, pools_at, switches_at, timers_at, with_templates_at};
 pub use members::{Items, as_list, has, has_only, number_at, text_at, value_at, within};
 pub use scenario::json_of;
 pub use text::{address_of, ipv6_of, octets_of};

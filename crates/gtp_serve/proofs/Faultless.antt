@@ -6,17 +6,17 @@ use Rattle.serde_json.specs.Data.{Data}
 use Rattle.serde_json.specs.Find.{get, as_str}
 use Rattle.gtp_machine.specs.declared.role.Role.{Role}
 use Rattle.gtp_machine.specs.declared.role.Role.TheVariants.{Serving, Packet}
-use Rattle.gtp_gateway.specs.Settings.{settings_of}
+use Rattle.gtp_gateway.specs.Settings.{settings_of, switched}
 use Rattle.gtp_scenario.specs.declared.reason.key.Key.TheVariants as keys
 use Rattle.gtp_scenario.specs.declared.reason.wanted.Wanted.TheVariants as wanted
-use Rattle.gtp_scenario.specs.Heads.{access_points_at, counter_at, pool_at, prefixes_at, pools_at, timers_at, with_templates_at}
+use Rattle.gtp_scenario.specs.Heads.{access_points_at, counter_at, pool_at, prefixes_at, pools_at, switches_at, timers_at, with_templates_at}
 use Rattle.gtp_scenario.specs.Keys.{is_good_text, is_met, packet_gateway_keys, peer_keys, serving_gateway_keys}
 use Rattle.gtp_scenario.specs.Reasons.{fits, role_at}
 use Rattle.gtp_scenario.specs.Scenarios.{json_of}
 use Rattle.gtp_scenario.specs.Steps.{◌>>=◌}
 use Rattle.gtp_scenario.specs.Texts.{address_of, ipv6_of}
 use Rattle.gtp_scenario.specs.reading.Faultless.{IsGateway, IsGatewayAs, IsPacket, IsPeerAt}
-use Rattle.gtp_scenario.proofs.Gateways.{access_points_met, counter_met, templates_read, there, timers_met}
+use Rattle.gtp_scenario.proofs.Gateways.{access_points_met, counter_met, switches_met, templates_read, there, timers_met}
 use Rattle.gtp_scenario.proofs.Whole.{by_some, chain, gated, joined, met_in, needed, parts, pinned, some_of}
 use Rattle.gtp_serve.specs.Heads.{addresses_at, head_as, head_in, head_of, ip_at, ip_from, ip_of, packet_of, peer_at, serving_of}
 
@@ -63,7 +63,8 @@ serving_read d h peer =
     (chain (addresses_at d) _ (addresses_met d (met 1 keys.ControlAddress refl) (met 2 keys.UserAddress refl))
     (λ own. chain (peer_at d) _ (peer_met d (met 3 keys.Peer refl) peer)
     (λ other. chain (counter_at d) _ (counter_met d (met 4 keys.Counter refl))
-    (λ counter. chain (timers_at d) _ (timers_met d (met 5 keys.T3Response refl) (met 6 keys.N3Requests refl) (met 7 keys.Hold refl)) (λ timers. refl)))))
+    (λ counter. chain (timers_at d) _ (timers_met d (met 5 keys.T3Response refl) (met 6 keys.N3Requests refl) (met 7 keys.Hold refl))
+    (λ timers. chain (switches_at d) _ (switches_met d (met 8 keys.Switches refl)) (λ switches. refl))))))
 
 packet_read : (d : Data) → IsPacket packet_gateway_keys d → IsPeerAt d → is_some (packet_of d) ≡ true
 unfolding packet_of pools_at
@@ -78,8 +79,9 @@ packet_read d is peer =
     (λ counter. chain (timers_at d) _ (timers_met d (met 5 keys.T3Response refl) (met 6 keys.N3Requests refl) (met 7 keys.Hold refl))
     (λ timers. pinned (access_points_at d) names.0 _ names.1
     (chain (pools_at d) _ (chain (pool_at d) _ (by_some (pool_at d) is.pool) (λ v4. chain (prefixes_at d) _ (by_some (prefixes_at d) is.prefixes) (λ v6. refl)))
-    (λ pools. chain (with_templates_at d (settings_of own other names.0 pools timers)) _
-    (templates_read d (settings_of own other names.0 pools timers) names.0 (met 13 keys.Templates refl) is.templates names.1 refl) (λ settings. refl))))))))
+    (λ pools. chain (switches_at d) _ (switches_met d (met 14 keys.Switches refl))
+    (λ switches. chain (with_templates_at d (switched switches (settings_of own other names.0 pools timers))) _
+    (templates_read d (switched switches (settings_of own other names.0 pools timers)) names.0 (met 13 keys.Templates refl) is.templates names.1 refl) (λ settings. refl)))))))))
 
 as_said : (role : Role) (d : Data) → IsGatewayAs role d → IsPeerAt d → is_some (head_as role d) ≡ true
 as_said Serving d is peer = serving_read d is peer

@@ -7,9 +7,9 @@ use Rattle.gtp_values.specs.declared.address.Ip.TheVariants.{V4, V6}
 use Rattle.gtp_machine.specs.declared.role.Role.{Role}
 use Rattle.gtp_machine.specs.declared.role.Role.TheVariants.{Serving, Packet}
 use Rattle.gtp_gateway.specs.declared.config.Addresses.{Addresses}
-use Rattle.gtp_gateway.specs.Settings.{Settings, settings_of}
+use Rattle.gtp_gateway.specs.Settings.{Settings, settings_of, switched}
 use Rattle.gtp_scenario.specs.Events.{role_of}
-use Rattle.gtp_scenario.specs.Heads.{access_points_at, counter_at, no_pools, pools_at, timers_at, with_templates_at}
+use Rattle.gtp_scenario.specs.Heads.{access_points_at, counter_at, no_pools, pools_at, switches_at, timers_at, with_templates_at}
 use Rattle.gtp_scenario.specs.Json.{text_at, has_only}
 use Rattle.gtp_scenario.specs.Scenarios.{json_of}
 use Rattle.gtp_scenario.specs.Steps.{◌>>=◌}
@@ -49,12 +49,13 @@ peer_at d = do
 -- the keys that a head has, and no others
 abbrev pub serving_keys : List (List ℕ)
 serving_keys =
-    codes "role" ∷ codes "control" ∷ codes "user" ∷ codes "peer" ∷ codes "counter" ∷ codes "t3" ∷ codes "n3" ∷ codes "hold" ∷ []
+    codes "role" ∷ codes "control" ∷ codes "user" ∷ codes "peer" ∷ codes "counter" ∷ codes "t3" ∷ codes "n3" ∷ codes "hold" ∷
+    codes "switches" ∷ []
 
 abbrev pub packet_keys : List (List ℕ)
 packet_keys =
     codes "role" ∷ codes "control" ∷ codes "user" ∷ codes "peer" ∷ codes "counter" ∷ codes "t3" ∷ codes "n3" ∷ codes "hold" ∷
-    codes "apns" ∷ codes "pool" ∷ codes "count" ∷ codes "pool6" ∷ codes "count6" ∷ codes "templates" ∷ []
+    codes "apns" ∷ codes "pool" ∷ codes "count" ∷ codes "pool6" ∷ codes "count6" ∷ codes "templates" ∷ codes "switches" ∷ []
 
 -- a serving gateway has no access points and no pools
 unfoldable pub serving_of : Data → Option Head
@@ -65,7 +66,8 @@ serving_of d =
       peer ← peer_at d
       counter ← counter_at d
       timers ← timers_at d
-      Some (record { role = Serving; settings = settings_of own peer [] no_pools timers; counter = counter }))
+      switches ← switches_at d
+      Some (record { role = Serving; settings = switched switches (settings_of own peer [] no_pools timers); counter = counter }))
     else None
 
 unfoldable pub packet_of : Data → Option Head
@@ -78,7 +80,8 @@ packet_of d =
       timers ← timers_at d
       access_points ← access_points_at d
       pools ← pools_at d
-      settings ← with_templates_at d (settings_of own peer access_points pools timers)
+      switches ← switches_at d
+      settings ← with_templates_at d (switched switches (settings_of own peer access_points pools timers))
       Some (record { role = Packet; settings = settings; counter = counter }))
     else None
 

@@ -8,9 +8,9 @@ use Rattle.gtp_machine.specs.declared.role.Role.TheVariants.{Serving, Packet}
 use Rattle.gtp_tables.specs.Pool.{Range, Prefixes, prefix_of}
 use Rattle.gtp_tables.specs.declared.pool.Pools.{Pools}
 use Rattle.gtp_gateway.specs.declared.config.Addresses.{Addresses}
-use Rattle.gtp_gateway.specs.Settings.{Settings, settings_of}
+use Rattle.gtp_gateway.specs.Settings.{Settings, settings_of, switched}
 use Rattle.gtp_scenario.specs.Events.{role_of}
-use Rattle.gtp_scenario.specs.Heads.{access_points_at, counter_at, no_pools, pool_from, pools_at, timers_at, with_templates_at}
+use Rattle.gtp_scenario.specs.Heads.{access_points_at, counter_at, no_pools, pool_from, pools_at, switches_at, timers_at, with_templates_at}
 use Rattle.gtp_scenario.specs.Json.{text_at, has_only}
 use Rattle.gtp_scenario.specs.Scenarios.{json_of}
 use Rattle.gtp_scenario.specs.Steps.{◌>>=◌}
@@ -63,7 +63,8 @@ unfoldable pub serving_for : Data → Addresses → Option Settings
 serving_for d peer = do
   own ← addresses_at d
   timers ← timers_at d
-  Some (settings_of own peer [] no_pools timers)
+  switches ← switches_at d
+  Some (switched switches (settings_of own peer [] no_pools timers))
 
 unfoldable pub packet_for : Data → Addresses → ℕ → Option Settings
 packet_for d peer place = do
@@ -71,7 +72,8 @@ packet_for d peer place = do
   timers ← timers_at d
   access_points ← access_points_at d
   pools ← pools_at d >>= pools_for place
-  with_templates_at d (settings_of own peer access_points pools timers)
+  switches ← switches_at d
+  with_templates_at d (switched switches (settings_of own peer access_points pools timers))
 
 abbrev pub settings_for : Role → Data → Addresses → ℕ → Option Settings
 settings_for Serving d peer place = serving_for d peer
@@ -89,10 +91,11 @@ all_settings role d place (peer ∷ peers) = do
 
 -- the keys that a head has, and no others
 abbrev pub node_keys : Role → List (List ℕ)
-node_keys Serving = codes "role" ∷ codes "control" ∷ codes "user" ∷ codes "peers" ∷ codes "counter" ∷ codes "t3" ∷ codes "n3" ∷ codes "hold" ∷ []
+node_keys Serving = codes "role" ∷ codes "control" ∷ codes "user" ∷ codes "peers" ∷ codes "counter" ∷ codes "t3" ∷ codes "n3" ∷ codes "hold" ∷
+    codes "switches" ∷ []
 node_keys Packet =
     codes "role" ∷ codes "control" ∷ codes "user" ∷ codes "peers" ∷ codes "counter" ∷ codes "t3" ∷ codes "n3" ∷ codes "hold" ∷
-    codes "apns" ∷ codes "pool" ∷ codes "count" ∷ codes "pool6" ∷ codes "count6" ∷ codes "templates" ∷ []
+    codes "apns" ∷ codes "pool" ∷ codes "count" ∷ codes "pool6" ∷ codes "count6" ∷ codes "templates" ∷ codes "switches" ∷ []
 
 -- also a node without peers has to say what settings need
 unfoldable pub node_as : Role → Data → Option NodeHead

@@ -13,7 +13,7 @@ ghost use Rattle.gtp_serve.specs.Views.{head_by};
 use gtp_gateway::{Addresses, Apn, Config, Counter, Ip, Pool, Pools, Role, Timers};
 use gtp_scenario::{
     Fault, Tree, access_points_at, address_of, counter_at, has_only, ipv6_of, json_of, pools_at,
-    role_of, text_at, timers_at, value_at, with_templates_at,
+    role_of, switches_at, text_at, timers_at, value_at, with_templates_at,
 };
 use json::Scratch;
 use std::alloc::Global;
@@ -123,7 +123,7 @@ fn serving_of(alloc: Global, value: &Tree<'_, '_>) -> Option<Head>
     if !has_only(
         value,
         &[
-            "role", "control", "user", "peer", "counter", "t3", "n3", "hold",
+            "role", "control", "user", "peer", "counter", "t3", "n3", "hold", "switches",
         ],
     ) {
         return None;
@@ -132,9 +132,10 @@ fn serving_of(alloc: Global, value: &Tree<'_, '_>) -> Option<Head>
     let peer = peer_at(value)?;
     let counter = counter_at(value)?;
     let timers = timers_at(value)?;
+    let switches = switches_at(value)?;
     Some(Head {
         role: Role::Serving,
-        config: without_access_points(alloc, own, peer, timers),
+        config: without_access_points(alloc, own, peer, timers).with_switches(switches),
         counter,
     })
 }
@@ -161,6 +162,7 @@ fn packet_of(alloc: Global, value: &Tree<'_, '_>) -> Result<Head, Fault>
             "pool6",
             "count6",
             "templates",
+            "switches",
         ],
     ) {
         return Err(Fault::Wrong);
@@ -171,7 +173,10 @@ fn packet_of(alloc: Global, value: &Tree<'_, '_>) -> Result<Head, Fault>
     let timers = timers_at(value).ok_or(Fault::Wrong)?;
     let access_points = access_points_at(alloc, value)?;
     let pools = pools_at(value).ok_or(Fault::Wrong)?;
-    let config = with_access_points(own, peer, access_points, pools, timers);
+    let switches = switches_at(value).ok_or(Fault::Wrong)?;
+    let config = with_access_points(own, peer, access_points, pools, timers).with_switches(
+        switches,
+    );
     let config = with_templates_at(alloc, config, value)?;
     Ok(Head {
         role: Role::Packet,
@@ -200,8 +205,8 @@ fn head_of(alloc: Global, value: &Tree<'_, '_>) -> Result<Head, Fault>
 }
 
 /// The gateway that a line says: a JSON object with its `role` (`serving` or `packet`), its addresses `control` and `user`, those
-/// of its `peer`, and its restart counter `counter`; `t3`, `n3` and `hold` where they are not 3, 3 and 60 ticks; and of a packet
-/// gateway `apns`, `pool` and `count`, and where it has them `pool6` and `count6`, and `templates`. Each key comes once, and no
+/// of its `peer`, and its restart counter `counter`; `t3`, `n3` and `hold` where they are not 3, 3 and 60 ticks, and `switches` where
+/// it has some; and of a packet gateway `apns`, `pool` and `count`, and where it has them `pool6` and `count6`, and `templates`. Each key comes once, and no
 /// other one. `Wrong` if the line is no such object, `Memory` if an allocation was refused.
 #[tactic(auto, unfolding(crate::specs::Heads::head_in))]
 pub fn head_in(alloc: Global, line: &[u8]) -> Result<Head, Fault>

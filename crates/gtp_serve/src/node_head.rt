@@ -12,7 +12,7 @@ use crate::head::{addresses_at, with_access_points, without_access_points};
 use gtp_gateway::{Addresses, Config, Counter, Pool, Pools, Prefixes, Role};
 use gtp_scenario::{
     Fault, Items, Tree, access_points_at, as_list, counter_at, has_only, json_of, pools_at,
-    role_of, text_at, timers_at, value_at, with_templates_at,
+    role_of, switches_at, text_at, timers_at, value_at, with_templates_at,
 };
 use json::Scratch;
 use std::alloc::Global;
@@ -127,7 +127,8 @@ fn serving_for(alloc: Global, value: &Tree<'_, '_>, peer: Addresses) -> Option<C
 {
     let own = addresses_at(value)?;
     let timers = timers_at(value)?;
-    Some(without_access_points(alloc, own, peer, timers))
+    let switches = switches_at(value)?;
+    Some(without_access_points(alloc, own, peer, timers).with_switches(switches))
 }
 
 #[tactic(auto, unfolding(crate::specs::NodeHeads::packet_for))]
@@ -144,7 +145,10 @@ fn packet_for(
     let access_points = access_points_at(alloc, value)?;
     let pools = pools_at(value).ok_or(Fault::Wrong)?;
     let pools = pools_for(place, pools).ok_or(Fault::Wrong)?;
-    let config = with_access_points(own, peer, access_points, pools, timers);
+    let switches = switches_at(value).ok_or(Fault::Wrong)?;
+    let config = with_access_points(own, peer, access_points, pools, timers).with_switches(
+        switches,
+    );
     with_templates_at(alloc, config, value)
 }
 
@@ -192,7 +196,7 @@ fn node_keys(role: Role) -> &'static [&'static str]
 {
     match role {
         Role::Serving => &[
-            "role", "control", "user", "peers", "counter", "t3", "n3", "hold",
+            "role", "control", "user", "peers", "counter", "t3", "n3", "hold", "switches",
         ],
         Role::Packet => &[
             "role",
@@ -209,6 +213,7 @@ fn node_keys(role: Role) -> &'static [&'static str]
             "pool6",
             "count6",
             "templates",
+            "switches",
         ],
     }
 }

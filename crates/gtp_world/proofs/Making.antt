@@ -14,6 +14,7 @@ use Rattle.gtp_machine.specs.Step.{Step as MachineStep}
 use Rattle.gtp_machine.specs.User.{Accepts, EndCame, UserTaken, UserRead}
 use Rattle.gtp_machine.specs.declared.role.Role.{Role}
 use Rattle.gtp_machine.specs.declared.role.Role.TheVariants.{Serving, Packet}
+use Rattle.gtp_machine.proofs.Basics.Versions.{undecoded_makes}
 use Rattle.gtp_machine.proofs.Requests.Opening.{foreign, none_made}
 use Rattle.gtp_gateway.specs.Parts.{arrival_of}
 use Rattle.gtp_gateway.specs.receive.Received.{IsReceivedOnce}
@@ -70,10 +71,10 @@ any_request a b false list is none = is
 no_message : (role : Role) (request : Arrival) (fault : ℕ) (old : Node) (e : Effect) → MachineStep role old (Control_came request (Control_fault fault)) e → e.out.made ≡ []
 no_message Serving request fault old e (inl f) = ap (λ (k : Effect). k.out.made) f.1
 no_message Serving request fault old e (inr (peer, inl r)) = ap (λ (k : Effect). k.out.made) r.gives
-no_message Serving request fault old e (inr (peer, inr (new, f))) = ap (λ (k : Effect). k.out.made) f
+no_message Serving request fault old e (inr (peer, inr (new, f))) = ap (λ (k : Effect). k.out.made) f ∙ undecoded_makes fault request old
 no_message Packet request fault old e (inl f) = ap (λ (k : Effect). k.out.made) f.1
 no_message Packet request fault old e (inr (peer, inl r)) = ap (λ (k : Effect). k.out.made) r.gives
-no_message Packet request fault old e (inr (peer, inr (new, f))) = ap (λ (k : Effect). k.out.made) f
+no_message Packet request fault old e (inr (peer, inr (new, f))) = ap (λ (k : Effect). k.out.made) f ∙ undecoded_makes fault request old
 
 -- nor on octets that announce a second message, taken as a whole: a fault of theirs is not answered
 never_faulty : (r : Result DatagramValue V2Fault) (f : FaultyRequest) → Alone (Faulty f) ≡ pair_reading_of r → ⊥

@@ -194,6 +194,7 @@ pub struct Setup {
     pub role: u8,
     pub counter: u8,
     pub template_count: u8,
+    pub switches: u8,
     pub templates: [Template; MOST_TEMPLATES],
 }
 
@@ -270,6 +271,13 @@ pub struct BearerRow {
     pub identity: u8,
     pub dedicated: u8,
     pub ended: u8,
+}
+
+#[repr(C)]
+#[derive(Debug)]
+pub struct Places {
+    pub hidden: *mut u8,
+    pub count: u64,
 }
 
 pub const DONE: u8 = 0;
@@ -432,6 +440,12 @@ extern "C" {
     pub fn gtp_gateway_bearer(gateway: *mut Gateway, teid: u32, row: *mut BearerRow) -> u8;
     pub fn gtp_gateway_session_at(gateway: *mut Gateway, place: u64, row: *mut SessionRow) -> u8;
     pub fn gtp_gateway_bearer_at(gateway: *mut Gateway, place: u64, row: *mut BearerRow) -> u8;
+
+    pub fn gtp_places_new(places: *mut Places) -> u8;
+    pub fn gtp_places_free(places: *mut Places) -> u8;
+    pub fn gtp_places_add(places: *mut Places, address: *const Address) -> u8;
+    pub fn gtp_places_pop(places: *mut Places) -> u8;
+    pub fn gtp_places_find(places: *mut Places, address: *const Address, place: *mut u64) -> u8;
 }
 
 #[cfg(test)]
@@ -492,6 +506,7 @@ mod tests {
                 role,
                 counter,
                 template_count,
+                switches,
                 templates
             }
         );
@@ -507,6 +522,7 @@ mod tests {
             SessionRow { teid, remote, has_remote, state, identity, has_v4, has_v6, v4, v6, imsi, access_point }
         );
         lines!("gtp_bearer_row", BearerRow { teid, remote, session, has_remote, state, identity, dedicated, ended });
+        lines!("gtp_places", Places { hidden, count });
         assert_eq!(all, std::fs::read_to_string(file).expect("GTP_LAYOUT names a file"));
     }
 }

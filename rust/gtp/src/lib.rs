@@ -1,8 +1,9 @@
 //! GTPv2-C (3GPP TS 29.274) and GTP-U (TS 29.281) of the S5/S8 interface: messages read in place and written to a buffer, and a
-//! serving or packet gateway. A safe face of `libgtp_c`, whose code is proved; docs/C.md says what is.
+//! serving or packet gateway, or one for each of many peers. A safe face of `libgtp_c`, whose code is proved; docs/C.md says what is.
 //!
 //! Nothing here needs a clock or a socket. The caller hands a [`Gateway`] what came, sends what it takes from it, and calls
-//! [`Gateway::tick`] at even intervals. Formatted with `{:x?}`, TEIDs are hexadecimal, as lines and reports have them.
+//! [`Gateway::tick`] at even intervals; a [`Node`] hands what came to the gateway of the peer that it comes from. Formatted with
+//! `{:x?}`, TEIDs are hexadecimal, as lines and reports have them.
 //!
 //! ```
 //! use gtp::kinds::{element::RECOVERY, message::ECHO_REQUEST};
@@ -25,6 +26,7 @@ mod error;
 mod ffi;
 mod gateway;
 pub mod kinds;
+mod node;
 mod report;
 mod setup;
 mod text;
@@ -38,8 +40,9 @@ pub use control::ControlMessage;
 pub use element::{Element, Elements};
 pub use error::{CommandError, ControlFault, Error, Refusal, TooSmall, UserFault, ValueError, WriteError};
 pub use gateway::{Gateway, Sent};
+pub use node::{Node, Routed};
 pub use report::{Outcome, Received, Ticked};
-pub use setup::{Addresses, Role, SessionRequest, SessionValue, Setup, SetupValue, Template, Timers};
+pub use setup::{Addresses, Role, SessionRequest, SessionValue, Setup, SetupValue, Switches, Template, Timers};
 pub use text::{element_name, message_name};
 pub use user::{Extension, Extensions, UserMessage};
 pub use value::{Ambr, Cause, FTeid, Paa, Quality, Value};

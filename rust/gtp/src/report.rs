@@ -33,9 +33,9 @@ pub enum Outcome<'a> {
     Ended,
     /// An Error Indication came, and its session or bearer is gone.
     Broken,
-    /// It was dropped.
+    /// It was dropped. By rules 6, 10 and 12 a datagram may wait for its sender.
     Dropped {
-        /// By which rule: 1 to 11 are X1 to X11 (`gtpshow explain`).
+        /// By which rule: 1 to 12 are X1 to X12 (`gtpshow explain`).
         rule: u8,
         /// Of X1: the number of the fault, after H or U.
         fault: Option<u8>,

@@ -41,6 +41,18 @@ pub struct Timers {
     pub hold: u32,
 }
 
+/// Optional behaviour of a gateway. By default each switch is off.
+#[derive(Clone, Copy, Debug, Default, PartialEq, Eq)]
+pub struct Switches {
+    /// A packet gateway compares the names of access points by their network identifiers (TS 23.003 9.1): without an operator
+    /// identifier (`.mnc<3 digits>.mcc<3 digits>.gprs`) at the end of either name, upper and lower case alike. One that is written as
+    /// it is asked for comes first. Off, names are compared as they are written.
+    pub network_identifiers: bool,
+    /// A datagram of the control plane that is of another version than 2 is answered with a Version Not Supported Indication
+    /// (TS 29.274 7.7.2), unless its type, the second octet, is 3. Off, it is dropped.
+    pub version_not_supported: bool,
+}
+
 /// With what a gateway starts.
 #[derive(Clone, Debug, PartialEq, Eq)]
 pub struct Setup<'a> {
@@ -62,6 +74,8 @@ pub struct Setup<'a> {
     pub pool6: (Ipv6Addr, u32),
     /// Templates of access points, at most 16. Of several for one access point the last counts.
     pub templates: &'a [Template<'a>],
+    /// Its optional behaviour.
+    pub switches: Switches,
 }
 
 /// The dedicated bearer that a packet gateway asks for with each session of an access point, in a second message of the datagram that
@@ -119,6 +133,7 @@ impl Setup<'_> {
             },
             counter: self.counter,
             template_count: self.templates.len() as u8,
+            switches: u8::from(self.switches.network_identifiers) + 2 * u8::from(self.switches.version_not_supported),
             templates,
         })
     }

@@ -1,4 +1,4 @@
-//! Two gateways in one process: what one sends the other receives.
+//! Two gateways in one process: what one sends the other receives. And a node with a gateway for each of several peers.
 
 use gtp::kinds::message;
 use gtp::*;
@@ -23,6 +23,7 @@ fn setup(role: Role) -> Setup<'static> {
         pool: (Ipv4Addr::new(10, 1, 0, 1), 10),
         pool6: ("2001:db8:1::1".parse().unwrap(), 10),
         templates: &[],
+        switches: Switches::default(),
     }
 }
 
@@ -168,6 +169,36 @@ fn a_session_with_a_template_gets_its_bearer_at_once() {
     pair.serving.create_session(&SessionRequest { imsi: "001010123456780", access_point: "ims", ..request() }).unwrap();
     pair.settle();
     assert_eq!((pair.serving.bearers().count(), pair.packet.bearers().count()), (3, 3));
+}
+
+#[test]
+fn network_identifiers_are_compared_where_the_setup_says_so() {
+    for (network_identifiers, outcome) in [(true, Outcome::Opened), (false, Outcome::Rejected(78))] {
+        let packet = Setup { switches: Switches { network_identifiers, ..Switches::default() }, ..setup(Role::Packet) };
+        let mut serving = Gateway::new(&setup(Role::Serving)).unwrap();
+        let mut packet = Gateway::new(&packet).unwrap();
+        serving.create_session(&SessionRequest { access_point: "Internet.mnc001.mcc001.GPRS", ..request() }).unwrap();
+        assert!(forward(&mut serving, &mut packet, &mut Vec::new()));
+        let mut room = [0; 2048];
+        let sent = packet.take(&mut room).unwrap().unwrap();
+        assert_eq!(serving.receive(sent.from, sent.plane, sent.octets).unwrap().outcome, outcome);
+    }
+}
+
+#[test]
+fn the_version_is_told_where_the_setup_says_so() {
+    let echo = [0x32, 1, 0, 4, 0, 0, 0, 0, 0, 1, 0, 0];
+    for version_not_supported in [true, false] {
+        let switches = Switches { version_not_supported, ..Switches::default() };
+        let mut gateway = Gateway::new(&Setup { switches, ..setup(Role::Packet) }).unwrap();
+        let source = SocketAddr::new(SERVING, 40000);
+        let dropped = if version_not_supported { (12, None) } else { (1, Some(2)) };
+        let outcome = gateway.receive(source, Plane::Control, &echo).unwrap().outcome;
+        assert_eq!(outcome, Outcome::Dropped { rule: dropped.0, fault: dropped.1 });
+        let mut room = [0; 2048];
+        let answer = gateway.take(&mut room).unwrap().map(|sent| (sent.to, sent.octets));
+        assert_eq!(answer, version_not_supported.then_some((source, &[0x40, 3, 0, 4, 0, 0, 0, 0][..])));
+    }
 }
 
 #[test]
@@ -374,6 +405,97 @@ fn a_gateway_goes_to_another_thread() {
     .join()
     .unwrap();
     assert_eq!(serving.tick().unwrap().waiting, 1);
+}
+
+const OTHER: IpAddr = IpAddr::V4(Ipv4Addr::new(192, 0, 2, 2));
+
+/// A packet gateway for each of these peers, and their serving gateways.
+fn node_of(peers: &[Addresses]) -> (Node, Vec<Gateway>) {
+    let mut node = Node::new();
+    let mut serving = Vec::new();
+    for (place, peer) in peers.iter().enumerate() {
+        let pool = (Ipv4Addr::new(10, 1 + place as u8, 0, 1), 10);
+        assert_eq!(node.add(&Setup { peer: *peer, pool, ..setup(Role::Packet) }), Ok(place));
+        serving.push(Gateway::new(&Setup { own: *peer, ..setup(Role::Serving) }).unwrap());
+    }
+    assert_eq!((node.len(), node.is_empty()), (peers.len(), peers.is_empty()));
+    (node, serving)
+}
+
+/// Hands the node what waits at the serving gateway of the peer at this place, and back what waits at its gateway. Returns how many
+/// packets came to the node.
+fn exchange(serving: &mut Gateway, node: &mut Node, place: usize) -> usize {
+    let mut room = [0; 2048];
+    let mut packets = 0;
+    while let Some(sent) = serving.take(&mut room).unwrap() {
+        let routed = node.receive(sent.from, sent.plane, sent.octets).unwrap().expect("a peer");
+        assert_eq!(routed.place, place);
+        packets += usize::from(matches!(routed.received.outcome, Outcome::Accepted { packet: b"up", .. }));
+    }
+    while let Some(sent) = node.gateway_mut(place).unwrap().take(&mut room).unwrap() {
+        serving.receive(sent.from, sent.plane, sent.octets).unwrap();
+    }
+    packets
+}
+
+/// Each peer has the address on one plane that the other has on the other plane.
+#[test]
+fn a_datagram_goes_to_the_gateway_of_its_peer() {
+    let peers = [Addresses { control: SERVING, user: OTHER }, Addresses { control: OTHER, user: SERVING }];
+    let (mut node, mut serving) = node_of(&peers);
+    for (place, serving) in serving.iter_mut().enumerate() {
+        let teid = serving.create_session(&request()).unwrap();
+        assert_eq!(exchange(serving, &mut node, place), 0);
+        assert_eq!(serving.session(teid).unwrap().v4, Some(Ipv4Addr::new(10, 1 + place as u8, 0, 1)));
+        let bearer = serving.bearers().next().unwrap().teid;
+        serving.send_user(bearer, b"up").unwrap();
+        assert_eq!(exchange(serving, &mut node, place), 1);
+        let sessions = [0, 1].map(|place| node.gateway(place).unwrap().sessions().count());
+        assert_eq!(sessions, [1, place]);
+    }
+    assert!(node.gateway(2).is_none() && node.gateway_mut(2).is_none());
+}
+
+#[test]
+fn of_peers_with_one_address_the_first_is_meant() {
+    let six = IpAddr::V6("2001:db8::2".parse().unwrap());
+    let (mut node, mut serving) = node_of(&[six.into(), SERVING.into(), SERVING.into(), OTHER.into()]);
+    for (from, place) in [(0, 0), (1, 1), (2, 1), (3, 3)] {
+        serving[from].echo().unwrap();
+        exchange(&mut serving[from], &mut node, place);
+    }
+    let IpAddr::V4(v4) = OTHER else { panic!("it is an IPv4 address") };
+    let mapped = SocketAddr::new(v4.to_ipv6_mapped().into(), 2123);
+    assert_eq!(node.receive(mapped, Plane::Control, &[0x40]).unwrap().expect("a peer").place, 3);
+}
+
+#[test]
+fn a_datagram_of_no_peer_does_nothing() {
+    let echo = [0x40, 1, 0, 9, 0, 0, 1, 0, 3, 0, 1, 0, 1];
+    let from = |address| SocketAddr::new(address, 2123);
+    assert_eq!(Node::new().receive(from(SERVING), Plane::Control, &echo), Ok(None));
+    let (mut node, _) = node_of(&[Addresses { control: SERVING, user: OTHER }]);
+    let bad = Setup { peer: PACKET.into(), timers: Timers { t3: 0, n3: 2, hold: 20 }, ..setup(Role::Packet) };
+    assert_eq!((node.add(&bad), node.len()), (Err(Error::BadValue), 1));
+    for (address, plane) in [(PACKET, Plane::Control), (OTHER, Plane::Control), (SERVING, Plane::User)] {
+        assert_eq!(node.receive(from(address), plane, &echo), Ok(None));
+    }
+    assert_eq!(node.gateway_mut(0).unwrap().take(&mut []), Ok(None));
+    let routed = node.receive(from(SERVING), Plane::Control, &echo).unwrap().expect("a peer");
+    assert_eq!((routed.place, routed.received.outcome, routed.received.waiting), (0, Outcome::Echoed, 1));
+}
+
+#[test]
+fn a_node_goes_to_another_thread() {
+    let (mut node, mut serving) = node_of(&[SERVING.into()]);
+    let mut node = thread::spawn(move || {
+        assert_eq!(node.add(&Setup { peer: OTHER.into(), ..setup(Role::Packet) }), Ok(1));
+        node
+    })
+    .join()
+    .unwrap();
+    serving[0].echo().unwrap();
+    exchange(&mut serving[0], &mut node, 0);
 }
 
 #[test]

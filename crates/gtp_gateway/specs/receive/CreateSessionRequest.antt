@@ -12,7 +12,7 @@ use Rattle.gtp_machine.specs.declared.outcome.Outcome.TheVariants.{Answered}
 use Rattle.gtp_machine.specs.Choice.{HasDraws, HasSessionRoom, asked_by, CanGive}
 use Rattle.gtp_machine.specs.Element.{cause_of, tunnel_end}
 use Rattle.gtp_machine.specs.Command.{bearer_request, create_bearer_asked, pending_dedicated}
-use Rattle.gtp_machine.specs.Config.{template_for}
+use Rattle.gtp_machine.specs.Config.{access_point_for, template_asked}
 use Rattle.gtp_machine.specs.Input.{Effect}
 use Rattle.gtp_machine.specs.Message.{Message, Create_session_response, Create_bearer_request}
 use Rattle.gtp_machine.specs.Message as messages
@@ -171,18 +171,18 @@ RoomJudged request q old e =
     Unless (CanGive old q.pdn) (e ≡ session_refused request q (cause_of ALL_DYNAMIC_ADDRESSES_ARE_OCCUPIED) old) (λ can.
     MakesSession request old q e))
 
--- the verdict is the machine's by the last rule, for a request of this access point
+-- the verdict is the machine's by the last rule, for a request that means this access point
 pub record JudgesAdded (name : List ℕ) (g : SessionGrant) (heard : Heard) (s : GatewayState) (v : CreateSessionVerdict) : Type 0 where
-  pub judged : (request : Arrival) (q : messages.CreateSessionRequest) → q.access_point ≡ name
-      → AnswersWith (template_for q.access_point (node_heard heard s.node).config.templates) request
+  pub judged : (request : Arrival) (q : messages.CreateSessionRequest) → access_point_for s.node.config q.access_point ≡ Some name
+      → AnswersWith (template_asked (node_heard heard s.node).config q.access_point) request
       (session_response (node_heard heard s.node) q g.drawn.control g.drawn.user g.address) (session_cause q.pdn g.address)
       g.drawn.control (made_session q g.address)
       (session_made (node_heard heard s.node) q g.drawn.control g.drawn.user g.address) (create_session_effect request q v (node_heard heard s.node))
   pub is : (identity pdn : ℕ) → ChoosesSession identity pdn g heard s.node → IsVerdict identity pdn v heard s
 
--- the verdict is the machine's by the last rules, for a request of this PDN type and this access point
+-- the verdict is the machine's by the last rules, for a request of this PDN type that means this access point
 pub record JudgesRoom (identity pdn : ℕ) (name : List ℕ) (heard : Heard) (s : GatewayState) (v : CreateSessionVerdict) : Type 0 where
-  pub judged : (request : Arrival) (q : messages.CreateSessionRequest) → q.pdn ≡ pdn → q.access_point ≡ name
+  pub judged : (request : Arrival) (q : messages.CreateSessionRequest) → q.pdn ≡ pdn → access_point_for s.node.config q.access_point ≡ Some name
       → RoomJudged request q (node_heard heard s.node) (create_session_effect request q v (node_heard heard s.node))
   pub is : IsVerdict identity pdn v heard s
 

@@ -1,5 +1,5 @@
 -- The rules of commands, of packets and of control messages by what they give: an outcome alone, the end of a request, a refusal, or all that the rule is for.
-use Rattle.std.proofs.Common.{◌≡◌, inl, inr, ℕ, ◌≤◌, List, [], ◌∷◌, Option, None, Some, refl, sym, subst, arith, Bool, true, false, ⊎_elim, ◌⊎◌}
+use Rattle.std.proofs.Common.{◌≡◌, inl, inr, ℕ, ◌≤◌, List, [], ◌∷◌, Option, None, Some, refl, sym, subst, arith, Bool, true, false, cond, ⊎_elim, ◌⊎◌}
 use Rattle.std.specs.FinMap.{insert}
 use Rattle.gtp_values.specs.Counter.{age_of}
 use Rattle.gtp_values.specs.declared.counter.Age.{Age}
@@ -11,15 +11,15 @@ use Rattle.gtp_values.specs.declared.qos.Qos.{Qos}
 use Rattle.gtp_machine.specs.Ordered.{Unless}
 use Rattle.gtp_machine.specs.Config.{user_end}
 use Rattle.gtp_machine.specs.Element.{IsAccepting, teid_in, cause_of, cause_at}
-use Rattle.gtp_machine.specs.Message.{Message, CreateSessionRequest, CreateSessionResponse, CreateBearerRequest, CreateBearerResponse}
+use Rattle.gtp_machine.specs.Message.{Message, CreateSessionRequest, CreateSessionResponse, CreateBearerRequest, CreateBearerResponse, Control}
 use Rattle.gtp_machine.specs.Message.{Create_bearer_response, End_marker, Supported_extensions, recovery_of}
 use Rattle.gtp_machine.specs.Node.{Role, Serving, Packet, Active, Arrival, Node, written}
 use Rattle.gtp_machine.specs.Input.{Effect, UserReading, User_message, Extension_needed, User_fault, Dropped, UnknownExtension, EventOutcome, Came_to}
 use Rattle.gtp_machine.specs.Input.{Outcome, Specification, GoneOut, Ended, Broken, nothing, says, ControlReading, Control_message, Faulty}
-use Rattle.gtp_machine.specs.Input.{Control_fault, FaultyRequest, NotPeer, dropped}
+use Rattle.gtp_machine.specs.Input.{Control_fault, FaultyRequest, NotPeer, dropped, undecodable, DropReason}
 use Rattle.gtp_machine.specs.Choice.{HasPending, HasSession, HasBearer, HasSessionRoom, HasPendingRoom, HasHeldRoom, HasDraws, IsIdentity}
 use Rattle.gtp_machine.specs.Response.{EndsRequest, finishing}
-use Rattle.gtp_machine.specs.Answer.{answered, Repeats, IsNew, Faulted, faulted, TakesReading}
+use Rattle.gtp_machine.specs.Answer.{answered, Repeats, IsNew, Faulted, faulted, tells_version, version_told, TakesReading}
 use Rattle.gtp_machine.specs.Command.{SessionBegun, BeginsSession, SessionDeleted, ClosesSession, BearerBegun, BeginsBearer, BearerDeleted}
 use Rattle.gtp_machine.specs.Command.{NamesBearer, ClosesBearer, SessionReleased, ReleasesSession, EndMarked, EchoBegun, SendsEcho, PacketSent}
 use Rattle.gtp_machine.specs.Command.{SendsPacket}
@@ -114,13 +114,21 @@ module _ {G : Type 0} (old : Node) (e : Effect) (quiet : (outcome : EventOutcome
   on_faulty true request f answers r = answers r
   on_faulty false request f answers r = quiet _ r
 
+  on_undecoded : (tells : Bool) (request : Arrival) (why : DropReason) → (tells ≡ true → e ≡ version_told request old → G)
+      → e ≡ cond tells (version_told request old) (dropped old why) → G
+  on_undecoded true request why answers r = answers refl r
+  on_undecoded false request why answers r = quiet _ r
+
   -- and what was read of it
   pub on_read : (by : Role) (Takes : Arrival → Message → Node → Effect → Type 0) (request : Arrival) (reading : ControlReading)
       → ((m : Message) → reading ≡ Control_message m → takes_message by m ≡ true → Hears (Takes request m) old (recovery_of m) e → G)
-      → ((f : FaultyRequest) → reading ≡ Faulty f → e ≡ faulted request f old → G) → TakesReading by Takes reading request old e → G
-  on_read by Takes request (Control_message m) takes answers r = by_rule (quiet _) (takes m refl) r
-  on_read by Takes request (Faulty f) takes answers r = on_faulty (answers_type by f.kind) request f (answers f refl) r
-  on_read by Takes request (Control_fault fault) takes answers r = quiet _ r
+      → ((f : FaultyRequest) → reading ≡ Faulty f → e ≡ faulted request f old → G)
+      → ((fault : ℕ) → reading ≡ Control_fault fault → tells_version old.config request.octets fault ≡ true → e ≡ version_told request old → G)
+      → TakesReading by Takes reading request old e → G
+  on_read by Takes request (Control_message m) takes answers tells r = by_rule (quiet _) (takes m refl) r
+  on_read by Takes request (Faulty f) takes answers tells r = on_faulty (answers_type by f.kind) request f (answers f refl) r
+  on_read by Takes request (Control_fault fault) takes answers tells r =
+      on_undecoded (tells_version old.config request.octets fault) request (undecodable Control fault) (tells fault refl) r
 
   -- a response that only ends its request, as a Delete Bearer Response
   pub on_finish : {number : ℕ} {Fits : HasPending old number → Type 0} {outcome : Outcome} → ((at : HasPending old number) → e ≡ finishing old number at.pending outcome → G)

@@ -9,7 +9,7 @@ use Rattle.gtp_machine.specs.Node.{Role, Serving, Packet, Session, Arrival, Node
 use Rattle.gtp_machine.specs.Input.{Answered, EventOutcome, Came_to, ControlReading, Control_came, Input, FaultyRequest}
 use Rattle.gtp_machine.specs.Removal.{without_bearer}
 use Rattle.gtp_machine.specs.Serving.{MakesBearer, CreateBearerAsked, RemovesEach, RemovesBearers, DeleteBearerTaken, DeleteBearerAsked}
-use Rattle.gtp_machine.specs.Config.{Template, template_for}
+use Rattle.gtp_machine.specs.Config.{Template, template_asked}
 use Rattle.gtp_machine.specs.Answer.{making, Faulted}
 use Rattle.gtp_machine.specs.Packet.{session_cause, session_response, made_session, session_made, AddsBearer, AnswersWith, MakesSession, CreateSessionAsked, DeleteSessionAsked}
 use Rattle.gtp_machine.specs.Sound.{AreApart}
@@ -38,7 +38,7 @@ removes_one session (identity ∷ rest) old contexts others left right apart (cs
 
 module _ {first : Node} {reading : ControlReading} (request : Arrival) (old : Node) (fits : Fits first) (left : IsLeft first old) where
   makes_session : (q : CreateSessionRequest) → Determines (Alike Packet first (Control_came request reading)) (MakesSession request old q)
-  makes_session q e f r s = by (template_for q.access_point old.config.templates) r.gives s.gives
+  makes_session q e f r s = by (template_asked old.config q.access_point) r.gives s.gives
     where
       outcome : ◌≡◌ {A = EventOutcome} (Came_to (Answered (session_cause q.pdn r.address))) (Came_to (Answered (session_cause q.pdn s.address)))
       outcome = ap (λ cause. Came_to (Answered cause)) (one_cause old q.pdn r.address s.address r.given s.given)

@@ -1,6 +1,6 @@
 -- The request of a template's bearer and its answers can be sent, where what they carry has room in them.
 use Rattle.std.proofs.Common.{◌≡◌, ℕ, ◌+◌, ◌^◌, ◌<◌, ◌≤◌, length, List, [], ◌∷◌, Some, None, true, false, refl, subst, arith, rules}
-use Rattle.std.specs.Prelude.{All, nat_eq, Bool}
+use Rattle.std.specs.Prelude.{All, nat_eq, Bool, option_and_then, Option}
 use Rattle.std.specs.Cmp.Lexicographic.{pointwise}
 use Rattle.std.proofs.lemmas.List.Elements.{All-head, All-tail}
 use Rattle.gtp_values.specs.Address.{IsIp}
@@ -16,7 +16,7 @@ use Rattle.gtp_v2.specs.Kinds.{RowsHaveKinds}
 use Rattle.gtp_v2.specs.Text.{value_encoding, groups_encoding, rows_encoding}
 use Rattle.gtp_v2.specs.CreateBearerRequest.{bearer_request_context_rows}
 use Rattle.gtp_v2.specs.CreateBearerResponse.{bearer_response_context_rows}
-use Rattle.gtp_machine.specs.Config.{Template, template_for}
+use Rattle.gtp_machine.specs.Config.{Template, Config, template_for, access_point_for, template_asked}
 use Rattle.gtp_machine.specs.Element.{cause_of, tunnel_end}
 use Rattle.gtp_machine.specs.Message.{WantedBearer, CreateBearerRequest, GivenBearer, CreateBearerResponse, Create_bearer_request, Create_bearer_response}
 use Rattle.gtp_machine.specs.Choice.{IsIdentity}
@@ -28,13 +28,21 @@ use Rattle.gtp_machine.proofs.Basics.Facts.{◌⊗◌}
 use Rattle.gtp_machine.proofs.Octets.AsOctets.{none, and, element_octets}
 
 -- what holds of each template holds of that of an access point
-pub found_template : (P : Template → Type 0) (name : List ℕ) (templates : List Template) (t : Template) → All P templates → template_for name templates ≡ Some t → P t
+found_template : (P : Template → Type 0) (name : List ℕ) (templates : List Template) (t : Template) → All P templates → template_for name templates ≡ Some t → P t
 found_template P name [] t all is = absurd (cc is)
 found_template P name (x ∷ templates) t all is = by (pointwise nat_eq x.access_point name) refl (λ later. found_template P name templates t (All-tail P x templates all) later)
   where
     by : (same : Bool) → pointwise nat_eq x.access_point name ≡ same → (template_for name templates ≡ Some t → P t) → P t
     by true same rest = let one : x ≡ t = cc (is, same) in subst P one (All-head P x templates all)
     by false same rest = rest (cc (is, same))
+
+-- so what holds of each template holds of that of the access point that is meant by a name
+pub asked_template : (P : Template → Type 0) (config : Config) (name : List ℕ) (t : Template) → All P config.templates → template_asked config name ≡ Some t → P t
+asked_template P config name t all is = by (access_point_for config name) is
+  where
+    by : (own : Option (List ℕ)) → option_and_then (λ o. template_for o config.templates) own ≡ Some t → P t
+    by None found = absurd (cc found)
+    by (Some own) found = found_template P own config.templates t all found
 
 tft_short : (tft : List ℕ) → length tft ≤ 255 → All (λ octet. octet < 256) tft → IsAtMost (encoding_of (OfTft tft)) 255
 unfolding encoding_of

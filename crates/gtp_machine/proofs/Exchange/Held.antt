@@ -21,6 +21,7 @@ use Rattle.gtp_machine.proofs.Requests.Holding.{Keeps, Adds, command_held, user_
 use Rattle.gtp_machine.proofs.Worlds.Runs as run
 use Rattle.gtp_machine.proofs.Worlds.Coming.{both_steps, Brings, Orders, Sends, Joins, Begins, Walks}
 use Rattle.gtp_machine.proofs.Basics.Finishing.{on_control}
+use Rattle.gtp_machine.proofs.Basics.Versions.{undecoded_leaves}
 use Rattle.gtp_machine.proofs.Requests.Opening.{opening, foreign, same_held}
 
 -- what a step holds it held before, or it is for the datagram that came
@@ -96,7 +97,7 @@ tick_config old [] out new t = ap (λ (k : Node). k.config) t.1
 tick_config old (move ∷ moves) out new (e, rest, step, others, is) = tick_config e.node moves rest new others ∙ move_config old move e step
 
 fault_held : (role : Role) (request : Arrival) (fault : ℕ) (old : Node) (e : Effect) → Step role old (Control_came request (Control_fault fault)) e → KeepsHeld old e
-fault_held role request fault old e r h among = subst (λ l. Among h l) (on_control old e (λ _. ap held_in) request (λ again. ap held_in again.gives) (λ new. ap held_in) r) among
+fault_held role request fault old e r h among = subst (λ l. Among h l) (on_control old e (λ _. ap held_in) request (λ again. ap held_in again.gives) (λ new gives. ap held_in gives ∙ ap (λ (n : Node). n.held) (undecoded_leaves fault request old)) r) among
 
 noted_held : (w : World) (note : Note) → HeldOfSent w → HeldOfSent (noted w note)
 noted_held w note held Serving = held Serving

@@ -11,7 +11,7 @@ use Rattle.gtp_values.specs.FiniteMap.{Among}
 use Rattle.gtp_values.specs.declared.address.Endpoint.{Endpoint}
 use Rattle.gtp_values.specs.declared.counter.Age.TheVariants.{Earlier}
 use Rattle.gtp_values.specs.Address.{IsIp}
-use Rattle.gtp_machine.specs.Config.{Addresses, Config, template_for, user_end}
+use Rattle.gtp_machine.specs.Config.{Addresses, Config, template_asked, user_end}
 use Rattle.gtp_machine.specs.Element.{IsAccepting, PdnAddress, cause_of, tunnel_end, teid_in}
 use Rattle.gtp_machine.specs.Message.{CreateSessionRequest, CreateSessionResponse, CreateBearerRequest, Message, Create_session_request}
 use Rattle.gtp_machine.specs.Message.{Create_session_response, Packet_data, plane_of, Control, User, Create_bearer_request, Create_bearer_response}
@@ -40,7 +40,7 @@ use Rattle.gtp_machine.proofs.Worlds.Runs.{Invariant, always, side_in}
 use Rattle.gtp_machine.proofs.Exchange.Held.{HeldOfSent, not_announcing, always_held}
 use Rattle.gtp_machine.proofs.Worlds.Coming.{peer_comes, IsMoved, moved_so, Took, took_datagram, TookBoth, took_both, took_both_late}
 use Rattle.gtp_machine.proofs.Basics.Templates.{IsAdded}
-use Rattle.gtp_machine.proofs.Exchange.Added.{found_template, wanted_sendable, refusal_sendable, grant_sendable}
+use Rattle.gtp_machine.proofs.Exchange.Added.{asked_template, wanted_sendable, refusal_sendable, grant_sendable}
 use Rattle.gtp_machine.proofs.Exchange.Nodes.{pass, v4_given, v6_given, type_is as asked_type, begins, CanMake, IsAnswered, answers, waiting_for}
 use Rattle.gtp_machine.proofs.Exchange.Nodes.{Waits, OpensBy, IsOpened, is_opened_by, GoesOut, goes_out, SaysSo, asked_second}
 use Rattle.gtp_machine.proofs.Exchange.Texts.{request_like, response_like, same_request_teid, same_response_teid}
@@ -359,7 +359,7 @@ module _ (serving packet : Config) (serving_counter packet_counter : ℕ) (event
 
       abbrev Added : Type 0
       Added =
-          IsAdded (template_for q.access_point a2.mid.config.templates) asked a (session_cause spec.pdn a2.made.address) a2.made.control at_packet
+          IsAdded (template_asked a2.mid.config q.access_point) asked a (session_cause spec.pdn a2.made.address) a2.made.control at_packet
           (session_made a2.mid q a2.made.control a2.made.user a2.made.address) a2.taken
 
       -- the request of the template's bearer
@@ -719,7 +719,7 @@ module _ (serving packet : Config) (serving_counter packet_counter : ℕ) (event
 
     wanted_is : (x : Adds) → IsSendable (Create_bearer_request (asked_for x))
     wanted_is x =
-        let t = found_template IsTemplate spec.subscriber.access_point at.mid.config.templates x.template mid_is.templates x.is in
+        let t = asked_template IsTemplate at.mid.config spec.subscriber.access_point x.template mid_is.templates x.is in
         wanted_sendable r1.control x.adds.number spec.subscriber.identity x.template.tft x.template.qos x.adds.user at.mid.config.own.user
         control_small (added_number x) can.identity t.short t.octets t.qos (added_small x) mid_is.user
 

@@ -1,6 +1,6 @@
 -- What the rows of each gateway give where nothing stands in the way.
 use Rattle.std.proofs.Common.{◌≡◌, ◌≢◌, ◌⊎◌, inl, inr, ⊎_elim, ℕ, ◌+◌, ◌<◌, ◌≤◌, length, List, [], ◌∷◌, Option, Some, None, true, false, not, ◌||◌, refl, sym, ◌∙◌, ap, subst, arith}
-use Rattle.std.specs.Prelude.{IsTrue, is_some}
+use Rattle.std.specs.Prelude.{IsTrue, is_some, IsSome}
 use Rattle.std.specs.FinMap.{get, insert, remove, len}
 use Rattle.std.proofs.lemmas.Bool.Decides.{nat_tests}
 use Rattle.std.proofs.lemmas.Option.{same_Some}
@@ -12,7 +12,7 @@ use Rattle.gtp_tables.specs.declared.pool.IpVersion.{IpVersion}
 use Rattle.gtp_tables.specs.declared.pool.IpVersion.TheVariants.{V4, V6}
 use Rattle.gtp_machine.specs.declared.causes.TheConstants.{CONTEXT_NOT_FOUND, REQUEST_REJECTED}
 use Rattle.gtp_machine.specs.Ordered.{Unless}
-use Rattle.gtp_machine.specs.Config.{Config, template_for}
+use Rattle.gtp_machine.specs.Config.{Config, access_point_for, template_asked}
 use Rattle.gtp_machine.specs.Element.{IsAccepting, PdnAddress, address_of}
 use Rattle.gtp_machine.specs.Message.{CreateSessionRequest, CreatedBearer, CreateSessionResponse, CreateBearerRequest, Message}
 use Rattle.gtp_machine.specs.Message.{Create_session_request, Create_session_response, Create_bearer_request, Create_bearer_response}
@@ -145,7 +145,7 @@ pub record CanMake (old : Node) (q : CreateSessionRequest) : Type 0 where
   pub room : HasHeldRoom old
   pub one : q.further ≡ []
   pub identity : IsIdentity q.context.identity
-  pub configured : Among q.access_point old.config.access_points
+  pub configured : IsSome (access_point_for old.config q.access_point)
   pub few : HasSessionRoom old
   pub draws : HasDraws old 2
 
@@ -186,7 +186,7 @@ can_still old mid ready q can = record {
   room = record { few = subst (λ (l : List Held). length l < 4096) (sym ready.held) can.room.few };
   one = can.one;
   identity = can.identity;
-  configured = subst (λ (c : Config). Among q.access_point c.access_points) (sym ready.config) can.configured;
+  configured = subst (λ (c : Config). IsSome (access_point_for c q.access_point)) (sym ready.config) can.configured;
   few = record { few = omega (arith, ready.few, can.few.few) };
   draws = record { left = subst (λ (l : List ℕ). length l + 2 ≤ 16777215) (sym ready.drawn) can.draws.left };
 }
@@ -347,7 +347,7 @@ pub record GoesOut (request : Arrival) (q : CreateSessionRequest) (old : Node) (
   pub config : left.config ≡ old.config
   pub sessions : left.sessions ≡ (session_made old q control user address).sessions
   pub bearer : get left.bearers user ≡ Some (made_bearer q control)
-  pub wanted : (more ≡ []) ⊎ ((x : IsAdded (template_for q.access_point old.config.templates) request (session_response old q control user address)
+  pub wanted : (more ≡ []) ⊎ ((x : IsAdded (template_asked old.config q.access_point) request (session_response old q control user address)
       (session_cause q.pdn address) control (made_session q address) (session_made old q control user address) e) × (more ≡ Create_bearer_request
       (bearer_request (session_made old q control user address) (made_session q address) x.template.tft x.template.qos x.adds.user
       x.adds.number) ∷ []))
@@ -356,7 +356,7 @@ pub goes_out : (request : Arrival) (q : CreateSessionRequest) (old : Node) (e : 
 goes_out request q old e r =
     ⊎_elim alone added
     (goes request (session_response old q r.control r.user r.address) (session_cause q.pdn r.address) r.control (made_session q r.address)
-    (session_made old q r.control r.user r.address) e (template_for q.access_point old.config.templates) r.gives)
+    (session_made old q r.control r.user r.address) e (template_asked old.config q.access_point) r.gives)
   where
     stands : get (session_made old q r.control r.user r.address).bearers r.user ≡ Some (made_bearer q r.control)
     stands = get-insert_same old.bearers r.user (made_bearer q r.control)
@@ -365,7 +365,7 @@ goes_out request q old e r =
         (session_made old q r.control r.user r.address) → GoesOut request q old r.control r.user r.address e
     alone gives = record { more = []; left = (session_made old q r.control r.user r.address); gives = gives; config = refl; sessions = refl; bearer = stands; wanted = inl refl }
 
-    added : IsAdded (template_for q.access_point old.config.templates) request (session_response old q r.control r.user r.address)
+    added : IsAdded (template_asked old.config q.access_point) request (session_response old q r.control r.user r.address)
         (session_cause q.pdn r.address) r.control (made_session q r.address) (session_made old q r.control r.user r.address) e
         → GoesOut request q old r.control r.user r.address e
     added x =

@@ -1,5 +1,5 @@
 -- There are exchanges that meet all premises, from a start.
-use Rattle.std.proofs.Common.{◌≡◌, inl, ℕ, ◌≤◌, [], refl, ◌∙◌, arith}
+use Rattle.std.proofs.Common.{◌≡◌, ℕ, ◌≤◌, [], refl, ◌∙◌, arith}
 use Rattle.gtp_machine.specs.Element.{PdnAddress}
 use Rattle.gtp_machine.specs.Choice.{IsGiven}
 use Rattle.gtp_machine.specs.Packet.{session_cause}
@@ -23,7 +23,7 @@ module _ (pdn count cause : ℕ) (address : PdnAddress) (few : count ≤ 65536) 
   can : CanExchange (w0 count) (spec pdn)
   can = record {
     identity = record { low = omega arith; high = omega arith };
-    configured = inl refl;
+    configured = refl;
     serving_room = record { few = no_sessions };
     packet_room = record { few = no_sessions };
     serving_draws = record { left = omega arith };

@@ -3,6 +3,7 @@ use Rattle.std.proofs.Common.{◌≡◌, inl, inr, ℕ, ◌+◌, ◌*◌, ◌≤
 use Rattle.gtp_ie.specs.Value.{Value, OfRecovery, OfAmbr, OfEbi, OfPaa, OfQos, OfPlmn, OfFTeid, OfChargingId, OfPti, OfSelection}
 use Rattle.gtp_v2.specs.Headed as headers
 use Rattle.gtp_v2.specs.Header as control_headers
+use Rattle.gtp_v2.specs.VersionNotSupported.{version_not_supported}
 use Rattle.gtp_v2.specs.Message.{MessageValue}
 use Rattle.gtp_v2.specs.Datagram.{IsMessage}
 use Rattle.gtp_v2.proofs.Marked.{marked_again}
@@ -59,6 +60,10 @@ recovery_back o = back OfRecovery number_of (λ n. refl) o
 
 linked_back : (o : Option ℕ) → first_in number_of (where_there OfEbi o) ≡ o
 linked_back o = back OfEbi number_of (λ n. refl) o
+
+-- a Version Not Supported Indication is read again
+told_back : (kind : ℕ) → kind ≡ version_not_supported.kind → message_of (control_value (Other_control kind)) ≡ Other_control kind
+told_back kind is = subst (λ k. message_of (control_value (Other_control k)) ≡ Other_control k) (sym is) refl
 
 -- what a message says is that message again
 pub control_back : (m : Message) → plane_of m ≡ Control → IsOfOwnKind m → message_of (control_value m) ≡ m
@@ -130,7 +135,7 @@ control_back (Delete_bearer_response d) plane own =
       contexts = each_back removed_rows removed (λ c. refl) d.contexts i;
       recovery = recovery_back d.recovery i;
     })
-control_back (Other_control kind) plane own = absurd own
+control_back (Other_control kind) plane own = told_back kind own
 control_back _ plane own = absurd (cc plane)
 
 user_back : (m : Message) → plane_of m ≡ User → IsOfOwnKind m → user_message_of (user_value m) ≡ m

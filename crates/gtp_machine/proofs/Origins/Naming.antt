@@ -20,11 +20,12 @@ use Rattle.gtp_machine.specs.MessageType.{takes_message}
 use Rattle.gtp_machine.specs.Answer.{TakesReading, ControlStep}
 use Rattle.gtp_machine.specs.Move.{MoveStep}
 use Rattle.gtp_machine.specs.Serving.{CreateSessionAnswered, CreateBearerAsked, DeleteBearerTaken, DeleteBearerAsked, ServingTakes}
-use Rattle.gtp_machine.specs.Config.{template_for}
+use Rattle.gtp_machine.specs.Config.{template_asked}
 use Rattle.gtp_machine.proofs.Basics.Finishing.{quietly, on_session_begun, on_session_deleted, on_bearer_begun, on_bearer_deleted}
 use Rattle.gtp_machine.proofs.Basics.Finishing.{on_session_released, on_end_marked, on_echo_begun, on_packet_sent, on_packet_came, on_end_came}
 use Rattle.gtp_machine.proofs.Basics.Finishing.{on_error_came, on_user_step, on_finish, on_session_answered, on_bearer_answered, on_session_asked}
 use Rattle.gtp_machine.proofs.Basics.Finishing.{on_hears, on_control, on_read}
+use Rattle.gtp_machine.proofs.Basics.Versions.{told_of}
 use Rattle.gtp_machine.proofs.Basics.Templates.{goes}
 use Rattle.gtp_machine.specs.Packet.{session_cause, session_response, made_session, session_made, CreateSessionAsked, DeleteSessionAsked, CreateBearerAnswered, PacketTakes}
 use Rattle.gtp_machine.specs.World.{other, Sent, HasSent, signed}
@@ -214,7 +215,7 @@ module _ (history : List Sent) where
         (λ alone. at history Packet e _ alone (one history Packet _ (back _)))
         (λ x. at history Packet e _ x.adds.gives (two history Packet _ _ (back _) (back _)))
         (goes request (session_response old q r.control r.user r.address) (session_cause q.pdn r.address) r.control (made_session q r.address)
-        (session_made old q r.control r.user r.address) e (template_for q.access_point old.config.templates) r.gives))
+        (session_made old q r.control r.user r.address) e (template_asked old.config q.access_point) r.gives))
         r
 
     delete_session_asked : (request : Arrival) (d : DeleteSessionRequest) (e : Effect) → DeleteSessionAsked request d old e → Told history Packet e
@@ -255,7 +256,8 @@ module _ (history : List Sent) where
         (λ sent. hears history role (Takes request m) (rows request m sent.0) old back (recovery_of m) e)
         (λ o. absurd (let other : takes_message role (Other_control o.kind) ≡ true = ap (takes_message role) (sym o.is) ∙ taken in cc))
         (subst (ControlCarried role history old) is came))
-        (λ f is. absurd (subst (ControlCarried role history old) is came)))
+        (λ f is. absurd (subst (ControlCarried role history old) is came))
+        (λ fault is tells. absurd (subst (ControlCarried role history old) is came (told_of old.config request.octets fault tells))))
 
   user_named : EachNamedTeidWasDrawn history → (role : Role) (reading : UserReading)
       → ((m : Message) → reading ≡ User_message m → HasSent history (other role) m) → (m : Message) → reading ≡ User_message m

@@ -11,7 +11,7 @@ use Rattle.gtp_machine.specs.Recovery.{Hears, peer_restarted}
 use Rattle.gtp_machine.specs.Move.{Forgets}
 use Rattle.gtp_machine.specs.Answer.{making, Repeats, IsNew, TakesReading, ControlStep, answered}
 use Rattle.gtp_machine.specs.Serving.{CreateBearerAsked, ServingTakes}
-use Rattle.gtp_machine.specs.Config.{template_for}
+use Rattle.gtp_machine.specs.Config.{template_asked}
 use Rattle.gtp_machine.proofs.Basics.Finishing.{quietly, on_bearer_asked, on_session_asked, on_hears, on_control, by_rule}
 use Rattle.gtp_machine.proofs.Basics.Templates.{goes}
 use Rattle.gtp_machine.specs.Packet.{session_cause, session_response, made_session, session_made, CreateSessionAsked, PacketTakes}
@@ -143,7 +143,7 @@ create_session_asked request q old e r =
     (λ alone. made request old e _ _ _ alone)
     (λ x. made request old e _ _ _ x.adds.gives)
     (goes request (session_response old q r.control r.user r.address) (session_cause q.pdn r.address) r.control (made_session q r.address)
-    (session_made old q r.control r.user r.address) e (template_for q.access_point old.config.templates) r.gives))
+    (session_made old q r.control r.user r.address) e (template_asked old.config q.access_point) r.gives))
     r
 
 -- hearing the counter first makes no bearer

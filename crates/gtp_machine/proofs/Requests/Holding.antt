@@ -15,7 +15,7 @@ use Rattle.gtp_machine.specs.Step.{Step}
 use Rattle.gtp_machine.specs.Answer.{IsNew, TakesReading, ControlStep}
 use Rattle.gtp_machine.specs.Command.{CommandStep}
 use Rattle.gtp_machine.specs.Serving.{CreateSessionAnswered, CreateBearerAsked, DeleteBearerTaken, DeleteBearerAsked, delete_bearer_cause, ServingTakes}
-use Rattle.gtp_machine.specs.Config.{template_for}
+use Rattle.gtp_machine.specs.Config.{template_asked}
 use Rattle.gtp_machine.proofs.Basics.Finishing.{on_session_begun, on_session_deleted, on_bearer_begun, on_bearer_deleted, on_session_released}
 use Rattle.gtp_machine.proofs.Basics.Finishing.{on_end_marked, on_echo_begun, on_packet_sent, on_packet_came, on_end_came, on_error_came}
 use Rattle.gtp_machine.proofs.Basics.Finishing.{on_user_step, on_finish, on_session_answered, on_bearer_answered, on_bearer_asked, on_session_asked}
@@ -163,7 +163,7 @@ module _ (request : Arrival) (old : Node) (e : Effect) where
       (λ alone. answers _ _ alone refl refl refl)
       (λ x. inr (record { answer = _; more = _; is = refl; plain = refl; held = ap held_in x.adds.gives; sends = ap (λ (f : Effect). datagrams f.out.sent) x.adds.gives }))
       (goes request (session_response old q r.control r.user r.address) (session_cause q.pdn r.address) r.control (made_session q r.address)
-      (session_made old q r.control r.user r.address) e (template_for q.access_point old.config.templates) r.gives))
+      (session_made old q r.control r.user r.address) e (template_asked old.config q.access_point) r.gives))
       r
 
   delete_session_asked_answers : (d : _) → DeleteSessionAsked request d old e → Answers request false old e
@@ -231,7 +231,8 @@ module _ (role : Role) (Takes : Arrival → Message → Node → Effect → Type
       on_control old e (λ _ f. inl (ap held_in f)) request (λ r. inl (ap held_in r.gives)) (λ new.
       on_read old e (λ _ f. inl (ap held_in f)) role Takes request reading
       (λ m is kind r. ⊎_elim (λ same. inl same) (λ a. inr (new, a)) (holds request (creates role m) old e (heard m r)))
-      (λ f is gives. inl (ap held_in gives)))
+      (λ f is gives. inl (ap held_in gives))
+      (λ fault is tells gives. inl (ap held_in gives)))
 
 pub control_held : (role : Role) (request : Arrival) (reading : ControlReading) (old : Node) (e : Effect) → Step role old (Control_came request reading) e
     → Keeps old e ⊎ (IsNew old request × Adds request old e)

@@ -1,16 +1,16 @@
 -- What each step does with the responses to create requests: which it sends, and which it holds.
-use Rattle.std.proofs.Common.{◌≡◌, ◌⊎◌, inl, inr, ⊎_elim, ℕ, Bool, true, false, not, List, [], ◌∷◌, ◌++◌, refl, sym, ◌∙◌, ap, subst}
+use Rattle.std.proofs.Common.{◌≡◌, ◌⊎◌, inl, inr, ⊎_elim, ℕ, Bool, true, false, cond, not, List, [], ◌∷◌, ◌++◌, refl, sym, ◌∙◌, ap, subst}
 use Rattle.std.specs.Prelude.{◌&&◌}
 use Rattle.gtp_values.specs.FiniteMap.{FiniteMap, Each, Among}
 use Rattle.gtp_values.proofs.Tests.{both}
-use Rattle.gtp_machine.specs.Message.{Message, Create_session_request, Create_bearer_request, recovery_of}
+use Rattle.gtp_machine.specs.Message.{Message, Create_session_request, Create_bearer_request, Control, recovery_of}
 use Rattle.gtp_machine.specs.Node.{Role, Serving, Packet, PendingRequest, Arrival, Held, Node}
-use Rattle.gtp_machine.specs.Input.{Control_message, Control_fault, Control_came, Move, Resend, Give_up, Forget, Out, Effect, messages, datagrams}
+use Rattle.gtp_machine.specs.Input.{Control_message, Control_fault, Control_came, Move, Resend, Give_up, Forget, Out, Effect, dropped, undecodable, messages, datagrams}
 use Rattle.gtp_machine.specs.Recovery.{Hears}
 use Rattle.gtp_machine.specs.Move.{MoveStep}
 use Rattle.gtp_machine.specs.Tick.{TickStep, ticked}
 use Rattle.gtp_machine.specs.Step.{TakesBy, Step}
-use Rattle.gtp_machine.specs.Answer.{TakesReading, ControlStep}
+use Rattle.gtp_machine.specs.Answer.{tells_version, version_told, undecoded, TakesReading, ControlStep}
 use Rattle.gtp_machine.specs.Serving.{ServingTakes}
 use Rattle.gtp_machine.specs.Packet.{PacketTakes}
 use Rattle.gtp_machine.specs.Laws.{CreateAsked}
@@ -97,10 +97,18 @@ message_replies Packet m request old e r =
     control (TakesReading Packet PacketTakes (Control_message m)) request old e (IsReplied Packet m request old e)
     (replies Packet PacketTakes packet_answers packet_asked m request old e) r
 
+-- a Version Not Supported Indication is no such response
+undecoded_seen : (fault : ℕ) (request : Arrival) (old : Node) → seen_in (undecoded fault request old) ≡ (old.held, true)
+undecoded_seen fault request old = by (tells_version old.config request.octets fault)
+  where
+    by : (tells : Bool) → seen_in (cond tells (version_told request old) (dropped old (undecodable Control fault))) ≡ (old.held, true)
+    by true = refl
+    by false = refl
+
 -- what reads as no message comes
 pub fault_replies : (role : Role) (fault : ℕ) (request : Arrival) (old : Node) (e : Effect) → Step role old (Control_came request (Control_fault fault)) e
     → IsLesser old e ⊎ (IsRepeated request old e ⊎ ⊥)
-fault_replies role fault request old e = control (TakesReading role (TakesBy role) (Control_fault fault)) request old e ⊥ (λ f. inl (lesser_calm old e (ap seen_in f)))
+fault_replies role fault request old e = control (TakesReading role (TakesBy role) (Control_fault fault)) request old e ⊥ (λ f. inl (lesser_calm old e (ap seen_in f ∙ undecoded_seen fault request old)))
 
 -- no pending request is such a response
 abbrev pub AllAsk : FiniteMap PendingRequest → Type 0

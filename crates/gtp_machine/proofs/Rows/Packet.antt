@@ -13,7 +13,7 @@ use Rattle.gtp_machine.specs.Node.{Serving, Packet, Active, Closing, Session, Be
 use Rattle.gtp_machine.specs.Input.{Came_to, Begun, Opened, Effect}
 use Rattle.gtp_machine.specs.Choice.{IsFree, HasPending, counter_of}
 use Rattle.gtp_machine.specs.Removal.{without_session}
-use Rattle.gtp_machine.specs.Config.{template_for}
+use Rattle.gtp_machine.specs.Config.{template_asked}
 use Rattle.gtp_machine.specs.Command.{bearer_request, create_bearer_asked, pending_dedicated, BeginsBearer, BearerBegun}
 use Rattle.gtp_machine.specs.Answer.{answered, making}
 use Rattle.gtp_values.proofs.Allocations.{address_back}
@@ -269,7 +269,7 @@ module _ (history : List Sent) (taken : Arrival → Message → Type 0) (serving
           (by_cases history Packet Packet (Create_session_response answer ∷ []) m has)
 
       -- it goes with the request of the template's bearer
-      module _ (x : IsAdded (template_for q.access_point old.config.templates) request answer (session_cause q.pdn r.address) r.control session made e) where
+      module _ (x : IsAdded (template_asked old.config q.access_point) request answer (session_cause q.pdn r.address) r.control session made e) where
         abbrev wanted : CreateBearerRequest
         wanted = bearer_request made session x.template.tft x.template.qos x.adds.user x.adds.number
 
@@ -348,7 +348,7 @@ module _ (history : List Sent) (taken : Arrival → Message → Type 0) (serving
             })
 
       makes : Took Packet history taken old e
-      makes = ⊎_elim makes_alone makes_both (goes request answer (session_cause q.pdn r.address) r.control session made e (template_for q.access_point old.config.templates) r.gives)
+      makes = ⊎_elim makes_alone makes_both (goes request answer (session_cause q.pdn r.address) r.control session made e (template_asked old.config q.access_point) r.gives)
 
     refuses : (request : Arrival) (q : CreateSessionRequest) (cause : Cause) (e : Effect) → 64 ≤ cause.value → e ≡ session_refused request q cause old → Took Packet history taken old e
     refuses request q cause e high gives = gives_answer Packet history taken old knows request _ cause.value old e gives (Shrunk-itself old) tt none (λ c e. cc e)

@@ -27,7 +27,7 @@ use Rattle.gtp_machine.specs.Command.{create_bearer_asked as begun_bearer, pendi
 use Rattle.gtp_machine.specs.Answer.{TakesReading, ControlStep}
 use Rattle.gtp_machine.specs.Serving.{FitsCreateSession, DescribesSession, opened_session, opened_bearer, OpensSession, CreateSessionAnswered}
 use Rattle.gtp_machine.specs.Serving.{granted_bearer, CreateBearerAsked, RemovesEach, DeleteBearerTaken, DeleteBearerAsked, ServingTakes}
-use Rattle.gtp_machine.specs.Config.{control_end, template_for}
+use Rattle.gtp_machine.specs.Config.{control_end, template_asked}
 use Rattle.gtp_machine.proofs.Basics.Finishing.{quietly, on_session_begun, on_session_deleted, on_bearer_begun, on_bearer_deleted}
 use Rattle.gtp_machine.proofs.Basics.Finishing.{on_session_released, on_end_marked, on_echo_begun, on_packet_sent, on_packet_came, on_end_came}
 use Rattle.gtp_machine.proofs.Basics.Finishing.{on_error_came, on_user_step, on_finish, on_session_answered, on_bearer_answered, on_bearer_asked}
@@ -353,7 +353,7 @@ module _ (old : Node) where
         (record { user = x.adds.user; number = x.adds.number; user_free = x.adds.user_free; number_free = x.adds.number_free; gives = refl }))
         request _ room.few))
         (goes request (session_response old q r.control r.user r.address) (session_cause q.pdn r.address) r.control (made_session q r.address) made e
-        (template_for q.access_point old.config.templates) r.gives)
+        (template_asked old.config q.access_point) r.gives)
 
     create_session_asked : (request : Arrival) (q : CreateSessionRequest) (e : Effect) → CreateSessionAsked request q old e → IsSound Packet e.node
     create_session_asked request q e r =
@@ -431,7 +431,8 @@ module _ (role : Role) (Takes : Arrival → Message → Node → Effect → Type
       on_control old e (quiet role old sound e) request (λ r. by_row role e _ r.gives sound) (λ new.
       on_read old e (quiet role old sound e) role Takes request reading
       (λ m is taken. hears role (Takes request m) (λ node s. rows node s request m (subst (λ k. IsWellFormed (Control_came request k)) is whole)) old sound (recovery_of m) e)
-      (λ f is gives. by_row role e _ gives sound))
+      (λ f is gives. by_row role e _ gives sound)
+      (λ fault is tells gives. by_row role e _ gives sound))
 
 pub stays_sound : StaysSound
 stays_sound role old (Commanded c) e sound read r = command old role sound c read e r

@@ -26,7 +26,7 @@ use Rattle.gtp_machine.specs.Command.{NamesBearer, CommandStep}
 use Rattle.gtp_machine.specs.Answer.{IsNew, Faulted, TakesReading, ControlStep}
 use Rattle.gtp_machine.specs.MessageType.{answers_type}
 use Rattle.gtp_machine.specs.Serving.{CreateSessionAnswered, CreateBearerAsked, RemovesEach, DeleteBearerTaken, DeleteBearerAsked, ServingTakes}
-use Rattle.gtp_machine.specs.Config.{Template, template_for}
+use Rattle.gtp_machine.specs.Config.{Template, template_asked}
 use Rattle.gtp_machine.specs.Packet.{AnswersWith, CreateSessionAsked, CreateBearerAnswered, PacketTakes}
 use Rattle.gtp_machine.specs.Sound.{IsSound, CanMove, IsNotEmpty, AlwaysSteps}
 use Rattle.gtp_machine.proofs.Sound.Changes.{known_sound, is_session, is_bearer}
@@ -169,7 +169,7 @@ module _ (old : Node) where
       (λ configured. tries _ _ _ (gives _) (λ served. tries _ _ _ (gives _) (λ few. tries _ _ _ (gives _) (λ can none.
       let t = two_free old few.1.left in
       part_given q.pdn V4 (λ v4 v4_given. part_given q.pdn V6 (λ v6 v6_given.
-      answers_with (template_for q.access_point old.config.templates) request _ _ _ _ _ (λ e answer.
+      answers_with (template_asked old.config q.access_point) request _ _ _ _ _ (λ e answer.
       none e (record {
         control = t.0;
         user = t.1;

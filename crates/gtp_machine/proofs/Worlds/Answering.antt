@@ -5,7 +5,7 @@ use Rattle.std.proofs.lemmas.Bool.{not-true}
 use Rattle.gtp_values.proofs.Allocations.{address_back}
 use Rattle.gtp_values.specs.FiniteMap.{Among}
 use Rattle.std.specs.FinMap.{get, insert}
-use Rattle.gtp_machine.specs.Config.{Addresses, Config, template_for, user_end}
+use Rattle.gtp_machine.specs.Config.{Addresses, Config, template_asked, user_end}
 use Rattle.gtp_values.specs.declared.cause.Cause.{Cause}
 use Rattle.gtp_machine.specs.Element.{IsAccepting}
 use Rattle.gtp_machine.specs.Message.{CreateSessionRequest, CreateSessionResponse, CreateBearerRequest, CreateBearerResponse, Message}
@@ -577,7 +577,7 @@ module _ (request : Arrival) (q : CreateSessionRequest) (a : CreateSessionRespon
       (get-insert_other (insert old.bearers r.user (made_bearer q r.control)) x.adds.user (pending_dedicated r.control) r.user
       (λ same. x.adds.user_free.undrawn (inl (sym same))) ∙ bearer_stands)))
       (goes_out request (session_response old q r.control r.user r.address) (session_cause q.pdn r.address) r.control (made_session q r.address)
-      (session_made old q r.control r.user r.address) e (template_for q.access_point old.config.templates) r.gives)
+      (session_made old q r.control r.user r.address) e (template_asked old.config q.access_point) r.gives)
     where
       session_stands : get (insert old.sessions r.control (made_session q r.address)) r.control ≡ Some (made_session q r.address)
       session_stands = get-insert_same old.sessions r.control (made_session q r.address)

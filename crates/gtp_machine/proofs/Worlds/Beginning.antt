@@ -11,7 +11,7 @@ use Rattle.gtp_values.proofs.Allocations.{address_back}
 use Rattle.gtp_tables.specs.declared.pool.IpVersion.TheVariants.{V4 as Version_4, V6 as Version_6}
 use Rattle.gtp_tables.specs.Free.{address_at}
 use Rattle.gtp_tables.specs.Pool.{no_prefixes}
-use Rattle.gtp_machine.specs.Config.{Template, Config, template_for}
+use Rattle.gtp_machine.specs.Config.{Template, Config, template_for, no_switches}
 use Rattle.gtp_machine.specs.Element.{PdnAddress, cause_of, tunnel_end}
 use Rattle.gtp_machine.specs.Message.{Message, plane_of, CreateSessionRequest, CreateSessionResponse, Create_session_request, Create_session_response}
 use Rattle.gtp_machine.specs.Node.{Serving, Packet, Session, PendingRequest, Arrival, Node, fresh_node}
@@ -40,6 +40,7 @@ serving_config =
       own = record { control = serving_ip; user = serving_ip };
       peer = record { control = packet_ip; user = packet_ip };
       access_points = [];
+      switches = no_switches;
       pools = record { v4 = record { start = 0; count = 0 }; v6 = no_prefixes };
       templates = [];
     }
@@ -51,6 +52,7 @@ packet_config count =
       own = record { control = packet_ip; user = packet_ip };
       peer = record { control = serving_ip; user = serving_ip };
       access_points = (1 ∷ 97 ∷ []) ∷ [];
+      switches = no_switches;
       pools = record { v4 = record { start = 7; count = 1 }; v6 = record { start = replicate 16 0; count = count } };
       templates = [];
     }
@@ -224,7 +226,7 @@ module _ (pdn count : ℕ) (address : PdnAddress) where
       record { few = omega arith }
       ⨾ refl
       ⨾ record { low = omega arith; high = omega arith }
-      ⨾ inl refl
+      ⨾ refl
       ⨾ served (at_start count templates) pdn can
       ⨾ (record { few = no_sessions }, record { left = omega arith })
       ⨾ can

@@ -14,6 +14,7 @@ use Rattle.gtp_machine.specs.World.{marked_late, delivered_on, cut_on, restarted
 use Rattle.gtp_machine.specs.Tick.{TickStep, ticked}
 use Rattle.gtp_machine.specs.Laws.{EachNamedTeidWasDrawn}
 use Rattle.gtp_machine.specs.Safety.{EachOwed}
+use Rattle.gtp_machine.proofs.Basics.Versions.{cut_of_version}
 use Rattle.gtp_machine.proofs.Basics.FiniteMaps.{Each-empty, found-empty, among_at, Among-cases}
 use Rattle.gtp_machine.proofs.Basics.Datagrams.{IsSentWhole, EachFew, flat_grows, few_grows, sent_whole}
 use Rattle.gtp_machine.proofs.Basics.Kinds.{creates}
@@ -363,7 +364,7 @@ module _ (own : Addresses) where
   brings_carried w inv role input (Orders command) = tt
   brings_carried w inv role input (Sends m sent timely) = carried w inv role (plane_of m) m sent
   brings_carried w inv role input (Joins request) = inr (record { kind = 0; is = refl })
-  brings_carried w inv role input (Begins Control from datagram count) = tt
+  brings_carried w inv role input (Begins Control from datagram count) = cut_of_version datagram count
   brings_carried w inv role input (Begins User from datagram count) = tt
 
   brings_comes : (w : World) → Invariant own w → (input : Input) → Brings w Serving input → Comes w input

@@ -18,7 +18,7 @@ use gtp_values::Memory;
 use std::alloc::Global;
 
 /// The keys of a serving gateway by itself, in order.
-const SERVING_KEYS: [Key; 8] = [
+const SERVING_KEYS: [Key; 9] = [
     Key::Role,
     Key::ControlAddress,
     Key::UserAddress,
@@ -27,10 +27,11 @@ const SERVING_KEYS: [Key; 8] = [
     Key::T3Response,
     Key::N3Requests,
     Key::Hold,
+    Key::Switches,
 ];
 
 /// The keys of a packet gateway by itself, in order.
-const PACKET_KEYS: [Key; 14] = [
+const PACKET_KEYS: [Key; 15] = [
     Key::Role,
     Key::ControlAddress,
     Key::UserAddress,
@@ -45,6 +46,7 @@ const PACKET_KEYS: [Key; 14] = [
     Key::Pool6,
     Key::Count6,
     Key::Templates,
+    Key::Switches,
 ];
 
 /// The keys of its peer, in order.

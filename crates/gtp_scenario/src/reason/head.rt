@@ -26,7 +26,7 @@ const SCENARIO_KEYS: [Key; 6] = [
 ];
 
 /// The keys of the serving gateway, in order.
-const SERVING_KEYS: [Key; 3] = [Key::Control, Key::User, Key::Counter];
+const SERVING_KEYS: [Key; 4] = [Key::Control, Key::User, Key::Counter, Key::Switches];
 
 /// What is wrong with a head: one of these.
 #[derive(Debug, Drop)]

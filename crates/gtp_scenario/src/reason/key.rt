@@ -26,6 +26,7 @@ pub enum Key {
     Pool6,
     Count6,
     Templates,
+    Switches,
     Apn,
     Tft,
     Do,
@@ -75,6 +76,7 @@ impl Key {
             Key::Pool6 => "pool6",
             Key::Count6 => "count6",
             Key::Templates => "templates",
+            Key::Switches => "switches",
             Key::Apn => "apn",
             Key::Tft => "tft",
             Key::Do => "do",
@@ -114,6 +116,7 @@ impl Key {
             Key::DatagramOrAll => Wanted::NumberOrAll,
             Key::Serving | Key::Packet | Key::Peer => Wanted::Object,
             Key::Events | Key::Templates => Wanted::List,
+            Key::Switches => Wanted::Switches,
             Key::Do | Key::Expect => Wanted::Text,
             Key::Control | Key::User | Key::Pool => Wanted::Address,
             Key::Pool6 => Wanted::Address6,
@@ -147,7 +150,7 @@ impl Key {
     {
         match self {
             Key::T3Response | Key::N3Requests | Key::Hold | Key::Templates => true,
-            Key::Expect | Key::Times | Key::Pdn | Key::DatagramOrAll => true,
+            Key::Switches | Key::Expect | Key::Times | Key::Pdn | Key::DatagramOrAll => true,
             Key::Pool6 => !has(value, "count6"),
             Key::Count6 => !has(value, "pool6"),
             _ => false,

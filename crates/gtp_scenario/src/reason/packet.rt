@@ -16,7 +16,7 @@ use gtp_values::Memory;
 use std::alloc::Global;
 
 /// Its keys in a scenario, in order.
-pub(crate) const PACKET_KEYS: [Key; 9] = [
+pub(crate) const PACKET_KEYS: [Key; 10] = [
     Key::Control,
     Key::User,
     Key::Counter,
@@ -26,6 +26,7 @@ pub(crate) const PACKET_KEYS: [Key; 9] = [
     Key::Pool6,
     Key::Count6,
     Key::Templates,
+    Key::Switches,
 ];
 
 /// What is wrong with a packet gateway: one of these.

@@ -86,6 +86,9 @@ impl fmt::Display for Wanted {
             Wanted::AccessPoints => {
                 f.write_str("a list of at most 16 access point names is wanted")
             }
+            Wanted::Switches => f.write_str(
+                "a list of switches is wanted: \"network_identifiers\", \"version_not_supported\"",
+            ),
             Wanted::Imsi => f.write_str("6 to 15 digits are wanted"),
             Wanted::Teid => f.write_str("8 hexadecimal digits are wanted"),
             Wanted::Gateway => f.write_str("\"serving\" or \"packet\" is wanted"),

@@ -8,7 +8,7 @@ ghost use Rattle.gtp_scenario.specs.Trees.{view};
 
 use crate::event::role_of;
 use crate::fault::Fault;
-use crate::head::access_points_in;
+use crate::head::{access_points_in, switches_in};
 use crate::members::{as_list, as_text, is_object, whole_number, within};
 use crate::name::{bearer_name_of, session_name_of};
 use crate::text::{address_of, apn_of, imsi_of, ipv6_of, octets_of, teid_of};
@@ -40,6 +40,8 @@ pub enum Wanted {
     AccessPoint,
     /// A list of at most 16 access points.
     AccessPoints,
+    /// A list of switches, by their words.
+    Switches,
     Imsi,
     Teid,
     /// `serving` or `packet`.
@@ -94,6 +96,15 @@ fn are_access_points(alloc: Global, value: &Tree<'_, '_>) -> Result<bool, Memory
         Ok(_) => Ok(true),
         Err(Fault::Wrong) => Ok(false),
         Err(Fault::Memory) => Err(Memory),
+    }
+}
+
+fn are_switches(value: &Tree<'_, '_>) -> bool
+    ensures { result ≡ is_good Wanted.Switches (view value.now) }
+{
+    match as_list(value) {
+        Some(words) => switches_in(words).is_some(),
+        None => false,
     }
 }
 
@@ -153,6 +164,7 @@ impl Wanted {
             Wanted::NumberOrAll => Ok(is_number_or_all(value)),
             Wanted::Within(low, high) => Ok(is_within(value, low, high)),
             Wanted::AccessPoints => are_access_points(alloc, value),
+            Wanted::Switches => Ok(are_switches(value)),
             Wanted::Octets => are_octets(alloc, value),
             Wanted::Tft => is_tft(alloc, value),
             Wanted::Session => Ok(session_name_of(value).is_some()),

@@ -11,7 +11,7 @@ use Rattle.gtp_values.specs.FiniteMap.{FiniteMap, Each, Among}
 use Rattle.gtp_values.proofs.Outcomes.{none_some}
 use Rattle.gtp_tables.specs.Index.{names}
 use Rattle.gtp_machine.specs.MessageType.{answers_type}
-use Rattle.gtp_machine.specs.Config.{Template, Config, template_for}
+use Rattle.gtp_machine.specs.Config.{Template, Config, template_asked}
 use Rattle.gtp_machine.specs.Element.{PdnAddress}
 use Rattle.gtp_machine.specs.Message.{Echo, CreateSessionRequest, CreateSessionResponse, DeleteSessionRequest, DeleteSessionResponse}
 use Rattle.gtp_machine.specs.Message.{CreateBearerRequest, CreateBearerResponse, DeleteBearerRequest, DeleteBearerResponse, Message, Echo_request}
@@ -35,6 +35,7 @@ use Rattle.gtp_machine.specs.Command.{session_request, pending_session, pending_
 use Rattle.gtp_machine.specs.Command.{create_bearer_asked as node_asked, BeginsSession, ClosesSession, ReleasesSession, BeginsBearer, NamesBearer}
 use Rattle.gtp_machine.specs.Command.{ClosesBearer, SendsEcho, SendsPacket, CommandStep}
 use Rattle.gtp_machine.specs.Answer.{TakesReading, ControlStep}
+use Rattle.gtp_machine.proofs.Basics.Versions.{undecoded_leaves}
 use Rattle.gtp_machine.specs.Serving.{opened_session, opened_bearer, OpensSession, CreateSessionAnswered, DeleteSessionAnswered, granted_bearer}
 use Rattle.gtp_machine.specs.Serving.{MakesBearer, CreateBearerAsked, RemovesBearers, DeleteBearerTaken, DeleteBearerAsked, ServingTakes}
 use Rattle.gtp_machine.specs.Packet.{made_session, made_bearer, AnswersWith, MakesSession, CreateSessionAsked, DeleteSessionAsked, FitsCreateBearer}
@@ -450,7 +451,7 @@ module _ (old : Node) (p : IsPlaced old) where
 
     makes_session : (q : CreateSessionRequest) → Leaves (MakesSession request old q)
     makes_session q e r =
-        answers_with (template_for q.access_point old.config.templates) _ _ r.control _ _ (inr (inl refl))
+        answers_with (template_asked old.config q.access_point) _ _ r.control _ _ (inr (inl refl))
         (session_comes old r.control r.user (made_session q r.address) (made_bearer q r.control) r.control_free r.user_free refl p) e r.gives
 
     create_session_asked : (q : CreateSessionRequest) → Leaves (CreateSessionAsked request q old)
@@ -509,7 +510,7 @@ module _ (role : Role) (Takes : Arrival → Message → Node → Effect → Type
   reads : (reading : ControlReading) → Leaves (TakesReading role Takes reading request old)
   reads (Control_message m) e r = unless (says p) (λ taken. hears (Takes request m) (rows m) old p (recovery_of m)) e r
   reads (Faulty f) e r = subst (λ n. IsPlaced n) (sym (faulted_leaves (answers_type role f.kind) request f old e r)) p
-  reads (Control_fault fault) e r = says p e r
+  reads (Control_fault fault) e r = says (subst (λ n. IsPlaced n) (sym (undecoded_leaves fault request old)) p) e r
 
   control : (reading : ControlReading) → Leaves (ControlStep (TakesReading role Takes reading) request old)
   control reading = unless (says p) (λ peer e r. ⊎_elim (λ again. says p e again.gives) (λ new. reads reading e new.1) r)

@@ -4,7 +4,7 @@
 //!   send TEXT           sends a packet on all bearers      list      shows sessions and bearers
 //! The restart counter has to be one more at each start (TS 23.007 18); here it is a word of the command line.
 
-use gtp::{Ambr, Gateway, Outcome, Plane, Quality, Role, SessionRequest, Setup, State, Timers};
+use gtp::{Ambr, Gateway, Outcome, Plane, Quality, Role, SessionRequest, Setup, State, Switches, Timers};
 use std::error::Error;
 use std::io::{self, BufRead, ErrorKind};
 use std::net::{IpAddr, Ipv4Addr, Ipv6Addr, UdpSocket};
@@ -138,6 +138,7 @@ fn run(role: Role, own: IpAddr, peer: IpAddr, counter: u8) -> Result<(), Box<dyn
         pool: (Ipv4Addr::new(10, 1, 0, 1), 1000),
         pool6: (Ipv6Addr::UNSPECIFIED, 0),
         templates: &[],
+        switches: Switches::default(),
     };
     let (mut gateway, mut room) = (Gateway::new(&setup)?, vec![0; 65_536]);
     let (sockets, commands) = (Sockets::open(own)?, lines());

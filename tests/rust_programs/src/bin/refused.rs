@@ -1,15 +1,15 @@
-//! Each allocation of the library in a run of two gateways, and in each call that writes through memory, is refused in turn: the
-//! call says so, and the same call once more goes on; or the call asks again, where it only wanted room in advance. All answers are
+//! Each allocation of the library in a run of two gateways and a node, and in each call that writes through memory, is refused in turn:
+//! the call says so, and the same call once more goes on; or the call asks again, where it only wanted room in advance. All answers are
 //! those of a run in which none is refused. build.rs links it with --wrap=malloc,--wrap=realloc. Prints how many there were.
 
 use gtp::{
-    write_user, write_value, Ambr, Cause, CommandError, Error, FTeid, Gateway, Outcome, Paa, Quality, Role, SessionRequest,
-    Setup, Template, Timers, UserHeader, UserMessage, Value, WriteError,
+    write_user, write_value, Addresses, Ambr, Cause, CommandError, Error, FTeid, Gateway, Node, Outcome, Paa, Plane, Quality,
+    Role, SessionRequest, Setup, Switches, Template, Timers, UserHeader, UserMessage, Value, WriteError,
 };
 use std::alloc::{GlobalAlloc, Layout, System};
 use std::ffi::c_void;
 use std::fmt::Debug;
-use std::net::{Ipv4Addr, Ipv6Addr};
+use std::net::{Ipv4Addr, Ipv6Addr, SocketAddr};
 use std::ptr;
 use std::sync::atomic::{AtomicUsize, Ordering::Relaxed};
 
@@ -103,28 +103,49 @@ const TFT: &[u8] = &[0x21, 0x10, 0];
 /// A session of this access point gets a second bearer in the same datagram.
 const TEMPLATES: &[Template<'_>] = &[Template { access_point: "ims", quality: QUALITY, tft: TFT }];
 
-fn gateway(role: Role) -> Gateway {
+fn setup_of(role: Role) -> Setup<'static> {
     let (own, peer, templates) = match role {
         Role::Serving => (SERVING, PACKET, &[][..]),
         Role::Packet => (PACKET, SERVING, TEMPLATES),
     };
-    let setup = Setup {
+    Setup {
         role,
-        own: gtp::Addresses { control: own.into(), user: own.into() },
-        peer: gtp::Addresses { control: peer.into(), user: peer.into() },
+        own: Addresses { control: own.into(), user: own.into() },
+        peer: Addresses { control: peer.into(), user: peer.into() },
         counter: 1,
         timers: Timers { t3: 3, n3: 3, hold: 60 },
         access_points: &["internet", "ims"],
         pool: (Ipv4Addr::new(10, 1, 0, 1), 1000),
         pool6: (Ipv6Addr::new(0x2001, 0xdb8, 0, 0, 0, 0, 0, 1), 1000),
         templates,
-    };
-    twice(Error::NoMemory, || Gateway::new(&setup))
+        switches: Switches::default(),
+    }
+}
+
+fn gateway(role: Role) -> Gateway {
+    twice(Error::NoMemory, || Gateway::new(&setup_of(role)))
+}
+
+/// Peers, of which one has the control address of an earlier one, and what an Echo Request of each comes to.
+fn node() -> Vec<String> {
+    let mut node = Node::new();
+    let mut answers = Vec::new();
+    for last in [1, 3, 1, 5] {
+        let peer = Addresses { control: Ipv4Addr::new(192, 0, 2, last).into(), user: PACKET.into() };
+        let place = twice(Error::NoMemory, || node.add(&Setup { peer, ..setup_of(Role::Packet) }));
+        answers.push(format!("{place} of {}", node.len()));
+    }
+    for last in 1..=5 {
+        let source = SocketAddr::new(Ipv4Addr::new(192, 0, 2, last).into(), 2123);
+        let echo = [0x40, 1, 0, 9, 0, 0, 1, 0, 3, 0, 1, 0, 1];
+        answers.push(format!("{:?}", twice(Error::NoMemory, || node.receive(source, Plane::Control, &echo))));
+    }
+    answers
 }
 
 /// What the calls answered in a run with all commands.
 fn run() -> Vec<String> {
-    let mut answers = Vec::new();
+    let mut answers = node();
     let (mut serving, mut packet) = (gateway(Role::Serving), gateway(Role::Packet));
     let lack = CommandError::NoMemory;
     for (access_point, pdn) in [("internet", 3), ("ims", 1)] {

@@ -1,7 +1,6 @@
 //! What a Create Session Request comes to.
 
 ghost use Rattle.std.specs.Prelude.{◌≡◌, ◌↔◌, IsTrue};
-ghost use Rattle.gtp_values.specs.FiniteMap.{Among};
 ghost use Rattle.gtp_gateway.specs.receive.CreateSessionRequest.{refused_with, JudgesAdded, JudgesRoom, JudgesCreateSession, CanGrant};
 ghost use Rattle.gtp_machine.specs.Choice.{asked_by, IsServed};
 ghost use Rattle.gtp_gateway.specs.Parts.{node_of};
@@ -78,14 +77,6 @@ fn asked_by(pdn: PdnType) -> Asked
 }
 
 impl Parts {
-    /// Whether the access point is configured.
-    fn serves(&self, access_point: &Apn) -> bool
-        ensures { IsTrue result
-            ↔ Among access_point.now (node_of self.now).config.access_points }
-    {
-        self.config.access_points().contains(access_point)
-    }
-
     /// Whether sessions of this PDN type are served: those of IPv6 alone where there are addresses for
     /// them.
     fn serves_type(&self, pdn: PdnType) -> bool
@@ -178,12 +169,12 @@ impl Parts {
             let cause = fault_cause(causes::MANDATORY_IE_INCORRECT, kinds::EBI, Below::new(0));
             return CreateSessionVerdict::Refused(cause);
         };
-        if !self.serves(&request.access_point) {
+        let Some(access_point) = self.config.access_point_for(&request.access_point) else {
             return refused(causes::MISSING_OR_UNKNOWN_APN);
-        }
+        };
         if !self.serves_type(request.pdn) {
             return refused(causes::PREFERRED_PDN_TYPE_NOT_SUPPORTED);
         }
-        self.judge_room(identity, request.pdn, &request.access_point, heard)
+        self.judge_room(identity, request.pdn, &access_point, heard)
     }
 }

@@ -3,23 +3,20 @@ use Rattle.std.proofs.Common.{◌≡◌, List, [], ◌∷◌, ◌++◌, refl, sy
 use Rattle.std.proofs.raw_atomic.Walks.{proved_at, leaves}
 use Rattle.std.proofs.alloc.Calls.{Al, handle_tells}
 use mir.Syntax.{impl, tnil, dnil}
-use mir.Raw.{raw as bare}
 use mir.Val.{Val, vptr, vstruct, vcons, vnil}
-use base.Logic.{SProp, ent, emp, id⊢, fst∗, never}
+use base.Logic.{SProp, ent, emp, id⊢}
 use base.Fml.{ftrue}
 use prog.Wp.{WpFn}
 use contract.Monad.{fact, fact_i}
 use contract.Running.{tables}
-use types.Logic.{sem}
-use types.Kit.{‵, raw, ◌⊛◌, ◌$◌, ◌∵◌, !, qed, by, move, keep, drop, use0, split, fsplit, fjoin, fpick, rewrite, suffices}
+use types.Kit.{‵, raw, ◌⊛◌, ◌$◌, ◌∵◌, !, qed, by, move, keep, drop, use0, split, fsplit, fjoin, suffices}
 use types.Part.{whole, sub, agg}
 use types.Run.{enter, of_opd, stop, fld, no_more, and_then, returns}
 use types.ByLocal.{alloc_all, pass_all, free_all, look_at, get, get_in, sets}
 use denote.Exit.{yes}
 use denote.Laws.{shows}
-use denote.Memory.{lone}
 use denote.RattleType.{owns}
-use denote.RawPtr.{Ptr, block_ptr, null_ptr, in_a_block}
+use denote.RawPtr.{Ptr, block_ptr}
 use denote.Signature.{plain, types_at}
 use denote.Steps.{nothing, heard, peeks}
 use denote.Triple.Walked.{Stays, walk_of, stay_dropped, Goes-dropped}
@@ -32,9 +29,8 @@ use Rattle.gtp_c.proofs.owned_pointer.OwnedPointer.detach.Code as code
 use Rattle.gtp_c.specs.contracts.owned_pointer.OwnedPointer.{the_row as B}
 use Rattle.gtp_c.specs.contracts.gateway_with_queue.GatewayWithQueue.{the_row as R}
 use Rattle.gtp_c.proofs.owned_pointer.OwnedPointer.TheLaws.{lowers}
-use Rattle.gtp_c.specs.Held.{held, boxed}
-use Rattle.std.specs.Prelude.{Option, IsSome, Some}
-use Rattle.gtp_c.proofs.Shapes.{both, loose_good, loose_in, full}
+use Rattle.std.specs.Prelude.{IsSome, Some}
+use Rattle.gtp_c.proofs.Shapes.{both, full, held_out, loose_good, loose_in}
 
 abbrev stayed : Stays f.ended.signature.params f.ended.kept
 stayed = (stay_dropped (plain (λ _. B)) yes, (stay_dropped (plain (λ _. Z)) yes, tt))
@@ -52,8 +48,7 @@ detach_spec 𝓤 𝓛 𝓜 𝓡 wired =
     qed 𝓛 ((‵ ftrue ⊛ ‵ (owns (types_at f.ended.signature.params z.0.0) z.0.3 z.0.4)) ∷ raw (fact 𝓤 (IsSome h.value)) ∷ []) ∵ move ! (1 ∷ []) $ heard
     ! (IsSome h.value) (λ some. let x = (full R h.value some).0 in let ex = (full R h.value some).1 in split ! $ move ! (1 ∷ []) $ fsplit ! $
     -- [the place; the allocator, in two entries; the tokens]
-    peeks ! B _ (shows 𝓛 B) h us (λ is. fsplit ! $ drop ! $ rewrite ! 0 (λ (v : Option R.Denot). ‵ (held h.at v)) ex refl $
-    fpick ! (λ g. in_a_block ! h.at (λ p. boxed p x g) (fst∗ 𝓤 (never 𝓤) (sem 𝓛 (ghosts.dealloc_token g (bare (lone R.mir)) null_ptr))) (λ b o e.
+    peeks ! B _ (shows 𝓛 B) h us (λ is. fsplit ! $ drop ! $ held_out R ! h.at h.value x ex (λ g b o e.
     move ! (1 ∷ []) $ fsplit ! $ handle_tells al ! a vs (λ hv ea fits.
     -- [the allocator; nothing; the box; the tokens]
     let w : Val = vstruct (vcons (vptr b o) vnil) in
@@ -68,4 +63,4 @@ detach_spec 𝓤 𝓛 𝓜 𝓡 wired =
     use0 𝓛 (raw (fact 𝓤 (Some x ≡ h.value))) (fact_i 𝓤 (Some x ≡ h.value) (emp 𝓤) (sym ex)) $ nothing ! $ nothing ! $ fjoin ! $ nothing ! $ fjoin ! $
     -- [what is left of the parameters; the fact; the `DetachedBox`; nothing; the tokens; nothing]
     returns ! (look_at ! 0 refl) $ free_all ! refl $ keep ! (4 ∷ 0 ∷ 2 ∷ 1 ∷ []) $
-    by ! (leaves 𝓛 f.ended stayed c z (both (vptr b o) hv) (record { at = block_ptr b o; alloc = a; value = x }) (tt, (tt, tt)) (tt, (tt, tt))))))))))
+    by ! (leaves 𝓛 f.ended stayed c z (both (vptr b o) hv) (record { at = block_ptr b o; alloc = a; value = x }) (tt, (tt, tt)) (tt, (tt, tt)))))))))

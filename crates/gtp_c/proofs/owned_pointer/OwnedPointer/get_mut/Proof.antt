@@ -7,11 +7,11 @@ use mir.Syntax.{named}
 use mir.Raw.{raw as bare}
 use mir.Val.{Val, vptr}
 use base.Fraction.{full_share}
-use base.Logic.{ent, sep, fst∗, never}
+use base.Logic.{ent, sep}
 use base.Fml.{Fml, GName, ftrue, fsep, flft}
 use contract.Running.{tables}
 use types.Logic.{Logic, sem}
-use types.Kit.{‵, raw, ◌⊛◌, some, later, at_ret, ◌$◌, ◌∵◌, !, qed, by, move, keep, drop, use1, split, join, fsplit, fsplit3, fjoin, fpick, fpack, pick, await, rewrite, suffices, frame, group, done}
+use types.Kit.{‵, raw, ◌⊛◌, some, later, at_ret, ◌$◌, ◌∵◌, !, qed, by, move, keep, drop, use1, split, join, fsplit, fsplit3, fjoin, fpack, pick, await, rewrite, suffices, frame, group, done}
 use types.Part.{whole, sub, look_in}
 use types.Run.{enter, of_opd, addr, load, stop, fld, first, blocks, exec, returns}
 use types.ByLocal.{alloc_all, pass_all, free_all, look_at, get, through, sets, sets_last, env}
@@ -19,14 +19,14 @@ use denote.Exit.{no}
 use denote.Follow.{Part, lends_Part}
 use denote.Laws.{shows}
 use denote.Memory.{cell_at, part_at, part_of, mem, lone}
-use denote.RawPtr.{Ptr, block_ptr, null_ptr, in_a_block}
+use denote.RawPtr.{Ptr, block_ptr}
 use denote.Ref.{MutRef, mut_vals, mut_Tells}
 use denote.Signature.{plain, mut_ref_to}
 use denote.Steps.{nothing, heard, opens, peeks}
 use contract.Monad.{fact}
-use Rattle.std.specs.Prelude.{Option, IsSome}
-use Rattle.gtp_c.specs.Held.{held, boxed}
-use Rattle.gtp_c.proofs.Shapes.{full}
+use Rattle.std.specs.Prelude.{IsSome}
+use Rattle.gtp_c.specs.Held.{boxed}
+use Rattle.gtp_c.proofs.Shapes.{full, held_out}
 use denote.Struct.Owning.{shape}
 use denote.Struct.Struct.{Struct}
 use denote.Triple.Walked.{Stays, walk_of, says, stay_dropped, Goes-spent_ref, ends_at}
@@ -53,7 +53,7 @@ module _ {M : Type 1} {𝓤 : Ura M} (𝓛 : Logic 𝓤) (h : OwnedPointer) (us 
   unfolding part_of
   back w =
       qed 𝓛 (‵ (part_at R full_share w b' o') ∷ ‵ (Rest h us g b o b' o') ∷ []) ∵ move ! (1 ∷ []) $ fsplit ! $ fsplit ! $ move ! (3 ∷ 0 ∷ []) $
-      fjoin ! $ rewrite ! 0 (λ (p : Ptr). ‵ (boxed p w g)) (sym e) refl $ fpack ! Global (boxed h.at w) g $ move ! (1 ∷ 0 ∷ []) $ fjoin ! $ move ! (1 ∷ 0 ∷ []) $ fjoin ! $
+      fjoin ! $ rewrite ! 0 (λ (p : Ptr). ‵ (boxed R p w g)) (sym e) refl $ fpack ! Global (boxed R h.at w) g $ move ! (1 ∷ 0 ∷ []) $ fjoin ! $ move ! (1 ∷ 0 ∷ []) $ fjoin ! $
       fpack ! (List Val) (λ vs. fsep (cell_at full_share B.mir vs b o) (B.own_val (with_value h w) vs)) us $ done !
 
 pub get_mut_spec : {M : Type 1} → statement M
@@ -69,8 +69,7 @@ get_mut_spec 𝓤 𝓛 𝓜 𝓡 wired =
     split ! $ move ! (2 ∷ []) $ split ! $ keep ! (0 ∷ 2 ∷ []) $
     enter ! _ _ _ _ _ $ alloc_all ! (λ l. pass_all ! refl ((tt, tt), tt) $
     fsplit3 ! $ drop ! $ opens ! tt B b o (λ us.
-    move ! (1 ∷ []) $ peeks ! B _ (shows 𝓛 B) h us (λ is. fsplit ! $ move ! (1 ∷ []) $ rewrite ! 0 (λ (v : Option R.Denot). ‵ (held h.at v)) same refl $
-    fpick ! (λ g. in_a_block ! h.at (λ p. boxed p x g) (fst∗ 𝓤 (never 𝓤) (sem 𝓛 (ghosts.dealloc_token g (bare (lone R.mir)) null_ptr))) (λ b' o' e. fsplit ! $
+    move ! (1 ∷ []) $ peeks ! B _ (shows 𝓛 B) h us (λ is. fsplit ! $ move ! (1 ∷ []) $ held_out R ! h.at h.value x same (λ g b' o' e. fsplit ! $
     -- [the value; the right to free it; what the fields own; the handle's cell; the open borrow, in three entries]
     let word = lowers.val_is h us is ∙ ap (λ (p : Ptr). lowers.lowered (record h { at = p }) ∷ []) e in
     let Cell = λ (ws : List Val). ‵ (cell_at full_share B.mir ws b o) in
@@ -88,4 +87,4 @@ get_mut_spec 𝓤 𝓛 𝓜 𝓡 wired =
     returns ! (look_at ! 0 refl) $ free_all ! refl $ keep ! (0 ∷ []) $
     by ! (qed 𝓛 (‵ ((MutRef (named 0) κ R).own_val (record { ref_ptr = (b', o'); ghost_name = δ; now = x }) (vptr b' o' ∷ [])) ∷ ‵ (flft κ q) ∷ ‵ (denote.Follow.follows B R γ δ (with_value h)) ∷ []) ∵
     suffices ! _ (ends_at 𝓛 f.ended stayed c y (vptr b' o') (record { ref_ptr = (b', o'); ghost_name = δ; now = x }) (tt, tt) (tt, tt)) $
-    nothing ! $ nothing ! $ fjoin ! $ join ! $ nothing ! $ move ! (2 ∷ 0 ∷ []) $ join ! $ join ! $ frame ! $ says ! (sym same) $ done !)))))))))
+    nothing ! $ nothing ! $ fjoin ! $ join ! $ nothing ! $ move ! (2 ∷ 0 ∷ []) $ join ! $ join ! $ frame ! $ says ! (sym same) $ done !))))))))

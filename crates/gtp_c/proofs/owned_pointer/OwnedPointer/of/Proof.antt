@@ -54,7 +54,7 @@ of_spec 𝓤 𝓛 𝓜 𝓡 wired =
     sets ! (of_opd ! (get_in ! (fld ! refl (stop !)) (sub ! 0 refl (whole !)))) refl (tt, tt) $
     sets ! (of_opd ! (get ! refl)) refl (tt, tt) $
     sets ! (agg ! (and_then ! (get ! refl) (no_more !))) refl (tt, (tt, tt)) $
-    fpack ! Global (boxed (block_ptr b o) l.value) l.alloc $ nothing ! $ feq_i ! (List Val) (v ∷ []) (v ∷ []) refl $ fjoin ! $ feq_i ! (List Val) (w ∷ []) (w ∷ []) refl $ fjoin ! $
+    fpack ! Global (boxed R (block_ptr b o) l.value) l.alloc $ nothing ! $ feq_i ! (List Val) (v ∷ []) (v ∷ []) refl $ fjoin ! $ feq_i ! (List Val) (w ∷ []) (w ∷ []) refl $ fjoin ! $
     fpack ! (Valss (RawPtr ∷ [])) (within (shape the_place) (block_ptr b o, tt) (w ∷ [])) (v ∷ [], tt) $ fjoin ! $
     use0 𝓛 (raw (fact 𝓤 (Some l.value ≡ Some l.value))) (fact_i 𝓤 (Some l.value ≡ Some l.value) (emp 𝓤) refl) $ nothing ! $ nothing ! $ fjoin ! $
     -- [what is left of the parameter; the fact; the place; nothing; the tokens; nothing]

@@ -1,7 +1,7 @@
 use Rattle.std.proofs.Common.{◌≡◌, ◌<◌, ◌≤◌, ℕ, List, length, refl, ◌∙◌, ap, subst, arith, rules}
 use Rattle.gtp_values.specs.FiniteMap.{Among}
 use Rattle.gtp_gateway.specs.declared.config.access_points.Template.{Template}
-use Rattle.gtp_gateway.specs.Settings.{Settings, IsPlaceOf, settings_of, template_of, with_template}
+use Rattle.gtp_gateway.specs.Settings.{Settings, IsPlaceOf, settings_of, switched, template_of, with_template}
 use Rattle.gtp_gateway.proofs.Templates.{place_within, place_among, put_in_order}
 use Rattle.gtp_gateway.proofs.config.Config.with_template.Goals as goal
 
@@ -52,6 +52,6 @@ returns-clause-value c =
     let at = subst (λ (ps : List (List ℕ)). IsPlaceOf name ps place) c.as_slice.ensures.value c.in-Some.ensures.some in
     let t : Template = record { tft = c.args.tft.now; qos = c.args.qos.now } in
     let small : place < length places = (let few = few_places place (length points) (place_within name points place at) c.self.invariant.few in omega (arith, few, all)) in
-    let s = settings_of c.self.inside.own c.self.inside.peer points c.self.inside.pools c.self.inside.timers in
+    let s = switched c.self.inside.switches (settings_of c.self.inside.own c.self.inside.peer points c.self.inside.pools c.self.inside.timers) in
     (λ i. record s { config = record s.config { templates = put_in_order name points places place t at small i } })
     ∙ ap (with_template (template_of name t)) c.self.view_is
